@@ -1,0 +1,76 @@
+-- The codes of each set that the rules make, for all codes together.
+use mathlib.Core.Path.{_≡_, refl}
+use mathlib.Core.Bool.{true, _&&_, _||_, or-true}
+use mathlib.Core.Logic.{_⊎_, inl, inr}
+use Prim.Native.Nat.{ℕ, zero, suc, _≤_, max}
+use native.Mathlib.Nat.{max-eq-left, max-eq-right}
+use native.Mathlib.Decide.{decLe}
+use native.Mathlib.Omega.{arith}
+use lib.Dec.{eqb, eqb→eq, eqb-refl}
+use Rattle.codes.specs.Codes.{Codes, only, union, given, withoutEnded, upTo, larger, catchCode, caught}
+use Rattle.codes.proofs.Bools.{both, left, right, either, inl-true, inr-true, toT, fromT}
+
+pub only-in : (k : ℕ) → only k k ≡ true
+only-in k = fromT (eqb k k) (eqb-refl k)
+
+pub only-out : (c k : ℕ) → only c k ≡ true → c ≡ k
+only-out c k e = eqb→eq c k (toT (eqb c k) e)
+
+pub upTo-in : (a : Codes) (k l : ℕ) → k ≤ l → a k ≡ true → upTo a l ≡ true
+upTo-in a k zero h e = let z : k ≡ 0 = omega arith in rw z at e
+upTo-in a k (suc l) h e = go (λ j. upTo-in a k l j e) (decLe k l)
+  where
+    go : (k ≤ l → upTo a l ≡ true) → Dec (k ≤ l) → (a (suc l) || upTo a l) ≡ true
+    go ih (yes j) = inr-true (a (suc l)) (upTo a l) (ih j)
+    go ih (no j) = let z : k ≡ suc l = omega arith in inl-true (a (suc l)) (upTo a l) (rw z at e)
+
+pub upTo-out : (a : Codes) (l : ℕ) → upTo a l ≡ true → (k : ℕ) × (k ≤ l) × (a k ≡ true)
+upTo-out a zero e = (0, omega arith, e)
+upTo-out a (suc l) e = go (either (a (suc l)) (upTo a l) e) (upTo-out a l)
+  where
+    go : (a (suc l) ≡ true) ⊎ (upTo a l ≡ true) → (upTo a l ≡ true → (k : ℕ) × (k ≤ l) × (a k ≡ true)) → (k : ℕ) × (k ≤ suc l) × (a k ≡ true)
+    go (inl f) ih = (suc l, omega arith, f)
+    go (inr f) ih = (ih f .0, omega (arith, ih f .1), ih f .2)
+
+module _ (a b : Codes) where
+  -- `larger` has every larger one of a code of a and a code of b, and nothing else
+  pub larger-in : (k l : ℕ) → a k ≡ true → b l ≡ true → larger a b (max k l) ≡ true
+  larger-in k l e f = go (decLe k l)
+    where
+      go : Dec (k ≤ l) → larger a b (max k l) ≡ true
+      go (yes h) = rw max-eq-right (simp (f, upTo-in a k l h e, or-true))
+      go (no h) = let j : l ≤ k = omega arith in rw max-eq-left (simp (e, upTo-in b l k j f))
+
+  pub larger-out : (k : ℕ) → larger a b k ≡ true → (i j : ℕ) × (a i ≡ true) × (b j ≡ true) × (max i j ≡ k)
+  larger-out k e = go (either (a k && upTo b k) (upTo a k && b k) e)
+    where
+      go : ((a k && upTo b k) ≡ true) ⊎ ((upTo a k && b k) ≡ true) → (i j : ℕ) × (a i ≡ true) × (b j ≡ true) × (max i j ≡ k)
+      go (inl f) =
+          let (j, le, g) = upTo-out b k (right (a k) f) in
+          (k, j, left (a k) (upTo b k) f, g, max-eq-left le)
+      go (inr f) =
+          let (i, le, g) = upTo-out a k (left (upTo a k) (b k) f) in
+          (i, k, g, right (upTo a k) f, max-eq-right le)
+
+  -- the codes of a sequence: the first's other than 0, and the second's where the first's has 0
+  pub sequence-first : (k : ℕ) → a (suc k) ≡ true → union (withoutEnded a) (given (a 0) b) (suc k) ≡ true
+  sequence-first k e = inl-true (a (suc k)) (a 0 && b (suc k)) e
+
+  pub sequence-second : (l : ℕ) → a 0 ≡ true → b l ≡ true → union (withoutEnded a) (given (a 0) b) l ≡ true
+  sequence-second l e f = inr-true (withoutEnded a l) (a 0 && b l) (both e f)
+
+-- `caught` has what a trap makes of each code, and nothing else
+pub caught-in : (a : Codes) (k : ℕ) → a k ≡ true → caught a (catchCode k) ≡ true
+caught-in a zero e = inl-true (a 0) (a 2) e
+caught-in a (suc zero) e = e
+caught-in a (suc (suc zero)) e = inr-true (a 0) (a 2) e
+caught-in a (suc (suc (suc k))) e = e
+
+pub caught-out : (a : Codes) (k : ℕ) → caught a k ≡ true → (j : ℕ) × (a j ≡ true) × (catchCode j ≡ k)
+caught-out a zero e = go (either (a 0) (a 2) e)
+  where
+    go : (a 0 ≡ true) ⊎ (a 2 ≡ true) → (j : ℕ) × (a j ≡ true) × (catchCode j ≡ 0)
+    go (inl f) = (0, f, refl)
+    go (inr f) = (2, f, refl)
+caught-out a (suc zero) e = (1, e, refl)
+caught-out a (suc (suc k)) e = (suc (suc (suc k)), e, refl)

@@ -1,0 +1,171 @@
+-- What the machine computes for each operation is the number of the specification's set.
+use mathlib.Core.Path.{_≡_, refl, sym, ap₂, _∙_}
+use mathlib.Core.Bool.{Bool, true, false, not, _&&_, _||_, and-true, and-false, or-false}
+use mathlib.Core.Logic.{⊎-elim}
+use Prim.Native.Nat.{ℕ, zero, suc, _+_, _-_, _*_, _/_, _%_, _^_, _<_, max}
+use native.Mathlib.Nat.{mod-lt, one-mul, lt-of-le-of-lt}
+use native.Mathlib.Omega.{arith}
+use borrow.Author.Tests.{leb-true, ltb-true, le-leb, lt-ltb, le-ltb, ne-eqb}
+use lib.Dec.{lit<, eqb, leb, ltb, leb·zero, leb·suc-suc, eqb·zero-suc}
+use lib.Pow.{pow-pos, shr-le}
+use lib.Bits.{bitAnd, bitOr, or-lt, and-le-r, and-self}
+use lib.Count.{trailingZeros, leadingZeros}
+use Rattle.codes.specs.Codes.{Codes, withoutEnded, upTo, larger, caught, meets, underTrap, underParallel}
+use Rattle.codes.specs.Words.{_∋_, setOf, singletonOf, unionOf, withoutEndedOf, meetsOf, lowestOf, highestOf, parallelOf, caughtOf, underTrapOf, underParallelOf, spanOf}
+use Rattle.codes.specs.declared.Found.the-variants.{Code}
+use Rattle.codes.proofs.Bools.{both, left, right, either, inl-true, inr-true, same-test}
+use Rattle.codes.proofs.Members.{larger-in, larger-out}
+use Rattle.codes.proofs.Bits.{∋-none, ∋-and, ∋-or, ∋-shr, ∋-shl-mod, ∋-pow, ∋-ones, ∋-from, ∋-mod}
+use Rattle.codes.proofs.WordBits.{word-lt, ∋-word, is-word, word-empty}
+use Rattle.codes.proofs.Ends.{Lowest, Highest, trailing-lowest, trailing-lt, leading-highest, least-found, greatest-found, upTo-same, upTo-none, some-code}
+
+and-fits : (a b : ℕ) → b < 2 ^ 64 → bitAnd a b < 2 ^ 64
+and-fits a b h = lt-of-le-of-lt (and-le-r a b) h
+
+mod-fits : (n : ℕ) → n % 2 ^ 64 < 2 ^ 64
+mod-fits n = mod-lt n (pow-pos 64)
+
+-- ---- `singleton`, `union`, `without_ended`, `span`, `meets`
+
+pub singleton-is : (c : ℕ) → (1 * 2 ^ c) % 2 ^ 64 ≡ singletonOf c
+unfolding singletonOf
+singleton-is c = is-word _ _ (mod-fits (1 * 2 ^ c)) (λ k h. ∋-mod (1 * 2 ^ c) 64 k h ∙ rw one-mul (∋-pow c k))
+
+pub union-is : (a b : ℕ) → a < 2 ^ 64 → b < 2 ^ 64 → bitOr a b ≡ unionOf a b
+unfolding unionOf
+union-is a b ha hb = is-word _ _ (or-lt 64 a b ha hb) (λ k h. ∋-or a b k)
+
+pub without-ended-is : (a : ℕ) → bitAnd a (2 ^ 64 - 1 - 1) ≡ withoutEndedOf a
+unfolding withoutEndedOf
+without-ended-is a = is-word _ _ (and-fits a _ (lit< tt)) (λ k h. ∋-and a (2 ^ 64 - 1 - 1) k ∙ rw (∋-from 63 1 k h) (at k))
+  where
+    at : (k : ℕ) → (a ∋ k && leb 1 k) ≡ withoutEnded (setOf a) k
+    at zero = and-false (a ∋ 0)
+    at (suc k) = rw (leb·suc-suc, leb·zero) (and-true (a ∋ suc k))
+
+pub span-is : (low high : ℕ) → high < 64 → bitAnd (((2 ^ 64 - 1) * 2 ^ low) % 2 ^ 64) ((2 ^ 64 - 1) / 2 ^ (63 - high)) ≡ spanOf low high
+unfolding spanOf
+span-is low high hh =
+    is-word _ _ (and-fits (((2 ^ 64 - 1) * 2 ^ low) % 2 ^ 64) _ (lt-of-le-of-lt (shr-le (2 ^ 64 - 1) (63 - high)) (lit< tt)))
+    (λ k h. simp (∋-and, ∋-mod ((2 ^ 64 - 1) * 2 ^ low) 64 k h, ∋-from 64 low k (omega arith), ∋-shr, ∋-ones 64 (63 - high + k), to k))
+  where
+    to : (k : ℕ) → ltb (63 - high + k) 64 ≡ leb k high
+    to k =
+        same-test (ltb (63 - high + k) 64) (leb k high) (λ e. le-leb k high (omega (arith, ltb-true (63 - high + k) 64 e)))
+        (λ e. lt-ltb (63 - high + k) 64 (omega (arith, leb-true k high e)))
+
+pub meets-is : (a b : ℕ) → b < 2 ^ 64 → not (eqb (bitAnd a b) 0) ≡ meetsOf a b
+unfolding meetsOf
+meets-is a b hb = some-code 63 (bitAnd a b) (and-fits a b hb) ∙ upTo-same (setOf (bitAnd a b)) (λ k. a ∋ k && b ∋ k) 63 (λ k h. ∋-and a b k)
+
+-- ---- `lowest`, `highest`
+
+pub lowest-is : (w : ℕ) → 0 < w → w < 2 ^ 64 → Code (trailingZeros 64 w) ≡ lowestOf w
+unfolding lowestOf
+lowest-is w p h = sym (least-found 64 0 (trailingZeros 64 w) (setOf w) (omega arith) (omega (arith, trailing-lt 64 w p h)) (trailing-lowest 64 w p h))
+
+pub highest-is : (w : ℕ) → 0 < w → w < 2 ^ 64 → Code (63 - leadingZeros 64 w) ≡ highestOf w
+unfolding highestOf
+highest-is w p h = sym (greatest-found 64 (63 - leadingZeros 64 w) (setOf w) (omega arith) (leading-highest 63 w p h .1))
+
+-- ---- `parallel`
+
+pub parallel-none-l : (b : ℕ) → 0 ≡ parallelOf 0 b
+unfolding parallelOf
+parallel-none-l b = sym (word-empty _ (λ k. rw (∋-none k, upTo-none (setOf 0) k ∋-none)))
+
+pub parallel-none-r : (a : ℕ) → 0 ≡ parallelOf a 0
+unfolding parallelOf
+parallel-none-r a = sym (word-empty _ (λ k. simp (∋-none k, upTo-none (setOf 0) k ∋-none, and-false)))
+
+-- the larger ones are the codes of either set between the larger ends
+module _ (a b : Codes) (la lb ha hb : ℕ) (lowA : Lowest a la) (lowB : Lowest b lb) (highA : Highest a ha) (highB : Highest b hb) (k : ℕ) where
+  abbrev between : Bool
+  between = leb (max la lb) k && leb k (max ha hb)
+
+  larger-between : ((a k || b k) && between) ≡ larger a b k
+  larger-between = same-test ((a k || b k) && between) (larger a b k) there back
+    where
+      there : ((a k || b k) && between) ≡ true → larger a b k ≡ true
+      there e =
+          let l = leb-true (max la lb) k (left (leb (max la lb) k) (leb k (max ha hb)) (right (a k || b k) e)) in
+          let p : max k lb ≡ k = omega arith in
+          let q : max la k ≡ k = omega arith in
+          ⊎-elim (λ f. rw p at (larger-in a b k lb f (lowB .is-in))) (λ f. rw q at (larger-in a b la k (lowA .is-in) f)) (either (a k) (b k) (left (a k || b k) between e))
+
+      back : larger a b k ≡ true → ((a k || b k) && between) ≡ true
+      back e =
+          let (i, j, ai, bj, m) = larger-out a b k e in
+          let l₁ = lowA .least i ai in
+          let l₂ = lowB .least j bj in
+          let h₁ = highA .most i ai in
+          let h₂ = highB .most j bj in
+          let one = ⊎-elim (λ f. inl-true (a k) (b k) (left (a k) (upTo b k) f)) (λ f. inr-true (a k) (b k) (right (upTo a k) f)) (either (a k && upTo b k) (upTo a k && b k) e) in
+          both one (both (le-leb (max la lb) k (omega arith)) (le-leb k (max ha hb) (omega arith)))
+
+pub parallel-is : (a b : ℕ) → 0 < a → 0 < b → a < 2 ^ 64 → b < 2 ^ 64
+    → bitAnd (bitOr a b) (spanOf (max (trailingZeros 64 a) (trailingZeros 64 b)) (max (63 - leadingZeros 64 a) (63 - leadingZeros 64 b))) ≡ parallelOf a b
+unfolding parallelOf spanOf
+parallel-is a b pa pb fa fb =
+    is-word _ _ (and-fits (bitOr a b) _ (word-lt _))
+    (λ k h. ∋-and (bitOr a b) _ k ∙ ap₂ _&&_ (∋-or a b k) (∋-word _ k h)
+    ∙ larger-between (setOf a) (setOf b) _ _ _ _ (trailing-lowest 64 a pa fa) (trailing-lowest 64 b pb fb) (leading-highest 63 a pa fa .1) (leading-highest 63 b pb fb .1) k)
+
+-- ---- `caught`, `under_trap`: shifts and masks, at each code
+
+by-masks : (a : Codes) (k : ℕ) → ((a k || a (2 + k)) && eqb 0 k || (a k && eqb 1 k) || (a (1 + k) && leb 2 k)) ≡ caught a k
+by-masks a zero = simp (and-true, and-false, or-false)
+by-masks a (suc zero) = simp (and-true, and-false, or-false)
+by-masks a (suc (suc k)) =
+    let n = suc (suc k) in
+    let e : 1 + n ≡ suc n = omega arith in
+    simp (eqb·zero-suc, ne-eqb 1 n (omega arith), le-leb 2 n (omega arith), e, and-true, and-false)
+
+pub caught-is : (a : ℕ) → bitOr (bitOr (bitAnd (bitOr a (a / 2 ^ 2)) 1) (bitAnd a 2)) (bitAnd (a / 2 ^ 1) (2 ^ 64 - 1 - 3)) ≡ caughtOf a
+unfolding caughtOf
+caught-is a =
+    is-word _ _ (or-lt 64 _ _ (or-lt 64 _ _ (and-fits (bitOr a (a / 2 ^ 2)) 1 (lit< tt)) (and-fits a 2 (lit< tt))) (and-fits (a / 2 ^ 1) (2 ^ 64 - 1 - 3) (lit< tt)))
+    (λ k h. simp (∋-or, ∋-and, ∋-shr a 2 k, ∋-shr a 1 k, ∋-pow 0 k, ∋-pow 1 k, ∋-from 62 2 k h) (by-masks (setOf a) k))
+
+by-shifts : (p : Codes) (k : ℕ) → (p k && ltb k 2 || (leb 2 k && (p (k - 2) && eqb 0 (k - 2))) || (leb 1 k && (p (k - 1) && leb 2 (k - 1)))) ≡ underTrap p k
+by-shifts p zero = simp (and-true, or-false)
+by-shifts p (suc zero) = simp (and-true, and-false, or-false)
+by-shifts p (suc (suc zero)) = simp (and-true, and-false, or-false)
+by-shifts p (suc (suc (suc k))) =
+    let n = suc (suc (suc k)) in
+    let e₂ : n - 2 ≡ suc k = omega arith in
+    let e₁ : n - 1 ≡ suc (suc k) = omega arith in
+    simp (le-ltb n 2 (omega arith), le-leb 2 n (omega arith), le-leb 1 n (omega arith), e₂, e₁, eqb·zero-suc, le-leb 2 (suc (suc k)) (omega arith), and-true, and-false)
+
+pub under-trap-is : (p : ℕ) → bitOr (bitOr (bitAnd p 3) ((bitAnd p 1 * 2 ^ 2) % 2 ^ 64)) ((bitAnd p (2 ^ 64 - 1 - 3) * 2 ^ 1) % 2 ^ 64) ≡ underTrapOf p
+unfolding underTrapOf
+under-trap-is p =
+    is-word _ _ (or-lt 64 _ _ (or-lt 64 _ _ (and-fits p 3 (lit< tt)) (mod-fits (bitAnd p 1 * 2 ^ 2))) (mod-fits (bitAnd p (2 ^ 64 - 1 - 3) * 2 ^ 1)))
+    (λ k h. simp (∋-or, ∋-and, ∋-shl-mod 64 (bitAnd p 1) 2 k h, ∋-shl-mod 64 (bitAnd p (2 ^ 64 - 1 - 3)) 1 k h, ∋-ones 2 k, ∋-pow 0 (k - 2), ∋-from 62 2 (k - 1) (omega arith)) (by-shifts (setOf p) k))
+
+-- ---- `under_parallel`
+
+pub under-parallel-none : (t : ℕ) → 0 ≡ underParallelOf t 0
+unfolding underParallelOf _∋_
+under-parallel-none t = sym (word-empty _ at)
+  where
+    at : (k : ℕ) → underParallel t (setOf 0) k ≡ false
+    at zero = refl
+    at (suc zero) = refl
+    at (suc (suc k)) = and-false (leb (suc k) t)
+
+pub under-parallel-is : (t p : ℕ) → 0 < p → p < 2 ^ 64 → bitOr (spanOf 2 (1 + t)) 1 ≡ underParallelOf t p
+unfolding underParallelOf spanOf meetsOf
+under-parallel-is t p pp fp =
+    is-word _ _ (or-lt 64 _ 1 (word-lt _) (lit< tt)) (λ k h. ∋-or _ 1 k ∙ ap₂ _||_ (∋-word _ k h) (∋-pow 0 k) ∙ at k)
+  where
+    some : meets (setOf p) (setOf p) ≡ true
+    some = sym (meets-is p p fp) ∙ rw (and-self, ne-eqb p 0 (omega arith))
+
+    at : (k : ℕ) → (leb 2 k && leb k (1 + t) || eqb 0 k) ≡ underParallel t (setOf p) k
+    at zero = sym some
+    at (suc zero) = refl
+    at (suc (suc k)) =
+        let n = suc (suc k) in
+        let e : 1 + t ≡ suc t = omega arith in
+        rw (some, le-leb 2 n (omega arith), e, leb·suc-suc (suc k) t, eqb·zero-suc) (or-false (leb (suc k) t) ∙ sym (and-true (leb (suc k) t)))

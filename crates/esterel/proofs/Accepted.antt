@@ -1,0 +1,119 @@
+-- What checks 10 and 11 say of an accepted program.
+use mathlib.Core.Path.{_≡_, refl, sym, ap, _∙_}
+use mathlib.Core.Bool.{Bool, true, false, not, cond}
+use mathlib.Core.Option.{Option, none, some}
+use mathlib.Core.List.{List, [], _∷_, _++_, map, map-append}
+use Prim.Native.Nat.{ℕ, zero, suc, _+_, _≤_, _<_}
+use native.Mathlib.Omega.{arith}
+use lib.Dec.{T, leb, nleb→lt}
+use lib.ListN.{getD, List·getD-map}
+use Rattle.esterel.specs.Statement.{Leaf, nothing, pause, emit, exit, Unary, loop, Binary, Stmt, leaf, one, two, nodes, trapsUnder}
+use Rattle.esterel.specs.Codes.{Codes, empty}
+use Rattle.esterel.specs.Sets.{startSet, Place, at, places, placesOf, under, underLeft, underRight}
+use Rattle.esterel.specs.Table.{Verdict, passed, refused, read, postfix}
+use Rattle.esterel.specs.Checks.{tooDeep, tooManyTraps, uncaught, endsAtOnce, firstNode, refuseAt, checkPlaces, checkProgram}
+use Rattle.esterel.specs.Outcome.{statementAt}
+use Rattle.esterel.specs.Theorems.{Accepted, Acceptance}
+use Rattle.esterel.proofs.Reading.{reads-only}
+use Rattle.esterel.proofs.Resume.{Exits}
+
+refuse-none : (number : ℕ) (o : Option ℕ) (next : Verdict) (p : Stmt) → refuseAt number o next ≡ passed p → (o ≡ none) × (next ≡ passed p)
+refuse-none number none next p e = (refl, e)
+refuse-none number (some n) next p e = (cc, cc)
+
+-- every place passes the test
+pub data Passes (test : Place → Bool) : List Place → Type 0 where
+  all : Passes test []
+  also : {x : Place} {xs : List Place} → test x ≡ false → Passes test xs → Passes test (x ∷ xs)
+
+first-passes : (test : Place → Bool) (xs : List Place) (n : ℕ) → firstNode test xs n ≡ none → Passes test xs
+first-passes test [] n e = all
+first-passes test (x ∷ xs) n e = go (test x) refl (first-passes test xs (suc n)) e
+  where
+    go : (b : Bool) → test x ≡ b → (firstNode test xs (suc n) ≡ none → Passes test xs) → cond b (some n) (firstNode test xs (suc n)) ≡ none → Passes test (x ∷ xs)
+    go true z ih f = also {x = x} (cc) (ih (cc))
+    go false z ih f = also z (ih f)
+
+passes-left : {test : Place → Bool} (xs ys : List Place) → Passes test (xs ++ ys) → Passes test xs
+passes-left [] ys c = all
+passes-left (x ∷ xs) ys (also e c) = also e (passes-left xs ys c)
+
+passes-right : {test : Place → Bool} (xs : List Place) (ys : List Place) → Passes test (xs ++ ys) → Passes test ys
+passes-right [] ys c = c
+passes-right (x ∷ xs) ys (also e c) = passes-right xs ys c
+
+passes-at : {test : Place → Bool} {xs : List Place} (d : Place) → test d ≡ false → Passes test xs → (n : ℕ) → test (getD xs n d) ≡ false
+passes-at d z all n = z
+passes-at d z (also e c) zero = e
+passes-at d z (also e c) (suc n) = passes-at d z c n
+
+-- what passes the four checks passes each
+pub record PassesAll (ps : List Place) : Type 0 where
+  pub depths : Passes tooDeep ps
+  pub traps : Passes tooManyTraps ps
+  pub exits : Passes uncaught ps
+  pub loops : Passes endsAtOnce ps
+
+passed-all : (ps : List Place) (next : Verdict) (p : Stmt) → checkPlaces ps next ≡ passed p → PassesAll ps × (next ≡ passed p)
+passed-all ps next p e =
+    let e8 = refuse-none 8 (firstNode tooDeep ps 0) _ p e in
+    let e9 = refuse-none 9 (firstNode tooManyTraps ps 0) _ p (e8 .1) in
+    let e10 = refuse-none 10 (firstNode uncaught ps 0) _ p (e9 .1) in
+    let e11 = refuse-none 11 (firstNode endsAtOnce ps 0) _ p (e10 .1) in (
+      record {
+        depths = first-passes tooDeep ps 0 (e8 .0);
+        traps = first-passes tooManyTraps ps 0 (e9 .0);
+        exits = first-passes uncaught ps 0 (e10 .0);
+        loops = first-passes endsAtOnce ps 0 (e11 .0);
+      },
+      e11 .1,
+    )
+
+pub passes : (p : Stmt) → Accepted p → PassesAll (placesOf p)
+passes p e = passed-all (placesOf p) (passed p) p e .0
+
+toNot : (b : Bool) → b ≡ false → T (not b)
+toNot true e = let z : _≡_ {A = ℕ} 0 1 = cc in absurd (omega arith)
+toNot false e = tt
+
+exits-caught : (p : Stmt) (d t : ℕ) (P : Codes) → Passes uncaught (places d t P p) → Exits t p
+exits-caught (leaf nothing) d t P c = tt
+exits-caught (leaf pause) d t P c = tt
+exits-caught (leaf (emit s)) d t P c = tt
+exits-caught (leaf (exit level)) d t P (also e c) = nleb→lt t level (toNot (leb t level) e)
+exits-caught (one u p) d t P c = exits-caught p (suc d) (trapsUnder u t) (under u P) (passes-left _ _ c)
+exits-caught (two b p q) d t P c =
+    (exits-caught p (suc d) t (underLeft b t P q) (passes-left _ _ (passes-left _ _ c)), exits-caught q (suc d) t (underRight b t P p) (passes-right (places (suc d) t (underLeft b t P q) p) _ (passes-left _ _ c)))
+
+abbrev pub stmtOf : Place → Stmt
+stmtOf (at d t S p) = p
+
+pub statements : (p : Stmt) (d t : ℕ) (P : Codes) → map stmtOf (places d t P p) ≡ nodes p
+statements (leaf l) d t P = refl
+statements (one u p) d t P = simp (map-append, statements p)
+statements (two b p q) d t P = simp (map-append, statements p, statements q)
+
+no-end : (x : Place) (b : Stmt) → endsAtOnce x ≡ false → stmtOf x ≡ one loop b → startSet b 0 ≡ true → ⊥
+no-end (at d t S p) b f e c =
+    let g : startSet b 0 ≡ false = sym (ap (λ q. endsAtOnce (at d t S q)) e) ∙ f in
+    let z : _≡_ {A = ℕ} 0 1 = cc in
+    omega arith
+
+-- no loop's body ends at once, and every exit is caught
+pub ends-not : (p : Stmt) → Accepted p → (n : ℕ) (b : Stmt) → statementAt (nodes p) n ≡ one loop b → startSet b 0 ≡ true → ⊥
+ends-not p a n b e c =
+    let outside = at 0 0 empty (leaf nothing) in
+    no-end (getD (placesOf p) n outside) b (passes-at outside refl (passes p a .loops) n)
+    (sym (List·getD-map stmtOf (placesOf p) n outside) ∙ (rw (statements p 1 0 empty) e)) c
+
+pub exits-in : (p : Stmt) → Accepted p → Exits 0 p
+exits-in p a = exits-caught p 1 0 empty (passes p a .exits)
+
+pub acceptance : Acceptance
+acceptance bytes p e = go (read bytes) refl e
+  where
+    go : (x : Verdict) → read bytes ≡ x → checkProgram x ≡ passed p → (bytes ≡ postfix p) × Accepted p
+    go (refused number node) z f = (cc, cc)
+    go (passed q) z f =
+        let same : q ≡ p = cc (passed-all (placesOf q) (passed q) p f .1) in
+        (reads-only bytes p (z ∙ ap passed same), rw same at f)

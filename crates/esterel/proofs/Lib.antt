@@ -1,0 +1,13 @@
+pub mod TableW
+pub mod Sizes
+pub mod Held
+pub mod Nodes
+pub mod Run
+pub mod Start
+pub mod Resume
+pub mod Answers
+pub mod Admitted
+pub mod Reading
+pub mod Accepted
+pub mod Subtrees
+pub mod Theorems

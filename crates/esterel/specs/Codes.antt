@@ -1,0 +1,4 @@
+-- Sets of completion codes and their 64-bit words (document 01, "Codes") are defined in crates/codes/specs/Codes.antt, which the code
+-- on sets cites too. They are passed on here, so that this folder has all that document 01 defines.
+pub use Rattle.codes.specs.Codes.{Codes, empty, only, union, given, withoutEnded, upTo, larger, catchCode, caught, meets, underTrap, underParallel, bit}
+unfoldable pub use Rattle.codes.specs.Codes.{word}

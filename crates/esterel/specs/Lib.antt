@@ -1,0 +1,10 @@
+pub mod Limits
+pub mod Statement
+pub mod Codes
+pub mod Sets
+pub mod Table
+pub mod Checks
+pub mod Instant
+pub mod Outcome
+pub mod Theorems
+pub mod TableW

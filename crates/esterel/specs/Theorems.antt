@@ -1,0 +1,111 @@
+-- What is proved of the definitions: the statements alone. The proofs are in proofs/Theorems.antt.
+use mathlib.Core.Path.{_≡_}
+use mathlib.Core.Logic.{_↔_}
+use mathlib.Core.Bool.{Bool, true, false}
+use mathlib.Core.List.{List, [], _∷_, _++_, map}
+use Prim.Native.Nat.{ℕ, suc, _+_, _-_, _*_, _≤_, _<_}
+use lib.ListN.{length, getD}
+use Rattle.esterel.specs.Limits.{maxNodes}
+use Rattle.esterel.specs.Statement.{Unary, Binary, Stmt, leaf, one, two, kind, field, size, nodes, loopsAround}
+use Rattle.esterel.specs.Sets.{startSet, placesOf}
+use Rattle.esterel.specs.Table.{Verdict, passed, read, postfix}
+use Rattle.esterel.specs.Checks.{checkPlaces, verdict, planned}
+use Rattle.esterel.specs.Instant.{Entry, Result, closed, starved, stuck, zeros, start, resume, admitted}
+use Rattle.esterel.specs.Outcome.{statementAt, taken, allIn, allGoOn}
+
+-- Reading. A table that is read is the bytes of its program; the bytes of a program of at most 1,024 nodes are read as it.
+pub record Reading : Type 0 where
+  pub readsOnly : (bytes : List ℕ) (p : Stmt) → read bytes ≡ passed p → bytes ≡ postfix p
+  pub readsBack : (p : Stmt) → size p ≤ maxNodes → read (postfix p) ≡ passed p
+
+-- The subtree at node i is one piece of the postorder that ends at i. So the second of two children ends right before its parent,
+-- and the first right before the second's first node.
+pub record Subtrees : Type 0 where
+  pub piece :
+      (p : Stmt) (i : ℕ) →
+      i < size p →
+      (pre post : List Stmt) × (nodes p ≡ pre ++ (nodes (statementAt (nodes p) i) ++ post)) × (length pre + size (statementAt (nodes p) i) ≡ suc i)
+  pub onlyChild : (p : Stmt) (i : ℕ) (u : Unary) (q : Stmt) → statementAt (nodes p) i ≡ one u q → (size q ≤ i) × (statementAt (nodes p) (i - 1) ≡ q)
+  pub twoChildren :
+      (p : Stmt) (i : ℕ) (b : Binary) (q r : Stmt) →
+      statementAt (nodes p) i ≡ two b q r →
+      (size q + size r ≤ i) × (statementAt (nodes p) (i - 1) ≡ r) × (statementAt (nodes p) (i - 1 - size r) ≡ q)
+  -- the two bytes of node i
+  pub kindAt : (p : Stmt) (i : ℕ) → i < size p → getD (postfix p) (2 * i) 0 ≡ kind (statementAt (nodes p) i)
+  pub fieldAt : (p : Stmt) (i : ℕ) → i < size p → getD (postfix p) (2 * i + 1) 0 ≡ field (statementAt (nodes p) i)
+
+-- Demand 2, exactness: a code is in K of a statement exactly if some answers make the started statement finish with it.
+abbrev pub Finishes : (List ℕ → Result) → ℕ → Type 0
+Finishes run k = (answers : List ℕ) × (trail : List Entry) × (held rest : List ℕ) × (run answers ≡ closed k trail held rest)
+
+abbrev pub Exactness : Type 0
+Exactness = (p : Stmt) (first k : ℕ) → (startSet p k ≡ true) ↔ Finishes (start first p) k
+
+-- Answers left over are not looked at: the taken ones alone decide, whatever follows them.
+abbrev pub Decides : (List ℕ → Result) → Type 0
+Decides run =
+    (answers : List ℕ) (k : ℕ) (trail : List Entry) (held rest : List ℕ) →
+    run answers ≡ closed k trail held rest →
+    (used : List ℕ) × (answers ≡ used ++ rest) × ((other : List ℕ) → run (used ++ other) ≡ closed k trail held other)
+
+pub record LeftOver : Type 0 where
+  pub starts : (p : Stmt) (first : ℕ) → Decides (start first p)
+  pub resumes : (p : Stmt) (first : ℕ) (held : List ℕ) → Decides (resume first p held)
+
+-- Demand 3. A program passes checks 8 to 11
+abbrev pub Accepted : Stmt → Type 0
+Accepted p = checkPlaces (placesOf p) (passed p) ≡ passed p
+
+-- and so does every program that a table's verdict accepts, and the table is its bytes
+abbrev pub Acceptance : Type 0
+Acceptance = (bytes : List ℕ) (p : Stmt) → verdict bytes ≡ passed p → (bytes ≡ postfix p) × Accepted p
+
+abbrev pub total : List ℕ → ℕ
+total [] = 0
+total (n ∷ ns) = n + total ns
+
+-- the sum over the nodes of 1 + the loops around each
+abbrev pub entryBound : Stmt → ℕ
+entryBound p = total (map suc (loopsAround 0 p))
+
+-- a closed instant of p over the answers
+pub record Closed (p : Stmt) (answers : List ℕ) (k : ℕ) (trail : List Entry) (held rest : List ℕ) : Type 0 where
+  pub code : k ≤ 1
+  pub ended : k ≡ 0 → held ≡ zeros (size p)
+  pub paused : k ≡ 1 → admitted p held ≡ true
+  -- each started node's code is in its K, and no started child of a loop has code 0
+  pub inK : allIn (nodes p) trail ≡ true
+  pub bodies : allGoOn (nodes p) trail ≡ true
+  pub entries : length trail ≤ planned p
+  pub fewerEntries : length trail ≤ entryBound p
+  -- the answers taken are as many as the trail asks for, and with those left they are those lent
+  pub used : List ℕ
+  pub lent : answers ≡ used ++ rest
+  pub counted : length used ≡ taken (nodes p) trail
+
+-- an instant of p over the answers: it closes, or is starved with fewer than n(1 + d) of them, and is never without a rule
+abbrev pub Closes : Stmt → List ℕ → Result → Type 0
+Closes p answers (closed k trail held rest) = Closed p answers k trail held rest
+Closes p answers starved = length answers < planned p
+Closes p answers stuck = ⊥
+
+pub record Demand3 : Type 0 where
+  pub starts : (p : Stmt) → Accepted p → (answers : List ℕ) → Closes p answers (start 0 p answers)
+  pub resumes : (p : Stmt) → Accepted p → (held answers : List ℕ) → admitted p held ≡ true → Closes p answers (resume 0 p held answers)
+  -- a start enters each node at most once
+  pub startEntries :
+      (p : Stmt) (answers : List ℕ) (k : ℕ) (trail : List Entry) (held rest : List ℕ) →
+      start 0 p answers ≡ closed k trail held rest → length trail ≤ size p
+
+-- Check 13: an instant of an accepted program is starved exactly if the rules need an answer after the last lent one is taken, that
+-- is, with some more answers it closes and takes more than those lent.
+abbrev pub NeedsMore : Stmt → (List ℕ → Result) → List ℕ → Type 0
+NeedsMore p run answers =
+    (more : List ℕ) × (k : ℕ) × (trail : List Entry) × (held rest : List ℕ) ×
+    (run (answers ++ more) ≡ closed k trail held rest) × (length answers < taken (nodes p) trail)
+
+pub record Starving : Type 0 where
+  pub starts : (p : Stmt) → Accepted p → (answers : List ℕ) → (start 0 p answers ≡ starved) ↔ NeedsMore p (start 0 p) answers
+  pub resumes :
+      (p : Stmt) → Accepted p → (held answers : List ℕ) → admitted p held ≡ true →
+      (resume 0 p held answers ≡ starved) ↔ NeedsMore p (resume 0 p held) answers
