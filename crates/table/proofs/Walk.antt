@@ -1,0 +1,165 @@
+-- The walk from a program's last node to its first. What waits are the subtrees that end right before the nodes seen, the one that
+-- ends next on top; their places, and those of the nodes seen, are the program's.
+use mathlib.Core.Path.{_≡_, refl, sym, ap, _∙_}
+use mathlib.Core.List.{List, [], _∷_, _++_, map, append-assoc, append-nil}
+use Prim.Native.Nat.{ℕ, zero, suc, _+_, _≤_, _<_}
+use native.Mathlib.Omega.{arith}
+use lib.ListN.{length, getD, length-append, length-map, List·getD-map}
+use lib.Seq.{getD-at}
+use Rattle.esterel.specs.Statement.{nothing, Unary, Binary, Stmt, leaf, one, two, size, nodes, loopsUnder, trapsUnder, loopsAround}
+use Rattle.esterel.specs.Codes.{Codes, empty}
+use Rattle.esterel.specs.Sets.{Place, at, places, placesOf, under, underLeft, underRight}
+use Rattle.esterel.specs.Outcome.{statementAt}
+use Rattle.esterel.proofs.Accepted.{stmtOf, statements}
+use Rattle.esterel.proofs.Sizes.{length-nodes, size-pos}
+
+pub record Waiting : Type 0 where
+  pub depth : ℕ
+  pub traps : ℕ
+  pub loops : ℕ
+  pub context : Codes
+  pub root : Stmt
+
+abbrev pub placesIn : List Waiting → List Place
+placesIn [] = []
+placesIn (w ∷ ws) = placesIn ws ++ places (w .depth) (w .traps) (w .context) (w .root)
+
+abbrev pub loopsIn : List Waiting → List ℕ
+loopsIn [] = []
+loopsIn (w ∷ ws) = loopsIn ws ++ loopsAround (w .loops) (w .root)
+
+-- the children of the node on top take its place
+module _ (d t l : ℕ) (P : Codes) where
+  abbrev pub onlyChild : Unary → Stmt → Waiting
+  onlyChild u p = record { depth = suc d; traps = trapsUnder u t; loops = loopsUnder u l; context = under u P; root = p }
+
+  abbrev pub firstChild : Binary → Stmt → Stmt → Waiting
+  firstChild b p q = record { depth = suc d; traps = t; loops = l; context = underLeft b t P q; root = p }
+
+  abbrev pub secondChild : Binary → Stmt → Stmt → Waiting
+  secondChild b p q = record { depth = suc d; traps = t; loops = l; context = underRight b t P p; root = q }
+
+  abbrev pub children : Stmt → List Waiting → List Waiting
+  children (leaf x) ws = ws
+  children (one u p) ws = onlyChild u p ∷ ws
+  children (two b p q) ws = secondChild b p q ∷ (firstChild b p q ∷ ws)
+
+  places-children : (s : Stmt) (ws : List Waiting) → placesIn ws ++ places d t P s ≡ placesIn (children s ws) ++ (at d t P s ∷ [])
+  places-children (leaf x) ws = refl
+  places-children (one u p) ws = simp append-assoc
+  places-children (two b p q) ws = simp append-assoc
+
+  loops-children : (s : Stmt) (ws : List Waiting) → loopsIn ws ++ loopsAround l s ≡ loopsIn (children s ws) ++ (l ∷ [])
+  loops-children (leaf x) ws = refl
+  loops-children (one u p) ws = simp append-assoc
+  loops-children (two b p q) ws = simp append-assoc
+
+abbrev pub descend : Waiting → List Waiting → List Waiting
+descend w ws = children (w .depth) (w .traps) (w .loops) (w .context) (w .root) ws
+
+abbrev pub placeOf : Waiting → Place
+placeOf w = at (w .depth) (w .traps) (w .context) (w .root)
+
+-- each that waits is as deep as it stands in the stack, or deeper
+pub data Deep : List Waiting → Type 0 where
+  none : Deep []
+  more : (w : Waiting) (ws : List Waiting) → length ws < w .depth → Deep ws → Deep (w ∷ ws)
+
+deep-children : (d t l : ℕ) (P : Codes) (s : Stmt) (ws : List Waiting) → length ws < d → Deep ws → Deep (children d t l P s ws)
+deep-children d t l P (leaf x) ws h o = o
+deep-children d t l P (one u p) ws h o = more (onlyChild d t l P u p) ws (omega arith) o
+deep-children d t l P (two b p q) ws h o = more (secondChild d t l P b p q) (firstChild d t l P b p q ∷ ws) (omega arith) (more (firstChild d t l P b p q) ws (omega arith) o)
+
+-- nodes 0 to i − 1 of p wait, and the others are seen
+pub record Walk (p : Stmt) (i : ℕ) (ws : List Waiting) : Type 0 where
+  pub seen : List Place
+  pub seenLoops : List ℕ
+  pub are : placesOf p ≡ placesIn ws ++ seen
+  pub areLoops : loopsAround 0 p ≡ loopsIn ws ++ seenLoops
+  pub left : length (placesIn ws) ≡ i
+  pub deep : Deep ws
+
+-- at the beginning the program waits
+abbrev pub program : Stmt → Waiting
+program p = record { depth = 1; traps = 0; loops = 0; context = empty; root = p }
+
+pub length-places : (p : Stmt) (d t : ℕ) (P : Codes) → length (places d t P p) ≡ size p
+length-places p d t P = sym (length-map (places d t P p) stmtOf) ∙ ap length (statements p d t P) ∙ length-nodes p
+
+pub begin : (p : Stmt) → Walk p (size p) (program p ∷ [])
+begin p =
+    record {
+      seen = [];
+      seenLoops = [];
+      are = sym (append-nil (placesOf p));
+      areLoops = sym (append-nil (loopsAround 0 p));
+      left = length-places p 1 0 empty;
+      deep = more (program p) [] (omega arith) none;
+    }
+
+-- at the end nothing waits: all are seen
+pub record Ended (p : Stmt) (seen : List Place) (seenLoops : List ℕ) : Type 0 where
+  pub are : seen ≡ placesOf p
+  pub areLoops : seenLoops ≡ loopsAround 0 p
+
+pub ended : (p : Stmt) (ws : List Waiting) (o : Walk p 0 ws) → Ended p (o .seen) (o .seenLoops)
+ended p [] o = record { are = sym (o .are); areLoops = sym (o .areLoops) }
+ended p (w ∷ ws) o =
+    absurd (omega (arith, o .left, length-append (placesIn ws) (places (w .depth) (w .traps) (w .context) (w .root)), length-places (w .root) (w .depth) (w .traps) (w .context), size-pos (w .root)))
+
+-- the next node: the one on top
+pub record Next (p : Stmt) (i : ℕ) (ws : List Waiting) (seen : List Place) (seenLoops : List ℕ) : Type 0 where
+  pub top : Waiting
+  pub below : List Waiting
+  pub is : ws ≡ top ∷ below
+  pub on : Walk p i (descend top below)
+  pub onSeen : on .seen ≡ placeOf top ∷ seen
+  pub onLoops : on .seenLoops ≡ top .loops ∷ seenLoops
+  pub statement : statementAt (nodes p) i ≡ top .root
+  pub place : getD (placesOf p) i (at 0 0 empty (leaf nothing)) ≡ placeOf top
+  pub depth : length below < top .depth
+
+pub next : (p : Stmt) (i : ℕ) (ws : List Waiting) (o : Walk p (suc i) ws) → Next p i ws (o .seen) (o .seenLoops)
+next p i [] o = absurd (omega (arith, o .left))
+next p i (w ∷ ws) o = go (o .deep)
+  where
+    all : placesOf p ≡ placesIn (descend w ws) ++ (placeOf w ∷ o .seen)
+    all = o .are ∙ ap (λ l. l ++ o .seen) (places-children (w .depth) (w .traps) (w .loops) (w .context) (w .root) ws) ∙ append-assoc (placesIn (descend w ws)) (placeOf w ∷ []) (o .seen)
+
+    allLoops : loopsAround 0 p ≡ loopsIn (descend w ws) ++ (w .loops ∷ o .seenLoops)
+    allLoops = o .areLoops ∙ ap (λ l. l ++ o .seenLoops) (loops-children (w .depth) (w .traps) (w .loops) (w .context) (w .root) ws) ∙ append-assoc (loopsIn (descend w ws)) (w .loops ∷ []) (o .seenLoops)
+
+    left : length (placesIn (descend w ws)) ≡ i
+    left =
+        let z = ap length (places-children (w .depth) (w .traps) (w .loops) (w .context) (w .root) ws) in
+        omega (arith, z ∙ length-append (placesIn (descend w ws)) (placeOf w ∷ []), o .left)
+
+    place : getD (placesOf p) i (at 0 0 empty (leaf nothing)) ≡ placeOf w
+    place = rw all (getD-at (placesIn (descend w ws)) (placeOf w) (o .seen) (at 0 0 empty (leaf nothing)) i left)
+
+    statement : statementAt (nodes p) i ≡ w .root
+    statement =
+        ap (λ l. getD l i (leaf nothing)) (sym (statements p 1 0 empty))
+        ∙ List·getD-map stmtOf (placesOf p) i (at 0 0 empty (leaf nothing)) ∙ ap stmtOf place
+
+    go : Deep (w ∷ ws) → Next p i (w ∷ ws) (o .seen) (o .seenLoops)
+    go (more _ _ h d) =
+        record {
+          top = w;
+          below = ws;
+          is = refl;
+          on =
+              record {
+                seen = placeOf w ∷ o .seen;
+                seenLoops = w .loops ∷ o .seenLoops;
+                are = all;
+                areLoops = allLoops;
+                left = left;
+                deep = deep-children (w .depth) (w .traps) (w .loops) (w .context) (w .root) ws h d;
+              };
+          onSeen = refl;
+          onLoops = refl;
+          statement = statement;
+          place = place;
+          depth = h;
+        }

@@ -1,0 +1,82 @@
+-- What the checks answer.
+use Prim.Native.Nat.{ℕ, zero, suc, _*_, _%_, _<_, _≤_}
+use mathlib.Core.Path.{_≡_}
+use mathlib.Core.Bool.{Bool, true, false, not, _&&_, _||_, cond}
+use mathlib.Core.Option.{Option, none, some}
+use mathlib.Core.List.{List, []}
+use lib.ListN.{length, getD}
+use lib.Dec.{eqb, ltb}
+use Rattle.esterel.specs.Limits.{maxNodes}
+use Rattle.esterel.specs.Statement.{Stmt, size, nodes, loopDepth}
+use Rattle.esterel.specs.Sets.{Place, placesOf}
+use Rattle.esterel.specs.Table.{Verdict, passed, refused, scan}
+use Rattle.esterel.specs.Checks.{tooDeep, tooManyTraps, uncaught, firstNode}
+use Rattle.esterel.specs.Outcome.{statementAt}
+use Rattle.table.specs.Kinds.{arityOf, plainOf}
+use Rattle.table.specs.declared.Kind.{Kind}
+use Rattle.table.specs.declared.Kind.the-variants.{Nothing, Pause, Emit, Exit, Signal, Present, Suspend, Loop, Sequence, Parallel, Trap, Unknown}
+use Rattle.table.specs.declared.Check.{Check}
+use Rattle.table.specs.declared.Check.the-variants.{Passed, Refused}
+use Rattle.table.specs.declared.Survey.{Survey}
+
+-- the number and the node of an answer, where it refuses, before what comes next
+abbrev pub refuse : Check → Verdict → Verdict
+refuse Passed next = next
+refuse (Refused number node) next = refused number node
+
+-- the answer for a verdict
+abbrev pub answerOf : Verdict → Check
+answerOf (passed p) = Passed
+answerOf (refused number node) = Refused number node
+
+-- checks 1 and 2
+unfoldable pub lengthCheck : List ℕ → Check
+lengthCheck t =
+    cond (ltb (2 * maxNodes) (length t)) (Refused 1 0) (cond (eqb (length t) 0 || eqb (length t % 2) 1) (Refused 2 0) Passed)
+
+-- and what a table that passes them is
+pub record WellSized (t : List ℕ) : Type 0 where
+  pub some : 0 < length t
+  pub even : length t % 2 ≡ 0
+  pub few : length t ≤ 2 * maxNodes
+
+abbrev pub knownOf : Kind → Bool
+knownOf Nothing = true
+knownOf Pause = true
+knownOf Emit = true
+knownOf Exit = true
+knownOf Signal = true
+knownOf Present = true
+knownOf Suspend = true
+knownOf Loop = true
+knownOf Sequence = true
+knownOf Parallel = true
+knownOf Trap = true
+knownOf Unknown = false
+
+-- checks 4, 5 and 6 of one node, before which so many statements are unused
+unfoldable pub nodeCheck : Kind → (field unused node : ℕ) → Check
+nodeCheck k field unused node =
+    cond (knownOf k)
+    (cond (plainOf k && not (eqb field 0)) (Refused 5 node) (cond (ltb unused (arityOf k)) (Refused 6 node) Passed))
+    (Refused 4 node)
+
+-- checks 4 to 7 of a table, and the size of the subtree at each node of one that passes
+pub record Read (t sizes : List ℕ) (r : Check) : Type 0 where
+  pub answer : r ≡ answerOf (scan t 0 [])
+  pub sized : (p : Stmt) → scan t 0 [] ≡ passed p → (j : ℕ) → j < size p → getD sizes j 0 ≡ size (statementAt (nodes p) j)
+
+-- a refusal at a node that was found, before what comes next
+abbrev pub refuseFound : ℕ → Option ℕ → Check → Check
+refuseFound number none next = next
+refuseFound number (some node) next = Refused number node
+
+-- checks 8, 9 and 10, each over all places before the next
+unfoldable pub placesCheck : List Place → ℕ → Check
+placesCheck ps n =
+    refuseFound 8 (firstNode tooDeep ps n) (refuseFound 9 (firstNode tooManyTraps ps n) (refuseFound 10 (firstNode uncaught ps n) Passed))
+
+-- what a survey of a program finds
+pub record Surveyed (p : Stmt) (r : Survey) : Type 0 where
+  pub check : r .check ≡ placesCheck (placesOf p) 0
+  pub loops : r .loops ≡ loopDepth p
