@@ -1,6 +1,6 @@
 -- Tests that pass, and their joins.
 use mathlib.Core.Path.{_≡_, refl, sym}
-use mathlib.Core.Bool.{Bool, true, false, _&&_, _||_, or-true, and-eq-true-iff}
+use mathlib.Core.Bool.{Bool, true, false, not, _&&_, _||_, or-true, and-eq-true-iff}
 use mathlib.Core.Logic.{_⊎_, inl, inr}
 use Prim.Native.Nat.{ℕ}
 use native.Mathlib.Omega.{arith}
@@ -32,6 +32,14 @@ toT false e = let z : _≡_ {A = ℕ} 0 1 = cc in omega arith
 pub fromT : (b : Bool) → T b → b ≡ true
 fromT true t = refl
 fromT false t = absurd t
+
+pub toNot : (b : Bool) → b ≡ false → T (not b)
+toNot true e = let z : _≡_ {A = ℕ} 0 1 = cc in absurd (omega arith)
+toNot false e = tt
+
+pub fromNot : (b : Bool) → T (not b) → b ≡ false
+fromNot true t = absurd t
+fromNot false t = refl
 
 -- two tests are the same where each passes if the other does
 pub same-test : (p q : Bool) → (p ≡ true → q ≡ true) → (q ≡ true → p ≡ true) → p ≡ q

@@ -1,12 +1,13 @@
 -- What checks 10 and 11 say of an accepted program.
 use mathlib.Core.Path.{_≡_, refl, sym, ap, _∙_}
-use mathlib.Core.Bool.{Bool, true, false, not, cond}
-use mathlib.Core.Option.{Option, none, some}
+use mathlib.Core.Bool.{Bool, true, false, cond}
+use mathlib.Core.Option.{Option, some}
 use mathlib.Core.List.{List, [], _∷_, _++_, map, map-append}
 use Prim.Native.Nat.{ℕ, zero, suc, _+_, _≤_, _<_}
 use native.Mathlib.Omega.{arith}
-use lib.Dec.{T, leb, nleb→lt}
+use lib.Dec.{leb, nleb→lt}
 use lib.ListN.{getD, List·getD-map}
+use Rattle.codes.proofs.Bools.{toNot}
 use Rattle.esterel.specs.Statement.{Leaf, nothing, pause, emit, exit, Unary, loop, Binary, Stmt, leaf, one, two, nodes, trapsUnder}
 use Rattle.esterel.specs.Codes.{Codes, empty}
 use Rattle.esterel.specs.Sets.{startSet, Place, at, places, placesOf, under, underLeft, underRight}
@@ -15,37 +16,24 @@ use Rattle.esterel.specs.Checks.{tooDeep, tooManyTraps, uncaught, endsAt
 use Rattle.esterel.specs.Outcome.{statementAt}
 use Rattle.esterel.specs.Theorems.{Accepted, Acceptance}
 use Rattle.esterel.proofs.Reading.{reads-only}
-use Rattle.esterel.proofs.Resume.{Exits}
+use Rattle.esterel.proofs.Every.{Every, none, also, every-left, every-right, every-at}
+use Rattle.esterel.proofs.Low.{Exits}
 
-refuse-none : (number : ℕ) (o : Option ℕ) (next : Verdict) (p : Stmt) → refuseAt number o next ≡ passed p → (o ≡ none) × (next ≡ passed p)
-refuse-none number none next p e = (refl, e)
+refuse-none : (number : ℕ) (o : Option ℕ) (next : Verdict) (p : Stmt) → refuseAt number o next ≡ passed p → (o ≡ Option.none) × (next ≡ passed p)
+refuse-none number Option.none next p e = (refl, e)
 refuse-none number (some n) next p e = (cc, cc)
 
 -- every place passes the test
-pub data Passes (test : Place → Bool) : List Place → Type 0 where
-  all : Passes test []
-  also : {x : Place} {xs : List Place} → test x ≡ false → Passes test xs → Passes test (x ∷ xs)
+abbrev pub Passes : (Place → Bool) → List Place → Type 0
+Passes test ps = Every (λ x. test x ≡ false) ps
 
-first-passes : (test : Place → Bool) (xs : List Place) (n : ℕ) → firstNode test xs n ≡ none → Passes test xs
-first-passes test [] n e = all
+pub first-passes : (test : Place → Bool) (xs : List Place) (n : ℕ) → firstNode test xs n ≡ Option.none → Passes test xs
+first-passes test [] n e = none
 first-passes test (x ∷ xs) n e = go (test x) refl (first-passes test xs (suc n)) e
   where
-    go : (b : Bool) → test x ≡ b → (firstNode test xs (suc n) ≡ none → Passes test xs) → cond b (some n) (firstNode test xs (suc n)) ≡ none → Passes test (x ∷ xs)
+    go : (b : Bool) → test x ≡ b → (firstNode test xs (suc n) ≡ Option.none → Passes test xs) → cond b (some n) (firstNode test xs (suc n)) ≡ Option.none → Passes test (x ∷ xs)
     go true z ih f = also {x = x} (cc) (ih (cc))
     go false z ih f = also z (ih f)
-
-passes-left : {test : Place → Bool} (xs ys : List Place) → Passes test (xs ++ ys) → Passes test xs
-passes-left [] ys c = all
-passes-left (x ∷ xs) ys (also e c) = also e (passes-left xs ys c)
-
-passes-right : {test : Place → Bool} (xs : List Place) (ys : List Place) → Passes test (xs ++ ys) → Passes test ys
-passes-right [] ys c = c
-passes-right (x ∷ xs) ys (also e c) = passes-right xs ys c
-
-passes-at : {test : Place → Bool} {xs : List Place} (d : Place) → test d ≡ false → Passes test xs → (n : ℕ) → test (getD xs n d) ≡ false
-passes-at d z all n = z
-passes-at d z (also e c) zero = e
-passes-at d z (also e c) (suc n) = passes-at d z c n
 
 -- what passes the four checks passes each
 pub record PassesAll (ps : List Place) : Type 0 where
@@ -72,18 +60,14 @@ passed-all ps next p e =
 pub passes : (p : Stmt) → Accepted p → PassesAll (placesOf p)
 passes p e = passed-all (placesOf p) (passed p) p e .0
 
-toNot : (b : Bool) → b ≡ false → T (not b)
-toNot true e = let z : _≡_ {A = ℕ} 0 1 = cc in absurd (omega arith)
-toNot false e = tt
-
-exits-caught : (p : Stmt) (d t : ℕ) (P : Codes) → Passes uncaught (places d t P p) → Exits t p
+pub exits-caught : (p : Stmt) (d t : ℕ) (P : Codes) → Passes uncaught (places d t P p) → Exits t p
 exits-caught (leaf nothing) d t P c = tt
 exits-caught (leaf pause) d t P c = tt
 exits-caught (leaf (emit s)) d t P c = tt
 exits-caught (leaf (exit level)) d t P (also e c) = nleb→lt t level (toNot (leb t level) e)
-exits-caught (one u p) d t P c = exits-caught p (suc d) (trapsUnder u t) (under u P) (passes-left _ _ c)
+exits-caught (one u p) d t P c = exits-caught p (suc d) (trapsUnder u t) (under u P) (every-left _ _ c)
 exits-caught (two b p q) d t P c =
-    (exits-caught p (suc d) t (underLeft b t P q) (passes-left _ _ (passes-left _ _ c)), exits-caught q (suc d) t (underRight b t P p) (passes-right (places (suc d) t (underLeft b t P q) p) _ (passes-left _ _ c)))
+    (exits-caught p (suc d) t (underLeft b t P q) (every-left _ _ (every-left _ _ c)), exits-caught q (suc d) t (underRight b t P p) (every-right (places (suc d) t (underLeft b t P q) p) _ (every-left _ _ c)))
 
 abbrev pub stmtOf : Place → Stmt
 stmtOf (at d t S p) = p
@@ -103,7 +87,7 @@ no-end (at d t S p) b f e c =
 pub ends-not : (p : Stmt) → Accepted p → (n : ℕ) (b : Stmt) → statementAt (nodes p) n ≡ one loop b → startSet b 0 ≡ true → ⊥
 ends-not p a n b e c =
     let outside = at 0 0 empty (leaf nothing) in
-    no-end (getD (placesOf p) n outside) b (passes-at outside refl (passes p a .loops) n)
+    no-end (getD (placesOf p) n outside) b (every-at outside refl (passes p a .loops) n)
     (sym (List·getD-map stmtOf (placesOf p) n outside) ∙ (rw (statements p 1 0 empty) e)) c
 
 pub exits-in : (p : Stmt) → Accepted p → Exits 0 p

@@ -4,10 +4,13 @@ pub mod Held
 pub mod Nodes
 pub mod Run
 pub mod Start
+pub mod Low
 pub mod Resume
 pub mod Answers
 pub mod Admitted
 pub mod Reading
+pub mod Every
 pub mod Accepted
+pub mod Caught
 pub mod Subtrees
 pub mod Theorems

@@ -1,14 +1,15 @@
 -- A statement's bytes read back as the statement, and nothing else does.
 use mathlib.Core.Path.{_≡_, refl, sym, ap, _∙_}
-use mathlib.Core.Bool.{Bool, true, false, not, cond, _||_}
+use mathlib.Core.Bool.{Bool, true, false, cond, _||_}
 use mathlib.Core.List.{List, [], _∷_, _++_, append-assoc, append-nil}
 use Prim.Native.Nat.{ℕ, zero, suc, _+_, _*_, _%_, _≤_, _<_}
 use native.Mathlib.Nat.{add-suc, add-assoc}
 use native.Mathlib.Numerals.{add-one}
 use native.Mathlib.Omega.{arith}
-use lib.Dec.{T, eqb, ltb}
+use lib.Dec.{eqb, ltb}
 use lib.ListN.{length}
 use mir.Facts.{no-ltb, no-eqb}
+use Rattle.codes.proofs.Bools.{fromNot}
 use Rattle.esterel.specs.Limits.{maxNodes}
 use Rattle.esterel.specs.Statement.{Leaf, nothing, pause, emit, exit, Unary, signal, suspend, loop, trap, Binary, present, sequence, parallel, Stmt, leaf, one, two, kind, field, size, nodes}
 use Rattle.esterel.specs.Table.{Node, takes0, takes1, takes2, faulty, nodeOf, Step, goOn, fault, push, Verdict, passed, refused, step, scan, checkLength, read, bytesOf, postfix}
@@ -53,17 +54,13 @@ scans (two b p q) bytes n stack =
     rw (bytes-append (nodes p ++ nodes q) (two b p q ∷ []), bytes-append (nodes p) (nodes q))
     (simp append-assoc (scans p (postfix q ++ own) n stack ∙ scans q own (n + size p) (p ∷ stack) ∙ rw (node-two b p q, add-suc, add-assoc)))
 
-toFalse : (b : Bool) → T (not b) → b ≡ false
-toFalse true t = absurd t
-toFalse false t = refl
-
 pub reads-back : (p : Stmt) → size p ≤ maxNodes → read (postfix p) ≡ passed p
 reads-back p small =
     let l = length-postfix p in
     let pos = size-pos p in
-    let a : ltb (2 * maxNodes) (length (postfix p)) ≡ false = toFalse _ (no-ltb {a = 2048} {b = length (postfix p)} (omega arith)) in
-    let b : eqb (length (postfix p)) 0 ≡ false = toFalse _ (no-eqb {a = length (postfix p)} {b = 0} (omega arith)) in
-    let c : eqb (length (postfix p) % 2) 1 ≡ false = toFalse _ (no-eqb {a = length (postfix p) % 2} {b = 1} (omega arith)) in
+    let a : ltb (2 * maxNodes) (length (postfix p)) ≡ false = fromNot _ (no-ltb {a = 2048} {b = length (postfix p)} (omega arith)) in
+    let b : eqb (length (postfix p)) 0 ≡ false = fromNot _ (no-eqb {a = length (postfix p)} {b = 0} (omega arith)) in
+    let c : eqb (length (postfix p) % 2) 1 ≡ false = fromNot _ (no-eqb {a = length (postfix p) % 2} {b = 1} (omega arith)) in
     rw (a, b, c, ← append-nil (postfix p)) (scans p [] 0 [])
 
 -- the other way round. A node's bytes are its kind and its field

@@ -2,16 +2,12 @@
 use mathlib.Core.Path.{_≡_, refl, sym}
 use mathlib.Core.Bool.{Bool, true, false, _&&_, cond}
 use mathlib.Core.List.{List, [], _∷_, _++_}
-use mathlib.Core.Logic.{⊎-elim}
 use Prim.Native.Nat.{ℕ, zero, suc, _+_, _≤_, _<_, max}
 use native.Mathlib.Nat.{max-le}
 use native.Mathlib.Omega.{arith}
 use lib.Dec.{eqb}
 use lib.ListN.{length}
-use Rattle.codes.proofs.Bools.{right, either}
-use Rattle.codes.proofs.Members.{only-out, larger-out, caught-out}
-use Rattle.esterel.specs.Statement.{Leaf, nothing, pause, emit, exit, Unary, signal, suspend, loop, trap, Binary, present, sequence, parallel, Stmt, leaf, one, two, kind, size, trapsUnder}
-use Rattle.esterel.specs.Codes.{catchCode}
+use Rattle.esterel.specs.Statement.{Leaf, nothing, pause, emit, exit, Unary, signal, suspend, loop, trap, Binary, present, sequence, parallel, Stmt, leaf, one, two, kind, size}
 use Rattle.esterel.specs.Sets.{startSet}
 use Rattle.esterel.specs.Instant.{started, resumed, entry, Result, zeros, enter, start, resume, idle, holds, first, second}
 use Rattle.esterel.specs.Outcome.{statementAt}
@@ -19,49 +15,8 @@ use Rattle.esterel.proofs.Sizes.{load, size-load}
 use Rattle.esterel.proofs.Held.{holds-zeros, Fits, fits-leaf, fits-one, fits-two, fits-zeros, fits-ended, fits-left, fits-right, child-fits, child-holds, left-fits, right-fits, right-holds, leaf-holds}
 use Rattle.esterel.proofs.Run.{Run, ran, asked, Ran, weaken, enter-run, alone-run, skip-run, andThen-run, beside-run, again-run, catch-run, cond-run}
 use Rattle.esterel.proofs.Nodes.{Sits}
+use Rattle.esterel.proofs.Low.{Exits, Low, low-catch, start-low}
 use Rattle.esterel.proofs.Start.{Inside, dropped, start-run}
-
--- every exit in p is caught by one of the t traps around p or by one in p
-abbrev pub Exits : ℕ → Stmt → Type 0
-Exits t (leaf nothing) = Unit {0}
-Exits t (leaf pause) = Unit {0}
-Exits t (leaf (emit s)) = Unit {0}
-Exits t (leaf (exit level)) = level < t
-Exits t (one u p) = Exits (trapsUnder u t) p
-Exits t (two b p q) = Exits t p × Exits t q
-
--- codes up to 1 + t
-abbrev pub Low : ℕ → ℕ → Type 0
-Low t k = k ≤ suc t
-
-low-catch : (t k : ℕ) → k ≤ suc (suc t) → catchCode k ≤ suc t
-low-catch t zero h = omega arith
-low-catch t (suc zero) h = omega arith
-low-catch t (suc (suc zero)) h = omega arith
-low-catch t (suc (suc (suc k))) h = omega arith
-
--- the codes of K are low
-pub start-low : (p : Stmt) (t k : ℕ) → Exits t p → startSet p k ≡ true → k ≤ suc t
-start-low (leaf nothing) t k x e = omega (arith, only-out 0 k e)
-start-low (leaf pause) t k x e = omega (arith, only-out 1 k e)
-start-low (leaf (exit level)) t k x e = omega (arith, only-out (2 + level) k e)
-start-low (leaf (emit s)) t k x e = omega (arith, only-out 0 k e)
-start-low (two sequence p q) t zero x e = omega arith
-start-low (two sequence p q) t (suc k) x e =
-    ⊎-elim (start-low p t (suc k) (x .0)) (λ f. start-low q t (suc k) (x .1) (right (startSet p 0) f))
-    (either (startSet p (suc k)) (startSet p 0 && startSet q (suc k)) e)
-start-low (two (present s) p q) t k x e =
-    ⊎-elim (start-low p t k (x .0)) (start-low q t k (x .1)) (either (startSet p k) (startSet q k) e)
-start-low (one trap p) t k x e =
-    let (j, f, z) = caught-out (startSet p) k e in
-    rw (← z) (low-catch t j (start-low p (suc t) j x f))
-start-low (two parallel p q) t k x e =
-    let (i, j, f, g, z) = larger-out (startSet p) (startSet q) k e in
-    omega (arith, start-low p t i (x .0) f, start-low q t j (x .1) g)
-start-low (one loop p) t zero x e = omega arith
-start-low (one loop p) t (suc k) x e = start-low p t (suc k) x e
-start-low (one (signal s) p) t k x e = start-low p t k x e
-start-low (one (suspend s) p) t k x e = start-low p t k x e
 
 module _ (ps : List Stmt) (S : Type 0) (ends : (n : ℕ) (p : Stmt) → statementAt ps n ≡ one loop p → startSet p 0 ≡ true → S) where
   abbrev Resumes : Stmt → ℕ → List ℕ → Result → Type 0

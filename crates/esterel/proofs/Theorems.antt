@@ -18,7 +18,8 @@ use Rattle.esterel.proofs.Held.{Fits, fits-length, none-zeros}
 use Rattle.esterel.proofs.Nodes.{Part, sits, sits-own}
 use Rattle.esterel.proofs.Run.{Run, ran, asked, noRule, Ran, weaken}
 use Rattle.esterel.proofs.Start.{In, start-run}
-use Rattle.esterel.proofs.Resume.{Low, start-low, resume-run}
+use Rattle.esterel.proofs.Low.{Low, start-low}
+use Rattle.esterel.proofs.Resume.{resume-run}
 use Rattle.esterel.proofs.Answers.{Reaches, reach, start-decides, resume-decides}
 use Rattle.esterel.proofs.Admitted.{admitted-holds, admitted-fits, admits}
 use Rattle.esterel.proofs.Reading.{reads-only, reads-back}
