@@ -1,2 +1,4 @@
 pub mod View
 pub mod Walk
+pub mod Stack
+pub mod Pass

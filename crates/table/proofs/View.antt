@@ -10,7 +10,7 @@ use Rattle.esterel.specs.Table.{Node, takes0, takes1, takes2, postfix}
 use Rattle.esterel.specs.Outcome.{statementAt}
 use Rattle.esterel.proofs.Reading.{reads-only, length-postfix}
 use Rattle.esterel.proofs.Subtrees.{only-child, two-children, subtrees}
-use Rattle.table.specs.Kinds.{kindOf, headOf}
+use Rattle.table.specs.Kinds.{kindOf, headOf, arityOf}
 use Rattle.table.specs.Program.{programOf, Readable}
 
 -- a node of p by what it takes: no child, one, or two
@@ -38,6 +38,26 @@ unfolding kindOf
 head-two (present s) q r = refl
 head-two sequence q r = refl
 head-two parallel q r = refl
+
+-- how many children a statement has
+abbrev pub childCount : Stmt → ℕ
+childCount (leaf l) = 0
+childCount (one u q) = 1
+childCount (two b q r) = 2
+
+pub arity-of : (w : Stmt) → arityOf (kindOf (kind w)) ≡ childCount w
+unfolding kindOf
+arity-of (leaf nothing) = refl
+arity-of (leaf pause) = refl
+arity-of (leaf (emit s)) = refl
+arity-of (leaf (exit level)) = refl
+arity-of (one (signal s) q) = refl
+arity-of (one (suspend s) q) = refl
+arity-of (one loop q) = refl
+arity-of (one trap q) = refl
+arity-of (two (present s) q r) = refl
+arity-of (two sequence q r) = refl
+arity-of (two parallel q r) = refl
 
 view-of : (p : Stmt) (i : ℕ) (w : Stmt) → statementAt (nodes p) i ≡ w → View p i (headOf (kindOf (kind w)) (field w))
 view-of p i (leaf l) e = rw (head-leaf l) (view0 l e)

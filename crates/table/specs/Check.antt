@@ -1,5 +1,5 @@
 -- What the checks answer.
-use Prim.Native.Nat.{ℕ, zero, suc, _*_, _%_, _<_, _≤_}
+use Prim.Native.Nat.{ℕ, zero, suc, _+_, _-_, _*_, _%_, _<_, _≤_}
 use mathlib.Core.Path.{_≡_}
 use mathlib.Core.Bool.{Bool, true, false, not, _&&_, _||_, cond}
 use mathlib.Core.Option.{Option, none, some}
@@ -60,6 +60,20 @@ nodeCheck k field unused node =
     cond (knownOf k)
     (cond (plainOf k && not (eqb field 0)) (Refused 5 node) (cond (ltb unused (arityOf k)) (Refused 6 node) Passed))
     (Refused 4 node)
+
+-- the size of the subtree at a node with so many children, from the sizes before it
+unfoldable pub spanOf : (sizes : List ℕ) (node children : ℕ) → ℕ
+spanOf sizes i zero = 1
+spanOf sizes i (suc zero) = getD sizes (i - 1) 0 + 1
+spanOf sizes i (suc (suc c)) = getD sizes (i - 1 - getD sizes (i - 1) 0) 0 + getD sizes (i - 1) 0 + 1
+
+-- and the children stand before it
+pub record Room (sizes : List ℕ) (node children : ℕ) : Type 0 where
+  pub within : node ≤ length sizes
+  pub few : children ≤ 2
+  pub one : 0 < children → 0 < node
+  pub two : 1 < children → getD sizes (node - 1) 0 < node
+  pub fits : spanOf sizes node children ≤ node + 1
 
 -- checks 4 to 7 of a table, and the size of the subtree at each node of one that passes
 pub record Read (t sizes : List ℕ) (r : Check) : Type 0 where

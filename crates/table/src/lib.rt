@@ -3,6 +3,7 @@ ghost use mathlib.Core.Path.{_≡_};
 ghost use Prim.Native.Nat.{ℕ, _+_, _-_, _*_, _<_, _≤_};
 ghost use lib.ListN.{length, getD};
 ghost use Rattle.table.specs.Kinds.{kindOf, arityOf, plainOf};
+ghost use Rattle.table.specs.Check.{lengthCheck, nodeCheck, WellSized, Room, spanOf, Read};
 
 // What a kind byte says.
 pub enum Kind {
@@ -106,4 +107,94 @@ pub enum Check {
 pub struct Survey {
     pub check: Check,
     pub loops: usize,
+}
+
+// Checks 1 and 2.
+pub fn check_length(table: &[u8]) -> Check
+    ensures { λ r. ⌜ r ≡ lengthCheck (now (table .entry)) ⌝ }
+{
+    let length = table.len();
+    if 2 * esterel::MAX_NODES < length {
+        return Check::Refused { number: 1, node: 0 };
+    }
+    if length == 0 {
+        return Check::Refused { number: 2, node: 0 };
+    }
+    if length % 2 == 1 {
+        return Check::Refused { number: 2, node: 0 };
+    }
+    Check::Passed
+}
+
+// Checks 4, 5 and 6 of one node, before which `unused` statements are unused.
+fn check_node(kind: Kind, field: usize, unused: usize, node: usize) -> Check
+    ensures { λ r. ⌜ r ≡ nodeCheck kind field unused node ⌝ }
+{
+    if let Kind::Unknown = kind {
+        return Check::Refused { number: 4, node };
+    }
+    if is_plain(kind) {
+        if field != 0 {
+            return Check::Refused { number: 5, node };
+        }
+    }
+    if unused < arity(kind) {
+        return Check::Refused { number: 6, node };
+    }
+    Check::Passed
+}
+
+fn wide(x: u16) -> usize
+    ensures { λ r. ⌜ r ≡ x ⌝ }
+{
+    x as usize
+}
+
+// The size of the subtree at a node.
+pub fn size_at(sizes: &[u16], node: usize) -> usize
+    requires { ⌜ node < length (now sizes) ⌝ }
+    ensures { λ r. ⌜ r ≡ getD (now (sizes .entry)) node 0 ⌝ }
+{
+    wide(sizes[node])
+}
+
+// The size of the subtree at a node with so many children, from the sizes before it.
+fn span(sizes: &[u16], node: usize, children: usize) -> usize
+    requires { ⌜ Room (now sizes) node children ⌝ }
+    ensures { λ r. ⌜ r ≡ spanOf (now (sizes .entry)) node children ⌝ }
+{
+    if children == 0 {
+        return 1;
+    }
+    let last = size_at(sizes, node - 1);
+    if children == 1 {
+        return last + 1;
+    }
+    size_at(sizes, node - 1 - last) + last + 1
+}
+
+// Checks 4 to 7, and the size of the subtree at each node, in one pass: what is needed of the statements before a node is
+// how many of them are unused, and their sizes.
+pub fn read_nodes(table: &[u8], sizes: &mut [u16]) -> Check
+    requires { ⌜ WellSized (now table) × (1024 ≤ length (now sizes)) ⌝ }
+    ensures { λ r. ⌜ Read (now (table .entry)) (now (sizes .exit)) r ⌝ }
+{
+    let n = table.len() / 2;
+    let mut unused: usize = 0;
+    let mut i: usize = 0;
+    while i < n {
+        let kind = kind_at(table, i);
+        let check = check_node(kind, field_at(table, i), unused, i);
+        let Check::Passed = check else {
+            return check;
+        };
+        let children = arity(kind);
+        sizes[i] = span(sizes, i, children) as u16;
+        unused = unused + 1 - children;
+        i += 1;
+    }
+    if unused == 1 {
+        return Check::Passed;
+    }
+    Check::Refused { number: 7, node: 0 }
 }

@@ -1,0 +1,79 @@
+// The analysis of a table: start sets K, any-instant sets A, contexts S and marks.
+ghost use mathlib.Core.Path.{_≡_};
+ghost use Prim.Native.Nat.{ℕ, _+_, _-_, _*_, _<_, _≤_};
+ghost use lib.ListN.{length, getD};
+ghost use Rattle.codes.specs.Codes.{word};
+ghost use Rattle.codes.specs.Words.{singletonOf};
+ghost use Rattle.esterel.specs.Statement.{size, nodes};
+ghost use Rattle.esterel.specs.Outcome.{statementAt};
+ghost use Rattle.table.specs.Program.{programOf};
+ghost use Rattle.table.specs.declared.Kind.the-variants.{Exit};
+ghost use Rattle.analysis.specs.Steps.{pauseSet, setOfStmt, sequenceOf, codesOf};
+ghost use Rattle.analysis.specs.Passes.{Surveyable, FilledTo, filled};
+use table::Kind;
+
+// The codes of a pause in K, or in A where `any` says so.
+fn pause_codes(any: bool) -> u64
+    ensures { λ r. ⌜ r ≡ word (pauseSet any) ⌝ }
+{
+    if any { 3 } else { 2 }
+}
+
+// The codes of a sequence: the second's count only where the first may end at once.
+fn sequence_codes(first: u64, second: u64) -> u64
+    ensures { λ r. ⌜ r ≡ sequenceOf first second ⌝ }
+{
+    let stays = codes::without_ended(first);
+    if codes::has(first, 0) {
+        return codes::union(stays, second);
+    }
+    stays
+}
+
+// The codes of an exit.
+fn exit_codes(level: usize) -> u64
+    requires { ⌜ level < 62 ⌝ }
+    ensures { λ r. ⌜ r ≡ singletonOf (2 + level) ⌝ }
+{
+    codes::singleton(2 + level as u32)
+}
+
+// The codes of a node from those of its children.
+fn codes_of(any: bool, kind: Kind, field: usize, first: u64, last: u64) -> u64
+    requires { ⌜ (kind ≡ Exit → field < 62) ⌝ }
+    ensures { λ r. ⌜ r ≡ codesOf any kind field first last ⌝ }
+{
+    match kind {
+        Kind::Nothing => codes::singleton(0),
+        Kind::Pause => pause_codes(any),
+        Kind::Emit => codes::singleton(0),
+        Kind::Exit => exit_codes(field),
+        Kind::Signal => last,
+        Kind::Present => codes::union(first, last),
+        Kind::Suspend => last,
+        Kind::Loop => codes::without_ended(last),
+        Kind::Sequence => sequence_codes(first, last),
+        Kind::Parallel => codes::parallel(first, last),
+        Kind::Trap => codes::caught(last),
+        Kind::Unknown => 0,
+    }
+}
+
+// The codes of a node, from the words of the nodes before it.
+fn codes_at(table: &[u8], sizes: &[u16], any: bool, sets: &[u64], node: usize) -> u64
+    requires { ⌜ Surveyable (now table) (now sizes) × (node < size (programOf (now table))) × (node ≤ length (now sets)) × FilledTo any (programOf (now table)) node (now sets) ⌝ }
+    ensures { λ r. ⌜ r ≡ word (setOfStmt any (statementAt (nodes (programOf (now (table .entry)))) node)) ⌝ }
+{
+    let kind = table::kind_at(table, node);
+    let field = table::field_at(table, node);
+    let children = table::arity(kind);
+    if children == 0 {
+        return codes_of(any, kind, field, 0, 0);
+    }
+    let last = sets[node - 1];
+    if children == 1 {
+        return codes_of(any, kind, field, 0, last);
+    }
+    let first = sets[node - 1 - table::size_at(sizes, node - 1)];
+    codes_of(any, kind, field, first, last)
+}
