@@ -96,7 +96,7 @@ def listing_theorem(at, vector):
     word, numbers = first[0], [int(x) for x in first[1:]]
     lines = [[int(x, base) for x, base in zip(line, (10, 10, 10, 16, 16, 16, 10))] for line in lines]
     # written again, with the nodes numbered from 0, the numbers must be the text: so nothing of it was passed over
-    again = " ".join(first) + "\n" + "".join("%d %d %d %x %x %x %d\n" % (i, *line[1:]) for i, line in enumerate(lines))
+    again = " ".join([word, *map(str, numbers)]) + "\n" + "".join("%d %d %d %x %x %x %d\n" % (i, *line[1:]) for i, line in enumerate(lines))
     if again != vector["listing"] or (word, bool(lines)) not in (("ok", True), ("refused", False)):
         sys.exit(f"line {at} of the listings has no listing: {vector['listing']!r}")
     right = ok(*numbers, [line[1:] for line in lines]) if lines else refused(*numbers)
@@ -231,17 +231,17 @@ def check(repo, name):
 
 def tally(what, theorems):
     count = collections.Counter(int(x.right.split()[1]) for x in theorems if x.right.startswith("refusal"))
-    numbers = ", ".join(f"{number}: {count[number]}" for number in sorted(count))
-    print(f"{what}: {len(theorems)} run; {len(theorems) - count.total()} accepted; refused by number: {numbers or 'none'} (13: starved)")
+    numbers = ", ".join(f"{number}{' (starved)' * (number == 13)}: {count[number]}" for number in sorted(count))
+    print(f"{what}: {len(theorems)} run; {len(theorems) - count.total()} accepted; refused by number: {numbers or 'none'}")
 
-def cut(text, most=400):
+def plain(text, most=300):  # lists without their signs
+    text = text.replace(" ∷ ", " ").replace(" []", "").replace("([])", "()")
     return text if len(text) <= most else text[:most] + f" .. ({len(text) - most} more)"
 
 def tell(theorem, message):
-    print(f"\nDIFFERENCE: {theorem.name}\n  {cut(theorem.left)}\n  expected: {cut(theorem.right)}\n  the checker says:")
-    for line in message.splitlines():
-        if not line.startswith(("  expected type", "  but this has type")):  # these two say again what stands above
-            print("    " + cut(line.strip()))
+    # of the message, what says where the two sides differ once computed, if that is there; the two sides whole follow it
+    message = message[max(message.find("computed as far"), 0) :].split("\n  expected type")[0]
+    print(f"\nDIFFERENCE: {theorem.name}\n  {plain(theorem.left, 3000)}\n  expected: {plain(theorem.right)}\n  the checker says: {plain(message, 1500)}")
 
 def run(repo, args):
     chance = random.Random(args.seed)
@@ -257,23 +257,18 @@ def run(repo, args):
         tally(what, some)
 
     proved, refusals, said = check(repo, "control")
-    if proved or set(refusals) != {x.name for x in controls[1:]}:
-        print(f"control: FAILED: the {len(controls) - 1} false theorems, and they alone, should be refused\n{said[-4000:]}")
-        return 1
-    print(f"control: refused as it should be ({len(refusals)} false theorems)", flush=True)
+    noticed = not proved and set(refusals) == {x.name for x in controls[1:]}
+    print("control: refused as it should be" if noticed else f"control: FAILED; refused: {', '.join(refusals)}\n{said[:2000]}", flush=True)
 
     began = time.time()
     proved, refusals, said = check(repo, "vectors")
     print(f"the checker took {time.time() - began:.0f} s for {len(theorems)} theorems")
-    if proved:
-        print("no difference: logic=proved")
-        return 0
-    if not refusals or set(refusals) - set(theorems):  # it stopped, or refuses something on which the theorems rest
+    if not proved and not set(refusals) & set(theorems):  # it stopped before them
         print(said[:4000])
     for name in filter(theorems.get, refusals):
         tell(theorems[name], refusals[name])
-    print(f"\nFAILED: {len(refusals)} refused")
-    return 1
+    print("no difference: logic=proved" if proved else f"\nFAILED: {len(refusals)} theorems refused")
+    return 0 if proved and noticed else 1
 
 def main():
     parser = argparse.ArgumentParser(description=__doc__, formatter_class=argparse.RawDescriptionHelpFormatter)

@@ -1,2 +1,4 @@
 pub mod Steps
 pub mod Nodes
+pub mod Filling
+pub mod Loops

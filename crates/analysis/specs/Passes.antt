@@ -1,15 +1,19 @@
 -- What the passes over an accepted table leave in their buffers.
 use Prim.Native.Nat.{ℕ, _*_, _<_, _≤_}
 use mathlib.Core.Path.{_≡_}
-use mathlib.Core.Bool.{Bool}
+use mathlib.Core.Bool.{Bool, true, false}
 use mathlib.Core.List.{List, _++_, map}
 use lib.ListN.{length, getD, drop}
-use Rattle.codes.specs.Codes.{word}
-use Rattle.esterel.specs.Statement.{Stmt, size, nodes}
-use Rattle.esterel.specs.Sets.{placesOf}
+use Rattle.codes.specs.Codes.{empty, word}
+use Rattle.esterel.specs.Statement.{nothing, Stmt, leaf, size, nodes}
+use Rattle.esterel.specs.Sets.{Place, at, placesOf}
+use Rattle.esterel.specs.Checks.{firstNode, endsAtOnce}
 use Rattle.esterel.specs.Outcome.{statementAt}
 use Rattle.table.specs.Program.{programOf, Readable}
-use Rattle.table.specs.Check.{placesCheck}
+use Rattle.table.specs.Check.{refuseFound, placesCheck}
+use Rattle.table.specs.declared.Kind.{Kind}
+use Rattle.table.specs.declared.Kind.the-variants.{Nothing, Pause, Emit, Exit, Signal, Present, Suspend, Loop, Sequence, Parallel, Trap, Unknown}
+use Rattle.table.specs.declared.Check.{Check}
 use Rattle.table.specs.declared.Check.the-variants.{Passed}
 use Rattle.analysis.specs.Steps.{setOfStmt}
 
@@ -20,10 +24,36 @@ pub record Surveyable (t sizes : List ℕ) : Type 0 where
   pub sized : (j : ℕ) → j < size (programOf t) → getD sizes j 0 ≡ size (statementAt (nodes (programOf t)) j)
   pub listed : size (programOf t) ≤ length sizes
 
--- the first i words of the buffer are those of the first i nodes
+-- the words of all nodes
+unfoldable pub wordsOf : Bool → Stmt → List ℕ
+wordsOf any p = map (λ q. word (setOfStmt any q)) (nodes p)
+
+-- the first i entries are the words of the first i nodes
 unfoldable pub FilledTo : Bool → Stmt → ℕ → List ℕ → Type 0
 FilledTo any p i sets = (j : ℕ) → j < i → getD sets j 0 ≡ word (setOfStmt any (statementAt (nodes p) j))
 
--- the words of all nodes, then what stood there before
-unfoldable pub filled : Bool → Stmt → List ℕ → List ℕ
-filled any p old = map (λ q. word (setOfStmt any q)) (nodes p) ++ drop (size p) old
+-- a column of the listing, then what stood in the buffer before
+abbrev pub onto : List ℕ → List ℕ → List ℕ
+onto column old = column ++ drop (length column) old
+
+-- check 11
+unfoldable pub loopsCheck : Stmt → Check
+loopsCheck p = refuseFound 11 (firstNode endsAtOnce (placesOf p) 0) Passed
+
+-- node i in its program
+abbrev pub placeAt : Stmt → ℕ → Place
+placeAt p i = getD (placesOf p) i (at 0 0 empty (leaf nothing))
+
+abbrev pub isLoop : Kind → Bool
+isLoop Nothing = false
+isLoop Pause = false
+isLoop Emit = false
+isLoop Exit = false
+isLoop Signal = false
+isLoop Present = false
+isLoop Suspend = false
+isLoop Loop = true
+isLoop Sequence = false
+isLoop Parallel = false
+isLoop Trap = false
+isLoop Unknown = false

@@ -1,15 +1,19 @@
 // The analysis of a table: start sets K, any-instant sets A, contexts S and marks.
 ghost use mathlib.Core.Path.{_≡_};
 ghost use Prim.Native.Nat.{ℕ, _+_, _-_, _*_, _<_, _≤_};
-ghost use lib.ListN.{length, getD};
+ghost use lib.ListN.{length, getD, take, drop};
+ghost use mathlib.Core.List.{_++_};
+ghost use mathlib.Core.Bool.{false};
 ghost use Rattle.codes.specs.Codes.{word};
 ghost use Rattle.codes.specs.Words.{singletonOf};
 ghost use Rattle.esterel.specs.Statement.{size, nodes};
 ghost use Rattle.esterel.specs.Outcome.{statementAt};
-ghost use Rattle.table.specs.Program.{programOf};
 ghost use Rattle.table.specs.declared.Kind.the-variants.{Exit};
 ghost use Rattle.analysis.specs.Steps.{pauseSet, setOfStmt, sequenceOf, codesOf};
-ghost use Rattle.analysis.specs.Passes.{Surveyable, FilledTo, filled};
+ghost use Rattle.esterel.specs.Checks.{endsAtOnce};
+ghost use Rattle.table.specs.Program.{programOf, Readable};
+ghost use Rattle.analysis.specs.Passes.{Surveyable, FilledTo, wordsOf, onto, loopsCheck, placeAt, isLoop};
+use table::Check;
 use table::Kind;
 
 // The codes of a pause in K, or in A where `any` says so.
@@ -76,4 +80,78 @@ fn codes_at(table: &[u8], sizes: &[u16], any: bool, sets: &[u64], node: usize) -
     }
     let first = sets[node - 1 - table::size_at(sizes, node - 1)];
     codes_of(any, kind, field, first, last)
+}
+
+// The words of all nodes, children before parents.
+fn fill(table: &[u8], sizes: &[u16], any: bool, sets: &mut [u64])
+    requires { ⌜ Surveyable (now table) (now sizes) × (size (programOf (now table)) ≤ length (now sets)) ⌝ }
+    ensures { λ _. ⌜ now (sets .exit) ≡ onto (wordsOf any (programOf (now (table .entry)))) (now (sets .entry)) ⌝ }
+{
+    let n = table.len() / 2;
+    let mut i: usize = 0;
+    while i < n {
+        sets[i] = codes_at(table, sizes, any, sets, i);
+        i += 1;
+    }
+}
+
+fn is_loop(kind: Kind) -> bool
+    ensures { λ r. ⌜ r ≡ isLoop kind ⌝ }
+{
+    match kind {
+        Kind::Nothing => false,
+        Kind::Pause => false,
+        Kind::Emit => false,
+        Kind::Exit => false,
+        Kind::Signal => false,
+        Kind::Present => false,
+        Kind::Suspend => false,
+        Kind::Loop => true,
+        Kind::Sequence => false,
+        Kind::Parallel => false,
+        Kind::Trap => false,
+        Kind::Unknown => false,
+    }
+}
+
+// Whether a node is a loop whose body may end at once.
+fn ends_at_once(table: &[u8], sets: &[u64], node: usize) -> bool
+    requires { ⌜ Readable (now table) × (node < size (programOf (now table))) × (node ≤ length (now sets)) × FilledTo false (programOf (now table)) node (now sets) ⌝ }
+    ensures { λ r. ⌜ r ≡ endsAtOnce (placeAt (programOf (now (table .entry))) node) ⌝ }
+{
+    if is_loop(table::kind_at(table, node)) {
+        return codes::has(sets[node - 1], 0);
+    }
+    false
+}
+
+// Check 11: the lowest loop whose body may end at once.
+fn check_loops(table: &[u8], sets: &[u64]) -> Check
+    requires { ⌜ Readable (now table) × (size (programOf (now table)) ≤ length (now sets)) × FilledTo false (programOf (now table)) (size (programOf (now table))) (now sets) ⌝ }
+    ensures { λ r. ⌜ r ≡ loopsCheck (programOf (now (table .entry))) ⌝ }
+{
+    let n = table.len() / 2;
+    let mut i: usize = 0;
+    while i < n {
+        if ends_at_once(table, sets, i) {
+            return Check::Refused {
+                number: 11,
+                node: i,
+            };
+        }
+        i += 1;
+    }
+    Check::Passed
+}
+
+// The first n words.
+fn copy(from: &[u64], to: &mut [u64], n: usize)
+    requires { ⌜ (n ≤ length (now from)) × (n ≤ length (now to)) ⌝ }
+    ensures { λ _. ⌜ now (to .exit) ≡ take n (now (from .entry)) ++ drop n (now (to .entry)) ⌝ }
+{
+    let mut i: usize = 0;
+    while i < n {
+        to[i] = from[i];
+        i += 1;
+    }
 }

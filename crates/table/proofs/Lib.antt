@@ -1,3 +1,4 @@
+pub mod Buffers
 pub mod View
 pub mod Walk
 pub mod Stack

@@ -1,0 +1,62 @@
+-- `analysis::copy` meets its contract: the entries before `i` are copied.
+use borrow.Author.Needs.{needs}
+use native.Mathlib.Omega.{arith}
+use Prim.Native.Nat.{_-_, _≤_, _<_}
+use mathlib.Core.Path.{refl}
+use lib.ListN.{length}
+use Rattle.analysis.proofs.Filling.{Copying, copying-length, copying-next, copying-end}
+use Rattle.analysis.proofs.copy.Statement.{statement}
+use Rattle.analysis.proofs.copy.Tie as tie
+
+abbrev Inv-loop : tie.InvT-loop
+Inv-loop from to₀ n i₀ to i = Copying from to₀ to n i
+
+abbrev μ-loop : tie.MeasureT-loop
+μ-loop from to₀ n i₀ to i = n - i
+
+loop-holds : tie.Need-loop-holds Inv-loop μ-loop
+loop-holds c = record { bound = omega arith; is = refl }
+
+mul-to : tie.Need-mul-to Inv-loop μ-loop
+mul-to c = search needs
+
+shared-slice-read-to : tie.Need-shared-slice-read-to Inv-loop μ-loop
+shared-slice-read-to c = omega (arith, c .before .before .before .pre .0)
+
+mul-to-2 : tie.Need-mul-to-2 Inv-loop μ-loop
+mul-to-2 c = search needs
+
+slice-write-to : tie.Need-slice-write-to Inv-loop μ-loop
+slice-write-to c = omega (arith, copying-length (c .before .before .before .pre .0) (c .before .before .before .pre .1) (c .before .before .loop .inv), c .before .before .before .pre .1)
+
+add-i : tie.Need-add-i Inv-loop μ-loop
+add-i c = omega arith
+
+loop-less : tie.Need-loop-less Inv-loop μ-loop
+loop-less c = omega arith
+
+loop-again : tie.Need-loop-again Inv-loop μ-loop
+loop-again c = copying-next (c .before .before .before .pre .0) (c .before .before .before .pre .1) (c .before .before .loop .inv) (omega arith)
+
+same-length : tie.Need-same-length Inv-loop μ-loop
+same-length c = copying-length (c .before .before .pre .0) (c .before .before .pre .1) (c .before .loop .inv)
+
+returns : tie.Need-returns Inv-loop μ-loop
+returns c = copying-end (c .before .before .pre .0) (c .before .before .pre .1) (c .before .loop .inv) (omega arith)
+
+pub copy-spec : {M : Type 1} → statement M
+copy-spec =
+    tie.close
+    (tie.spec
+    Inv-loop
+    μ-loop
+    loop-holds
+    mul-to
+    shared-slice-read-to
+    mul-to-2
+    slice-write-to
+    add-i
+    loop-less
+    loop-again
+    same-length
+    returns)
