@@ -1,4 +1,4 @@
--- The buffer of words while it is filled from the first node on.
+-- A buffer while a column is written into it from the first entry on.
 use mathlib.Core.Path.{_≡_, refl, sym, ap, _∙_}
 use mathlib.Core.Bool.{Bool}
 use mathlib.Core.List.{List, [], _∷_, _++_, map}
@@ -7,14 +7,13 @@ use native.Mathlib.Numerals.{add-one}
 use native.Mathlib.Omega.{arith}
 use lib.ListN.{length, getD, take, drop, set, length-map, List·getD-map, List·getD-append, List·getD-eq-default}
 use lib.Seq.{take-length}
-use native.Mathlib.Decide.{decLt}
 use Rattle.codes.specs.Codes.{word}
 use Rattle.esterel.specs.Statement.{nothing, Stmt, leaf, size, nodes}
 use Rattle.esterel.specs.Outcome.{statementAt}
 use Rattle.esterel.proofs.Sizes.{length-nodes}
 use Rattle.table.proofs.Buffers.{front, front-all, front-suc, length-front, front-at}
 use Rattle.analysis.specs.Steps.{setOfStmt}
-use Rattle.analysis.specs.Passes.{wordsOf, FilledTo, onto}
+use Rattle.analysis.specs.Passes.{wordsOf, FilledTo, onto, firstEnds, flagsOf}
 
 -- any column of a program's listing, by its nodes
 module _ (f : Stmt → ℕ) (p : Stmt) where
@@ -41,53 +40,47 @@ module _ (any : Bool) (p : Stmt) where
   unfolding wordsOf
   words-at = column-at (λ q. word (setOfStmt any q)) p
 
--- the first i entries are done
-pub record Filling (any : Bool) (p : Stmt) (old sets : List ℕ) (i : ℕ) : Type 0 where
-  pub bound : i ≤ size p
-  pub is : sets ≡ front (wordsOf any p) old i
+-- n entries of the column are to be written, and i of them are
+pub record Filling (column old now : List ℕ) (n i : ℕ) : Type 0 where
+  pub bound : i ≤ n
+  pub is : now ≡ front column old i
 
-module _ {any : Bool} {p : Stmt} {old sets : List ℕ} {i : ℕ} (room : size p ≤ length old) (o : Filling any p old sets i) where
-  pub filling-length : length sets ≡ length old
-  filling-length = ap length (o .is) ∙ length-front (wordsOf any p) old i (omega (arith, length-words any p, o .bound)) (omega (arith, o .bound))
+module _ {column old now : List ℕ} {n i : ℕ} (has : n ≤ length column) (room : n ≤ length old) (o : Filling column old now n i) where
+  pub filling-length : length now ≡ length old
+  filling-length = ap length (o .is) ∙ length-front column old i (omega (arith, o .bound)) (omega (arith, o .bound))
 
-  pub filling-to : FilledTo any p i sets
-  unfolding FilledTo
-  filling-to j h =
-      ap (λ l. getD l j 0) (o .is) ∙ front-at (wordsOf any p) old i j (omega (arith, length-words any p, o .bound)) h
-      ∙ words-at any p j (omega (arith, o .bound))
+  pub filling-at : (j : ℕ) → j < i → getD now j 0 ≡ getD column j 0
+  filling-at j h = ap (λ l. getD l j 0) (o .is) ∙ front-at column old i j (omega (arith, o .bound)) h
 
-  pub filling-next : (v : ℕ) → i < size p → v ≡ word (setOfStmt any (statementAt (nodes p) i)) → Filling any p old (set sets i v) (i + 1)
+  pub filling-next : (v : ℕ) → i < n → v ≡ getD column i 0 → Filling column old (set now i v) n (i + 1)
   filling-next v h e =
       record {
         bound = omega arith;
-        is = ap (λ l. set l i v) (o .is) ∙ front-suc (wordsOf any p) old i v (omega (arith, length-words any p)) (omega arith) (e ∙ sym (words-at any p i h)) ∙ ap (front (wordsOf any p) old) (sym (add-one i));
+        is = ap (λ l. set l i v) (o .is) ∙ front-suc column old i v (omega arith) (omega arith) e ∙ ap (front column old) (sym (add-one i));
       }
 
-  pub filling-end : size p ≤ i → sets ≡ onto (wordsOf any p) old
-  filling-end h =
-      let all : i ≡ length (wordsOf any p) = omega (arith, length-words any p, o .bound) in
-      o .is ∙ ap (front (wordsOf any p) old) all ∙ front-all (wordsOf any p) old
+  pub filling-end : n ≤ i → now ≡ take n column ++ drop n old
+  filling-end h = let all : i ≡ n = omega (arith, o .bound) in o .is ∙ ap (front column old) all
 
--- a buffer that is filled whole
-pub filled-to : (any : Bool) (p : Stmt) (old : List ℕ) → FilledTo any p (size p) (onto (wordsOf any p) old)
-unfolding FilledTo
-filled-to any p old j h = List·getD-append (wordsOf any p) _ 0 j (rw (length-words any p) h) ∙ words-at any p j h
+-- the whole column
+pub whole : (column old : List ℕ) (n : ℕ) → length column ≡ n → take n column ++ drop n old ≡ onto column old
+whole column old n e = rw (← e, take-length column) refl
 
--- a copy of the first n entries, i of them done
-pub record Copying (source old now : List ℕ) (n i : ℕ) : Type 0 where
-  pub bound : i ≤ n
-  pub is : now ≡ front source old i
+-- the words of the nodes
+module _ (any : Bool) (p : Stmt) where
+  pub words-to : {old now : List ℕ} {i : ℕ} → size p ≤ length old → Filling (wordsOf any p) old now (size p) i → FilledTo any p i now
+  unfolding FilledTo
+  words-to room o j h =
+      filling-at (omega (arith, length-words any p)) room o j h ∙ words-at any p j (omega (arith, o .bound))
 
-module _ {source old now : List ℕ} {n i : ℕ} (has : n ≤ length source) (room : n ≤ length old) (o : Copying source old now n i) where
-  pub copying-length : length now ≡ length old
-  copying-length = ap length (o .is) ∙ length-front source old i (omega (arith, o .bound)) (omega (arith, o .bound))
+  pub filled-to : (old : List ℕ) → FilledTo any p (size p) (onto (wordsOf any p) old)
+  unfolding FilledTo
+  filled-to old j h = List·getD-append (wordsOf any p) _ 0 j (rw (length-words any p) h) ∙ words-at any p j h
 
-  pub copying-next : i < n → Copying source old (set now i (getD source i 0)) n (i + 1)
-  copying-next h =
-      record {
-        bound = omega arith;
-        is = ap (λ l. set l i (getD source i 0)) (o .is) ∙ front-suc source old i (getD source i 0) (omega arith) (omega arith) refl ∙ ap (front source old) (sym (add-one i));
-      }
+pub length-flags : (p : Stmt) → length (flagsOf p) ≡ size p
+unfolding flagsOf
+length-flags p = length-column firstEnds p
 
-  pub copying-end : n ≤ i → now ≡ take n source ++ drop n old
-  copying-end h = let all : i ≡ n = omega (arith, o .bound) in o .is ∙ ap (front source old) all
+pub flags-at : (p : Stmt) (i : ℕ) → i < size p → getD (flagsOf p) i 0 ≡ firstEnds (statementAt (nodes p) i)
+unfolding flagsOf
+flags-at p i h = column-at firstEnds p i h

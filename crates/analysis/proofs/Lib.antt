@@ -2,3 +2,4 @@ pub mod Steps
 pub mod Nodes
 pub mod Filling
 pub mod Loops
+pub mod Flags

@@ -4,9 +4,9 @@ use mathlib.Core.Path.{_≡_}
 use mathlib.Core.Bool.{Bool, true, false}
 use mathlib.Core.List.{List, _++_, map}
 use lib.ListN.{length, getD, drop}
-use Rattle.codes.specs.Codes.{empty, word}
-use Rattle.esterel.specs.Statement.{nothing, Stmt, leaf, size, nodes}
-use Rattle.esterel.specs.Sets.{Place, at, placesOf}
+use Rattle.codes.specs.Codes.{empty, bit, word}
+use Rattle.esterel.specs.Statement.{nothing, Unary, Binary, present, sequence, parallel, Stmt, leaf, one, two, size, nodes}
+use Rattle.esterel.specs.Sets.{startSet, Place, at, placesOf, mark}
 use Rattle.esterel.specs.Checks.{firstNode, endsAtOnce}
 use Rattle.esterel.specs.Outcome.{statementAt}
 use Rattle.table.specs.Program.{programOf, Readable}
@@ -57,3 +57,24 @@ isLoop Sequence = false
 isLoop Parallel = false
 isLoop Trap = false
 isLoop Unknown = false
+
+-- whether a sequence's first child may end at once, as a byte
+abbrev pub firstEnds : Stmt → ℕ
+firstEnds (leaf l) = 0
+firstEnds (one u p) = 0
+firstEnds (two (present s) p q) = 0
+firstEnds (two sequence p q) = bit (startSet p 0)
+firstEnds (two parallel p q) = 0
+
+unfoldable pub flagsOf : Stmt → List ℕ
+flagsOf p = map firstEnds (nodes p)
+
+-- the contexts of all nodes, and their marks
+abbrev pub contextWord : Place → ℕ
+contextWord (at depth traps S p) = word S
+
+unfoldable pub contextsOf : Stmt → List ℕ
+contextsOf p = map contextWord (placesOf p)
+
+unfoldable pub marksOf : Stmt → List ℕ
+marksOf p = map mark (placesOf p)

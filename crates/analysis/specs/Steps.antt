@@ -1,6 +1,7 @@
 -- One node's set from its children's, on 64-bit words: what the passes compute. `last` is the word of the only child or of the second,
 -- `first` that of the first of two.
-use Prim.Native.Nat.{ℕ, _+_}
+use Prim.Native.Nat.{ℕ, zero, suc, _+_}
+use mathlib.Core.List.{List, [], _∷_}
 use mathlib.Core.Bool.{Bool, true, false, cond}
 use Rattle.codes.specs.Codes.{Codes, only, union, word}
 use Rattle.codes.specs.Words.{_∋_, singletonOf, unionOf, withoutEndedOf, meetsOf, parallelOf, caughtOf, underTrapOf, underParallelOf}
@@ -34,3 +35,78 @@ codesOf any Sequence f x y = sequenceOf x y
 codesOf any Parallel f x y = parallelOf x y
 codesOf any Trap f x y = caughtOf y
 codesOf any Unknown f x y = 0
+
+-- Contexts of the children, on words: P is the node's own, t the traps around it.
+-- the first of a sequence, whose second has the start set K
+unfoldable pub underFirstOf : (P K : ℕ) → ℕ
+underFirstOf P K = cond (meetsOf K P) (unionOf (withoutEndedOf P) (singletonOf 0)) (withoutEndedOf P)
+
+-- the second of a sequence, by whether its first may end at once
+abbrev pub underSecondOf : (P ends : ℕ) → ℕ
+underSecondOf P zero = 0
+underSecondOf P (suc e) = P
+
+-- of the only child, or of the first of two; K is the last child's start set
+abbrev pub leftOf : Kind → (P t K : ℕ) → ℕ
+leftOf Nothing P t K = P
+leftOf Pause P t K = P
+leftOf Emit P t K = P
+leftOf Exit P t K = P
+leftOf Signal P t K = P
+leftOf Present P t K = P
+leftOf Suspend P t K = P
+leftOf Loop P t K = unionOf P (singletonOf 0)
+leftOf Sequence P t K = underFirstOf P K
+leftOf Parallel P t K = underParallelOf t P
+leftOf Trap P t K = underTrapOf P
+leftOf Unknown P t K = P
+
+-- of the second of two; `ends` says whether the first may end at once
+abbrev pub rightOf : Kind → (P t ends : ℕ) → ℕ
+rightOf Nothing P t ends = P
+rightOf Pause P t ends = P
+rightOf Emit P t ends = P
+rightOf Exit P t ends = P
+rightOf Signal P t ends = P
+rightOf Present P t ends = P
+rightOf Suspend P t ends = P
+rightOf Loop P t ends = P
+rightOf Sequence P t ends = underSecondOf P ends
+rightOf Parallel P t ends = underParallelOf t P
+rightOf Trap P t ends = P
+rightOf Unknown P t ends = P
+
+-- the traps around the children
+abbrev pub trapsOf : Kind → ℕ → ℕ
+trapsOf Nothing t = t
+trapsOf Pause t = t
+trapsOf Emit t = t
+trapsOf Exit t = t
+trapsOf Signal t = t
+trapsOf Present t = t
+trapsOf Suspend t = t
+trapsOf Loop t = t
+trapsOf Sequence t = t
+trapsOf Parallel t = t
+trapsOf Trap t = t + 1
+trapsOf Unknown t = t
+
+-- what is pushed for the children: nothing, the only one's, or the first's and then the second's
+abbrev pub pushed : (children left right : ℕ) → List ℕ
+pushed zero x y = []
+pushed (suc zero) x y = x ∷ []
+pushed (suc (suc c)) x y = x ∷ y ∷ []
+
+abbrev pub isSequence : Kind → Bool
+isSequence Nothing = false
+isSequence Pause = false
+isSequence Emit = false
+isSequence Exit = false
+isSequence Signal = false
+isSequence Present = false
+isSequence Suspend = false
+isSequence Loop = false
+isSequence Sequence = true
+isSequence Parallel = false
+isSequence Trap = false
+isSequence Unknown = false

@@ -4,15 +4,17 @@ ghost use Prim.Native.Nat.{ℕ, _+_, _-_, _*_, _<_, _≤_};
 ghost use lib.ListN.{length, getD, take, drop};
 ghost use mathlib.Core.List.{_++_};
 ghost use mathlib.Core.Bool.{false};
-ghost use Rattle.codes.specs.Codes.{word};
-ghost use Rattle.codes.specs.Words.{singletonOf};
+ghost use Rattle.codes.specs.Words.{singletonOf, meetsOf};
+ghost use Rattle.codes.specs.Codes.{bit, word};
+ghost use lib.Seq.{sets as setsFrom};
+ghost use Rattle.table.specs.Kinds.{kindOf, arityOf};
 ghost use Rattle.esterel.specs.Statement.{size, nodes};
 ghost use Rattle.esterel.specs.Outcome.{statementAt};
 ghost use Rattle.table.specs.declared.Kind.the-variants.{Exit};
-ghost use Rattle.analysis.specs.Steps.{pauseSet, setOfStmt, sequenceOf, codesOf};
+ghost use Rattle.analysis.specs.Steps.{pauseSet, setOfStmt, sequenceOf, codesOf, underFirstOf, underSecondOf, leftOf, rightOf, trapsOf, pushed, isSequence};
 ghost use Rattle.esterel.specs.Checks.{endsAtOnce};
 ghost use Rattle.table.specs.Program.{programOf, Readable};
-ghost use Rattle.analysis.specs.Passes.{Surveyable, FilledTo, wordsOf, onto, loopsCheck, placeAt, isLoop};
+ghost use Rattle.analysis.specs.Passes.{Surveyable, FilledTo, wordsOf, onto, loopsCheck, placeAt, isLoop, firstEnds, flagsOf, contextsOf, marksOf};
 use table::Check;
 use table::Kind;
 
@@ -154,4 +156,139 @@ fn copy(from: &[u64], to: &mut [u64], n: usize)
         to[i] = from[i];
         i += 1;
     }
+}
+
+fn is_sequence(kind: Kind) -> bool
+    ensures { λ r. ⌜ r ≡ isSequence kind ⌝ }
+{
+    match kind {
+        Kind::Nothing => false,
+        Kind::Pause => false,
+        Kind::Emit => false,
+        Kind::Exit => false,
+        Kind::Signal => false,
+        Kind::Present => false,
+        Kind::Suspend => false,
+        Kind::Loop => false,
+        Kind::Sequence => true,
+        Kind::Parallel => false,
+        Kind::Trap => false,
+        Kind::Unknown => false,
+    }
+}
+
+// Whether a node is a sequence whose first child may end at once: 1 or 0.
+fn first_ends(table: &[u8], sizes: &[u16], sets: &[u64], node: usize) -> u8
+    requires { ⌜ Surveyable (now table) (now sizes) × (node < size (programOf (now table))) × (node ≤ length (now sets)) × FilledTo false (programOf (now table)) node (now sets) ⌝ }
+    ensures { λ r. ⌜ r ≡ firstEnds (statementAt (nodes (programOf (now (table .entry)))) node) ⌝ }
+{
+    if is_sequence(table::kind_at(table, node)) {
+        let first = sets[node - 1 - table::size_at(sizes, node - 1)];
+        if codes::has(first, 0) {
+            return 1;
+        }
+    }
+    0
+}
+
+// For each node whether it is a sequence whose first child may end at once. The walk that fills in the contexts asks it of a
+// sequence before the mark takes the byte's place, and so needs no sizes.
+fn fill_flags(table: &[u8], sizes: &[u16], sets: &[u64], flags: &mut [u8])
+    requires { ⌜ Surveyable (now table) (now sizes) × (size (programOf (now table)) ≤ length (now sets)) × FilledTo false (programOf (now table)) (size (programOf (now table))) (now sets) × (size (programOf (now table)) ≤ length (now flags)) ⌝ }
+    ensures { λ _. ⌜ now (flags .exit) ≡ onto (flagsOf (programOf (now (table .entry)))) (now (flags .entry)) ⌝ }
+{
+    let n = table.len() / 2;
+    let mut i: usize = 0;
+    while i < n {
+        flags[i] = first_ends(table, sizes, sets, i);
+        i += 1;
+    }
+}
+
+// The context of a sequence's first child, from the sequence's own and the second's start set.
+fn first_context(context: u64, second: u64) -> u64
+    ensures { λ r. ⌜ r ≡ underFirstOf context second ⌝ }
+{
+    let others = codes::without_ended(context);
+    if codes::meets(second, context) {
+        return codes::union(others, codes::singleton(0));
+    }
+    others
+}
+
+// The context of a sequence's second child.
+fn second_context(context: u64, ends: u8) -> u64
+    ensures { λ r. ⌜ r ≡ underSecondOf context ends ⌝ }
+{
+    if ends == 0 { 0 } else { context }
+}
+
+// The context of the only child, or of the first of two; `last` is the last child's start set.
+fn left_context(kind: Kind, context: u64, traps: u32, last: u64) -> u64
+    requires { ⌜ traps ≤ 62 ⌝ }
+    ensures { λ r. ⌜ r ≡ leftOf kind context traps last ⌝ }
+{
+    match kind {
+        Kind::Nothing => context,
+        Kind::Pause => context,
+        Kind::Emit => context,
+        Kind::Exit => context,
+        Kind::Signal => context,
+        Kind::Present => context,
+        Kind::Suspend => context,
+        Kind::Loop => codes::union(context, codes::singleton(0)),
+        Kind::Sequence => first_context(context, last),
+        Kind::Parallel => codes::under_parallel(context, traps),
+        Kind::Trap => codes::under_trap(context),
+        Kind::Unknown => context,
+    }
+}
+
+// The context of the second of two children; `ends` says whether the first may end at once.
+fn right_context(kind: Kind, context: u64, traps: u32, ends: u8) -> u64
+    requires { ⌜ traps ≤ 62 ⌝ }
+    ensures { λ r. ⌜ r ≡ rightOf kind context traps ends ⌝ }
+{
+    match kind {
+        Kind::Nothing => context,
+        Kind::Pause => context,
+        Kind::Emit => context,
+        Kind::Exit => context,
+        Kind::Signal => context,
+        Kind::Present => context,
+        Kind::Suspend => context,
+        Kind::Loop => context,
+        Kind::Sequence => second_context(context, ends),
+        Kind::Parallel => codes::under_parallel(context, traps),
+        Kind::Trap => context,
+        Kind::Unknown => context,
+    }
+}
+
+// The traps around the children.
+fn child_traps(kind: Kind, traps: u32) -> u32
+    requires { ⌜ traps ≤ 62 ⌝ }
+    ensures { λ r. ⌜ r ≡ trapsOf kind traps ⌝ }
+{
+    match kind {
+        Kind::Nothing => traps,
+        Kind::Pause => traps,
+        Kind::Emit => traps,
+        Kind::Exit => traps,
+        Kind::Signal => traps,
+        Kind::Present => traps,
+        Kind::Suspend => traps,
+        Kind::Loop => traps,
+        Kind::Sequence => traps,
+        Kind::Parallel => traps,
+        Kind::Trap => traps + 1,
+        Kind::Unknown => traps,
+    }
+}
+
+// 1 if the codes meet the context, else 0.
+fn mark(set: u64, context: u64) -> u8
+    ensures { λ r. ⌜ r ≡ bit (meetsOf set context) ⌝ }
+{
+    if codes::meets(set, context) { 1 } else { 0 }
 }

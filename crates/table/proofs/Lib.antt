@@ -3,3 +3,7 @@ pub mod View
 pub mod Walk
 pub mod Stack
 pub mod Pass
+pub mod Stacks
+pub mod Said
+pub mod Found
+pub mod Surveying

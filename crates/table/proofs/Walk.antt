@@ -86,7 +86,7 @@ program p = record { depth = 1; traps = 0; loops = 0; context = empty; root = p 
 pub length-places : (p : Stmt) (d t : ℕ) (P : Codes) → length (places d t P p) ≡ size p
 length-places p d t P = sym (length-map (places d t P p) stmtOf) ∙ ap length (statements p d t P) ∙ length-nodes p
 
-pub begin : (p : Stmt) → Walk p (size p) (program p ∷ [])
+unfoldable pub begin : (p : Stmt) → Walk p (size p) (program p ∷ [])
 begin p =
     record {
       seen = [];

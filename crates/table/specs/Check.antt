@@ -5,19 +5,22 @@ use mathlib.Core.Bool.{Bool, true, false, not, _&&_, _||_, cond}
 use mathlib.Core.Option.{Option, none, some}
 use mathlib.Core.List.{List, []}
 use lib.ListN.{length, getD}
-use lib.Dec.{eqb, ltb}
-use Rattle.esterel.specs.Limits.{maxNodes}
+use lib.Dec.{eqb, leb, ltb}
+use Rattle.esterel.specs.Limits.{maxNodes, maxDepth, maxTraps}
 use Rattle.esterel.specs.Statement.{Stmt, size, nodes, loopDepth}
+use Rattle.esterel.specs.Codes.{bit}
 use Rattle.esterel.specs.Sets.{Place, placesOf}
 use Rattle.esterel.specs.Table.{Verdict, passed, refused, scan}
 use Rattle.esterel.specs.Checks.{tooDeep, tooManyTraps, uncaught, firstNode}
 use Rattle.esterel.specs.Outcome.{statementAt}
-use Rattle.table.specs.Kinds.{arityOf, plainOf}
+use Rattle.table.specs.Kinds.{arityOf, plainOf, isTrap, isLoop, isExit}
 use Rattle.table.specs.declared.Kind.{Kind}
 use Rattle.table.specs.declared.Kind.the-variants.{Nothing, Pause, Emit, Exit, Signal, Present, Suspend, Loop, Sequence, Parallel, Trap, Unknown}
 use Rattle.table.specs.declared.Check.{Check}
 use Rattle.table.specs.declared.Check.the-variants.{Passed, Refused}
 use Rattle.table.specs.declared.Survey.{Survey}
+use Rattle.table.specs.declared.Faults.{Faults}
+use Rattle.table.specs.declared.Nesting.{Nesting}
 
 -- the number and the node of an answer, where it refuses, before what comes next
 abbrev pub refuse : Check → Verdict → Verdict
@@ -89,6 +92,28 @@ refuseFound number (some node) next = Refused number node
 unfoldable pub placesCheck : List Place → ℕ → Check
 placesCheck ps n =
     refuseFound 8 (firstNode tooDeep ps n) (refuseFound 9 (firstNode tooManyTraps ps n) (refuseFound 10 (firstNode uncaught ps n) Passed))
+
+-- an answer, and the next where it passed
+abbrev pub firstOf : Check → Check → Check
+firstOf Passed next = next
+firstOf (Refused number node) next = Refused number node
+
+-- checks 8, 9 and 10 with one more node, the lowest
+pub record Seen (o : Faults) (k : Kind) (field node : ℕ) (n : Nesting) (r : Faults) : Type 0 where
+  pub depths : r .depths ≡ cond (ltb maxDepth (n .depth)) (Refused 8 node) (o .depths)
+  pub traps : r .traps ≡ cond (isTrap k && ltb maxTraps (n .traps + 1)) (Refused 9 node) (o .traps)
+  pub exits : r .exits ≡ cond (isExit k && leb (n .traps) field) (Refused 10 node) (o .exits)
+
+-- how the children of a node are nested
+pub record Nested (k : Kind) (n r : Nesting) : Type 0 where
+  pub depth : r .depth ≡ n .depth + 1
+  pub traps : r .traps ≡ n .traps + bit (isTrap k)
+  pub loops : r .loops ≡ n .loops + bit (isLoop k)
+
+pub record Shallow (m : ℕ) (n : Nesting) : Type 0 where
+  pub depth : n .depth ≤ m
+  pub traps : n .traps ≤ m
+  pub loops : n .loops ≤ m
 
 -- what a survey of a program finds
 pub record Surveyed (p : Stmt) (r : Survey) : Type 0 where

@@ -54,3 +54,51 @@ plainOf Sequence = true
 plainOf Parallel = true
 plainOf Trap = true
 plainOf Unknown = false
+
+-- the nodes that are exits, loops, traps, sequences
+abbrev pub exits : Node → Bool
+exits (takes0 nothing) = false
+exits (takes0 pause) = false
+exits (takes0 (emit s)) = false
+exits (takes0 (exit level)) = true
+exits (takes1 u) = false
+exits (takes2 b) = false
+exits (faulty number) = false
+
+abbrev pub repeats : Node → Bool
+repeats (takes0 l) = false
+repeats (takes1 (signal s)) = false
+repeats (takes1 (suspend s)) = false
+repeats (takes1 loop) = true
+repeats (takes1 trap) = false
+repeats (takes2 b) = false
+repeats (faulty number) = false
+
+abbrev pub catches : Node → Bool
+catches (takes0 l) = false
+catches (takes1 (signal s)) = false
+catches (takes1 (suspend s)) = false
+catches (takes1 loop) = false
+catches (takes1 trap) = true
+catches (takes2 b) = false
+catches (faulty number) = false
+
+abbrev pub isExit : Kind → Bool
+isExit k = exits (headOf k 0)
+
+abbrev pub isLoop : Kind → Bool
+isLoop k = repeats (headOf k 0)
+
+abbrev pub isTrap : Kind → Bool
+isTrap k = catches (headOf k 0)
+
+abbrev pub orders : Node → Bool
+orders (takes0 l) = false
+orders (takes1 u) = false
+orders (takes2 (present s)) = false
+orders (takes2 sequence) = true
+orders (takes2 parallel) = false
+orders (faulty number) = false
+
+abbrev pub isSequence : Kind → Bool
+isSequence k = orders (headOf k 0)

@@ -1,9 +1,12 @@
 // The table of a program: what its bytes say, checks 1 to 10, and the sizes of the subtrees.
 ghost use mathlib.Core.Path.{_≡_};
-ghost use Prim.Native.Nat.{ℕ, _+_, _-_, _*_, _<_, _≤_};
-ghost use lib.ListN.{length, getD};
-ghost use Rattle.table.specs.Kinds.{kindOf, arityOf, plainOf};
-ghost use Rattle.table.specs.Check.{lengthCheck, nodeCheck, WellSized, Room, spanOf, Read};
+ghost use mathlib.Core.Bool.{cond};
+ghost use Prim.Native.Nat.{ℕ, _+_, _-_, _*_, _<_, _≤_, max};
+ghost use lib.ListN.{length, getD, set};
+ghost use Rattle.esterel.specs.Limits.{maxNodes};
+ghost use Rattle.table.specs.Kinds.{kindOf, arityOf, plainOf, isTrap, isLoop, isExit, isSequence};
+ghost use Rattle.table.specs.Program.{programOf, Readable};
+ghost use Rattle.table.specs.Check.{lengthCheck, nodeCheck, WellSized, Room, spanOf, Read, firstOf, Shallow, Nested, Seen, Surveyed};
 
 // What a kind byte says.
 pub enum Kind {
@@ -77,6 +80,82 @@ pub fn is_plain(kind: Kind) -> bool
         Kind::Sequence => true,
         Kind::Parallel => true,
         Kind::Trap => true,
+        Kind::Unknown => false,
+    }
+}
+
+fn is_trap(kind: Kind) -> bool
+    ensures { λ r. ⌜ r ≡ isTrap kind ⌝ }
+{
+    match kind {
+        Kind::Nothing => false,
+        Kind::Pause => false,
+        Kind::Emit => false,
+        Kind::Exit => false,
+        Kind::Signal => false,
+        Kind::Present => false,
+        Kind::Suspend => false,
+        Kind::Loop => false,
+        Kind::Sequence => false,
+        Kind::Parallel => false,
+        Kind::Trap => true,
+        Kind::Unknown => false,
+    }
+}
+
+pub fn is_loop(kind: Kind) -> bool
+    ensures { λ r. ⌜ r ≡ isLoop kind ⌝ }
+{
+    match kind {
+        Kind::Nothing => false,
+        Kind::Pause => false,
+        Kind::Emit => false,
+        Kind::Exit => false,
+        Kind::Signal => false,
+        Kind::Present => false,
+        Kind::Suspend => false,
+        Kind::Loop => true,
+        Kind::Sequence => false,
+        Kind::Parallel => false,
+        Kind::Trap => false,
+        Kind::Unknown => false,
+    }
+}
+
+fn is_exit(kind: Kind) -> bool
+    ensures { λ r. ⌜ r ≡ isExit kind ⌝ }
+{
+    match kind {
+        Kind::Nothing => false,
+        Kind::Pause => false,
+        Kind::Emit => false,
+        Kind::Exit => true,
+        Kind::Signal => false,
+        Kind::Present => false,
+        Kind::Suspend => false,
+        Kind::Loop => false,
+        Kind::Sequence => false,
+        Kind::Parallel => false,
+        Kind::Trap => false,
+        Kind::Unknown => false,
+    }
+}
+
+pub fn is_sequence(kind: Kind) -> bool
+    ensures { λ r. ⌜ r ≡ isSequence kind ⌝ }
+{
+    match kind {
+        Kind::Nothing => false,
+        Kind::Pause => false,
+        Kind::Emit => false,
+        Kind::Exit => false,
+        Kind::Signal => false,
+        Kind::Present => false,
+        Kind::Suspend => false,
+        Kind::Loop => false,
+        Kind::Sequence => true,
+        Kind::Parallel => false,
+        Kind::Trap => false,
         Kind::Unknown => false,
     }
 }
@@ -197,4 +276,139 @@ pub fn read_nodes(table: &[u8], sizes: &mut [u16]) -> Check
         return Check::Passed;
     }
     Check::Refused { number: 7, node: 0 }
+}
+
+// How deep a node stands, and in how many traps and loops.
+struct Nesting {
+    depth: usize,
+    traps: usize,
+    loops: usize,
+}
+
+// The answers of checks 8, 9 and 10 over the nodes seen so far.
+struct Faults {
+    depths: Check,
+    traps: Check,
+    exits: Check,
+}
+
+fn larger(a: usize, b: usize) -> usize
+    ensures { λ r. ⌜ r ≡ max a b ⌝ }
+{
+    if a <= b { b } else { a }
+}
+
+// A refusal at a lower node takes the place of one at a higher.
+fn refuse_if(fails: bool, number: u8, node: usize, otherwise: Check) -> Check
+    ensures { λ r. ⌜ r ≡ cond fails (Check.Refused number node) otherwise ⌝ }
+{
+    if fails {
+        return Check::Refused { number, node };
+    }
+    otherwise
+}
+
+// How the children of a node are nested.
+fn nest(kind: Kind, node: Nesting) -> Nesting
+    requires { ⌜ Shallow maxNodes node ⌝ }
+    ensures { λ r. ⌜ Nested kind node r ⌝ }
+{
+    Nesting {
+        depth: node.depth + 1,
+        traps: node.traps + is_trap(kind) as usize,
+        loops: node.loops + is_loop(kind) as usize,
+    }
+}
+
+// Checks 8, 9 and 10 of one more node, the lowest.
+fn seen(faults: Faults, kind: Kind, field: usize, node: usize, nesting: Nesting) -> Faults
+    requires { ⌜ Shallow maxNodes nesting ⌝ }
+    ensures { λ r. ⌜ Seen faults kind field node nesting r ⌝ }
+{
+    let depths = faults.depths;
+    let traps = faults.traps;
+    let exits = faults.exits;
+    Faults {
+        depths: refuse_if(esterel::MAX_DEPTH < nesting.depth, 8, node, depths),
+        traps: refuse_if(
+            is_trap(kind) & (esterel::MAX_TRAPS < nesting.traps + 1),
+            9,
+            node,
+            traps,
+        ),
+        exits: refuse_if(is_exit(kind) & (nesting.traps <= field), 10, node, exits),
+    }
+}
+
+// The first refusal: each check comes before the next.
+fn first_refusal(faults: Faults) -> Check
+    ensures { λ r. ⌜ r ≡ firstOf (faults .depths) (firstOf (faults .traps) (faults .exits)) ⌝ }
+{
+    let depths = faults.depths;
+    let traps = faults.traps;
+    let exits = faults.exits;
+    match depths {
+        Check::Refused { number: _, node: _ } => depths,
+        Check::Passed => match traps {
+            Check::Refused { number: _, node: _ } => traps,
+            Check::Passed => exits,
+        },
+    }
+}
+
+fn entry(stack: &[u16; esterel::MAX_NODES], index: usize) -> usize
+    requires { ⌜ index < maxNodes ⌝ }
+    ensures { λ r. ⌜ r ≡ getD (now (stack .entry)) index 0 ⌝ }
+{
+    wide(stack[index])
+}
+
+// A number on top of a stack, for a child, and once more for a second. They wait if the node has them.
+fn push(stack: &mut [u16; esterel::MAX_NODES], top: usize, number: usize)
+    requires { ⌜ (top + 1 < maxNodes) × (number < 65536) ⌝ }
+    ensures { λ _. ⌜ now (stack .exit) ≡ set (set (now (stack .entry)) top number) (top + 1) number ⌝ }
+{
+    stack[top] = number as u16;
+    stack[top + 1] = number as u16;
+}
+
+// Checks 8, 9 and 10, and the loop depth, in one pass from the last node to the first. What waits are the subtrees that end
+// right before the nodes seen, the one that ends next on top; three stacks have how each is nested. First the program waits.
+pub fn survey_table(table: &[u8]) -> Survey
+    requires { ⌜ Readable (now table) ⌝ }
+    ensures { λ r. ⌜ Surveyed (programOf (now (table .entry))) r ⌝ }
+{
+    let mut depths = [0u16; esterel::MAX_NODES];
+    let mut traps = [0u16; esterel::MAX_NODES];
+    let mut loops = [0u16; esterel::MAX_NODES];
+    depths[0] = 1;
+    let mut faults = Faults {
+        depths: Check::Passed,
+        traps: Check::Passed,
+        exits: Check::Passed,
+    };
+    let mut most: usize = 0;
+    let mut waiting: usize = 1;
+    let mut i = table.len() / 2;
+    while 0 < i {
+        i -= 1;
+        waiting -= 1;
+        let kind = kind_at(table, i);
+        let nesting = Nesting {
+            depth: entry(&depths, waiting),
+            traps: entry(&traps, waiting),
+            loops: entry(&loops, waiting),
+        };
+        faults = seen(faults, kind, field_at(table, i), i, nesting);
+        most = larger(most, nesting.loops);
+        let inner = nest(kind, nesting);
+        push(&mut depths, waiting, inner.depth);
+        push(&mut traps, waiting, inner.traps);
+        push(&mut loops, waiting, inner.loops);
+        waiting += arity(kind);
+    }
+    Survey {
+        check: first_refusal(faults),
+        loops: most,
+    }
 }
