@@ -13,11 +13,11 @@ use Rattle.esterel.specs.Sets.{startSet}
 use Rattle.esterel.specs.Outcome.{statementAt}
 use Rattle.esterel.proofs.Sizes.{size-pos}
 use Rattle.esterel.proofs.Subtrees.{two-children}
-use Rattle.table.specs.Kinds.{kindOf}
+use Rattle.table.specs.Kinds.{kindOf, isSequence}
 use Rattle.table.specs.Program.{programOf}
 use Rattle.table.specs.declared.Kind.{Kind}
 use Rattle.table.proofs.View.{kind-byte}
-use Rattle.analysis.specs.Steps.{setOfStmt, isSequence}
+use Rattle.analysis.specs.Steps.{setOfStmt}
 use Rattle.analysis.specs.Passes.{Surveyable, FilledTo, firstEnds}
 
 data Sequenced (w : Stmt) : Bool → Type 0 where

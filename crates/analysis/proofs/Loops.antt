@@ -18,7 +18,7 @@ use Rattle.esterel.specs.Outcome.{statementAt}
 use Rattle.esterel.proofs.Accepted.{stmtOf, statements}
 use Rattle.esterel.proofs.Sizes.{size-pos}
 use Rattle.esterel.proofs.Subtrees.{only-child}
-use Rattle.table.specs.Kinds.{kindOf}
+use Rattle.table.specs.Kinds.{kindOf, isLoop}
 use Rattle.table.specs.Program.{programOf, Readable}
 use Rattle.table.specs.Check.{refuseFound}
 use Rattle.table.specs.declared.Kind.{Kind}
@@ -26,7 +26,7 @@ use Rattle.table.specs.declared.Check.the-variants.{Passed, Refused}
 use Rattle.table.proofs.View.{kind-byte}
 use Rattle.table.proofs.Walk.{length-places}
 use Rattle.analysis.specs.Steps.{setOfStmt}
-use Rattle.analysis.specs.Passes.{FilledTo, loopsCheck, placeAt, isLoop}
+use Rattle.analysis.specs.Passes.{FilledTo, loopsCheck, placeAt}
 
 -- the statement of a place decides
 abbrev loopEnds : Stmt → Bool

@@ -1,1 +1,53 @@
--- to be written
+-- What `analyse` answers and leaves in the lent buffers.
+use Prim.Native.Nat.{ℕ, _/_}
+use mathlib.Core.Path.{_≡_}
+use mathlib.Core.Bool.{Bool, true, false, _&&_}
+use mathlib.Core.List.{List, [], map}
+use lib.Dec.{leb}
+use lib.ListN.{length}
+use Rattle.esterel.specs.Statement.{Stmt, size, loopDepth}
+use Rattle.esterel.specs.Table.{Verdict, passed, refused, scan, checkLength}
+use Rattle.esterel.specs.Checks.{checkProgram, Line, line, listing}
+use Rattle.analysis.specs.Passes.{onto}
+use Rattle.analysis.specs.declared.Analysed.{Analysed}
+use Rattle.analysis.specs.declared.Analysed.the-variants.{Done, Refused}
+
+-- check 3, between 2 and 4: the lent buffers have an entry for each node
+abbrev pub checkRoom : Bool → Verdict → Verdict
+checkRoom true next = next
+checkRoom false next = refused 3 0
+
+-- checks 1, 2, 3, 4 to 11, in this order
+unfoldable pub checked : Bool → List ℕ → Verdict
+checked room t = checkLength t (checkRoom room (checkProgram (scan t 0 [])))
+
+-- n entries for each of K, A, S and marks
+abbrev pub roomFor : (n starts anys contexts marks : ℕ) → Bool
+roomFor n starts anys contexts marks = leb n starts && leb n anys && leb n contexts && leb n marks
+
+-- the number and values of this paper for each case of the answer
+unfoldable pub answerOf : Verdict → Analysed
+answerOf (passed p) = Done (size p) (loopDepth p)
+answerOf (refused number node) = Refused number node
+
+-- the columns of the listing
+abbrev pub kOf : Line → ℕ
+kOf (line kind field K A S mark) = K
+
+abbrev pub aOf : Line → ℕ
+aOf (line kind field K A S mark) = A
+
+abbrev pub sOf : Line → ℕ
+sOf (line kind field K A S mark) = S
+
+abbrev pub markOf : Line → ℕ
+markOf (line kind field K A S mark) = mark
+
+-- a buffer after the call: its column in postorder and the old entries past it; after a refusal all as they were
+unfoldable pub column : (Line → ℕ) → Verdict → List ℕ → List ℕ
+column f (passed p) old = onto (map f (listing p)) old
+column f (refused number node) old = old
+
+-- what a call over the table and these buffers comes to
+abbrev pub verdictFor : (t starts anys contexts marks : List ℕ) → Verdict
+verdictFor t starts anys contexts marks = checked (roomFor (length t / 2) (length starts) (length anys) (length contexts) (length marks)) t

@@ -11,8 +11,6 @@ use Rattle.esterel.specs.Checks.{firstNode, endsAtOnce}
 use Rattle.esterel.specs.Outcome.{statementAt}
 use Rattle.table.specs.Program.{programOf, Readable}
 use Rattle.table.specs.Check.{refuseFound, placesCheck}
-use Rattle.table.specs.declared.Kind.{Kind}
-use Rattle.table.specs.declared.Kind.the-variants.{Nothing, Pause, Emit, Exit, Signal, Present, Suspend, Loop, Sequence, Parallel, Trap, Unknown}
 use Rattle.table.specs.declared.Check.{Check}
 use Rattle.table.specs.declared.Check.the-variants.{Passed}
 use Rattle.analysis.specs.Steps.{setOfStmt}
@@ -43,20 +41,6 @@ loopsCheck p = refuseFound 11 (firstNode endsAtOnce (placesOf p) 0) Passed
 -- node i in its program
 abbrev pub placeAt : Stmt → ℕ → Place
 placeAt p i = getD (placesOf p) i (at 0 0 empty (leaf nothing))
-
-abbrev pub isLoop : Kind → Bool
-isLoop Nothing = false
-isLoop Pause = false
-isLoop Emit = false
-isLoop Exit = false
-isLoop Signal = false
-isLoop Present = false
-isLoop Suspend = false
-isLoop Loop = true
-isLoop Sequence = false
-isLoop Parallel = false
-isLoop Trap = false
-isLoop Unknown = false
 
 -- whether a sequence's first child may end at once, as a byte
 abbrev pub firstEnds : Stmt → ℕ

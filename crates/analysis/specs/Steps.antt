@@ -96,17 +96,3 @@ abbrev pub pushed : (children left right : ℕ) → List ℕ
 pushed zero x y = []
 pushed (suc zero) x y = x ∷ []
 pushed (suc (suc c)) x y = x ∷ y ∷ []
-
-abbrev pub isSequence : Kind → Bool
-isSequence Nothing = false
-isSequence Pause = false
-isSequence Emit = false
-isSequence Exit = false
-isSequence Signal = false
-isSequence Present = false
-isSequence Suspend = false
-isSequence Loop = false
-isSequence Sequence = true
-isSequence Parallel = false
-isSequence Trap = false
-isSequence Unknown = false

@@ -11,10 +11,10 @@ ghost use Rattle.table.specs.Kinds.{kindOf, arityOf};
 ghost use Rattle.esterel.specs.Statement.{size, nodes};
 ghost use Rattle.esterel.specs.Outcome.{statementAt};
 ghost use Rattle.table.specs.declared.Kind.the-variants.{Exit};
-ghost use Rattle.analysis.specs.Steps.{pauseSet, setOfStmt, sequenceOf, codesOf, underFirstOf, underSecondOf, leftOf, rightOf, trapsOf, pushed, isSequence};
+ghost use Rattle.analysis.specs.Steps.{pauseSet, setOfStmt, sequenceOf, codesOf, underFirstOf, underSecondOf, leftOf, rightOf, trapsOf, pushed};
 ghost use Rattle.esterel.specs.Checks.{endsAtOnce};
 ghost use Rattle.table.specs.Program.{programOf, Readable};
-ghost use Rattle.analysis.specs.Passes.{Surveyable, FilledTo, wordsOf, onto, loopsCheck, placeAt, isLoop, firstEnds, flagsOf, contextsOf, marksOf};
+ghost use Rattle.analysis.specs.Passes.{Surveyable, FilledTo, wordsOf, onto, loopsCheck, placeAt, firstEnds, flagsOf, contextsOf, marksOf};
 use table::Check;
 use table::Kind;
 
@@ -97,31 +97,12 @@ fn fill(table: &[u8], sizes: &[u16], any: bool, sets: &mut [u64])
     }
 }
 
-fn is_loop(kind: Kind) -> bool
-    ensures { λ r. ⌜ r ≡ isLoop kind ⌝ }
-{
-    match kind {
-        Kind::Nothing => false,
-        Kind::Pause => false,
-        Kind::Emit => false,
-        Kind::Exit => false,
-        Kind::Signal => false,
-        Kind::Present => false,
-        Kind::Suspend => false,
-        Kind::Loop => true,
-        Kind::Sequence => false,
-        Kind::Parallel => false,
-        Kind::Trap => false,
-        Kind::Unknown => false,
-    }
-}
-
 // Whether a node is a loop whose body may end at once.
 fn ends_at_once(table: &[u8], sets: &[u64], node: usize) -> bool
     requires { ⌜ Readable (now table) × (node < size (programOf (now table))) × (node ≤ length (now sets)) × FilledTo false (programOf (now table)) node (now sets) ⌝ }
     ensures { λ r. ⌜ r ≡ endsAtOnce (placeAt (programOf (now (table .entry))) node) ⌝ }
 {
-    if is_loop(table::kind_at(table, node)) {
+    if table::is_loop(table::kind_at(table, node)) {
         return codes::has(sets[node - 1], 0);
     }
     false
@@ -158,31 +139,12 @@ fn copy(from: &[u64], to: &mut [u64], n: usize)
     }
 }
 
-fn is_sequence(kind: Kind) -> bool
-    ensures { λ r. ⌜ r ≡ isSequence kind ⌝ }
-{
-    match kind {
-        Kind::Nothing => false,
-        Kind::Pause => false,
-        Kind::Emit => false,
-        Kind::Exit => false,
-        Kind::Signal => false,
-        Kind::Present => false,
-        Kind::Suspend => false,
-        Kind::Loop => false,
-        Kind::Sequence => true,
-        Kind::Parallel => false,
-        Kind::Trap => false,
-        Kind::Unknown => false,
-    }
-}
-
 // Whether a node is a sequence whose first child may end at once: 1 or 0.
 fn first_ends(table: &[u8], sizes: &[u16], sets: &[u64], node: usize) -> u8
     requires { ⌜ Surveyable (now table) (now sizes) × (node < size (programOf (now table))) × (node ≤ length (now sets)) × FilledTo false (programOf (now table)) node (now sets) ⌝ }
     ensures { λ r. ⌜ r ≡ firstEnds (statementAt (nodes (programOf (now (table .entry)))) node) ⌝ }
 {
-    if is_sequence(table::kind_at(table, node)) {
+    if table::is_sequence(table::kind_at(table, node)) {
         let first = sets[node - 1 - table::size_at(sizes, node - 1)];
         if codes::has(first, 0) {
             return 1;
@@ -291,4 +253,10 @@ fn mark(set: u64, context: u64) -> u8
     ensures { λ r. ⌜ r ≡ bit (meetsOf set context) ⌝ }
 {
     if codes::meets(set, context) { 1 } else { 0 }
+}
+
+// What an analysis answers: the number of nodes and the loop depth, or the number and the node of the refusal.
+pub enum Analysed {
+    Done { nodes: usize, loops: usize },
+    Refused { number: u8, node: usize },
 }
