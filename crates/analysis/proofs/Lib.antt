@@ -3,3 +3,4 @@ pub mod Nodes
 pub mod Filling
 pub mod Loops
 pub mod Flags
+pub mod Contexts

@@ -62,3 +62,15 @@ contextsOf p = map contextWord (placesOf p)
 
 unfoldable pub marksOf : Stmt → List ℕ
 marksOf p = map mark (placesOf p)
+
+-- what the walk over the contexts needs: a table that passes checks 1 to 10, its K and A, and the flags in place of the marks
+pub record Walkable (t sets anys contexts marks : List ℕ) : Type 0 where
+  pub readable : Readable t
+  pub passes : placesCheck (placesOf (programOf t)) 0 ≡ Passed
+  pub starts : FilledTo false (programOf t) (size (programOf t)) sets
+  pub startsRoom : size (programOf t) ≤ length sets
+  pub any : FilledTo true (programOf t) (size (programOf t)) anys
+  pub anyRoom : size (programOf t) ≤ length anys
+  pub flags : (j : ℕ) → j < size (programOf t) → getD marks j 0 ≡ firstEnds (statementAt (nodes (programOf t)) j)
+  pub room : size (programOf t) ≤ length contexts
+  pub marksRoom : size (programOf t) ≤ length marks

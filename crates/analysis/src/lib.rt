@@ -14,7 +14,7 @@ ghost use Rattle.table.specs.declared.Kind.the-variants.{Exit};
 ghost use Rattle.analysis.specs.Steps.{pauseSet, setOfStmt, sequenceOf, codesOf, underFirstOf, underSecondOf, leftOf, rightOf, trapsOf, pushed};
 ghost use Rattle.esterel.specs.Checks.{endsAtOnce};
 ghost use Rattle.table.specs.Program.{programOf, Readable};
-ghost use Rattle.analysis.specs.Passes.{Surveyable, FilledTo, wordsOf, onto, loopsCheck, placeAt, firstEnds, flagsOf, contextsOf, marksOf};
+ghost use Rattle.analysis.specs.Passes.{Surveyable, FilledTo, wordsOf, onto, loopsCheck, placeAt, firstEnds, flagsOf, contextsOf, marksOf, Walkable};
 use table::Check;
 use table::Kind;
 
@@ -259,4 +259,46 @@ fn mark(set: u64, context: u64) -> u8
 pub enum Analysed {
     Done { nodes: usize, loops: usize },
     Refused { number: u8, node: usize },
+}
+
+// The start set of a node's last child; nothing at the first node, which has none.
+fn last_set(sets: &[u64], node: usize) -> u64
+    requires { ⌜ node ≤ length (now sets) ⌝ }
+    ensures { λ r. ⌜ ((node ≡ 0 → ⊥) → r ≡ getD (now (sets .entry)) (node - 1) 0) ⌝ }
+{
+    if node == 0 {
+        return 0;
+    }
+    sets[node - 1]
+}
+
+// The contexts and the marks, in one walk from the last node to the first. What waits are the subtrees that end right before
+// the nodes done, the one that ends next on top: their contexts, and the traps around them. Both places above the top are
+// written for any node, and those wait that it has children for.
+fn fill_contexts(table: &[u8], sets: &[u64], anys: &[u64], contexts: &mut [u64], marks: &mut [u8])
+    requires { ⌜ Walkable (now table) (now sets) (now anys) (now contexts) (now marks) ⌝ }
+    ensures contexts { λ _. ⌜ now (contexts .exit) ≡ onto (contextsOf (programOf (now (table .entry)))) (now (contexts .entry)) ⌝ }
+    ensures marks { λ _. ⌜ now (marks .exit) ≡ onto (marksOf (programOf (now (table .entry)))) (now (marks .entry)) ⌝ }
+{
+    let mut pending = [0u64; 257];
+    let mut counts = [0u32; 257];
+    let mut waiting: usize = 1;
+    let mut i = table.len() / 2;
+    while 0 < i {
+        i -= 1;
+        waiting -= 1;
+        let kind = table::kind_at(table, i);
+        let context = pending[waiting];
+        let traps = counts[waiting];
+        let left = left_context(kind, context, traps, last_set(sets, i));
+        let right = right_context(kind, context, traps, marks[i]);
+        pending[waiting] = left;
+        pending[waiting + 1] = right;
+        let inner = child_traps(kind, traps);
+        counts[waiting] = inner;
+        counts[waiting + 1] = inner;
+        waiting += table::arity(kind);
+        contexts[i] = context;
+        marks[i] = mark(anys[i], context);
+    }
 }

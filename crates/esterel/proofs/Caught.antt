@@ -33,7 +33,7 @@ few-under trap d t P p h e = nltb→le 32 (suc t) (toNot (ltb 32 (suc t)) e)
 head-of : {A : Type 0} {P : A → Type 0} {x : A} {xs : List A} → Every P (x ∷ xs) → P x
 head-of (also e c) = e
 
-caught-places : (p : Stmt) (d t : ℕ) (P : Codes) → t ≤ maxTraps → Exits t p → Passes tooManyTraps (places d t P p) → Every Caught (places d t P p)
+pub caught-places : (p : Stmt) (d t : ℕ) (P : Codes) → t ≤ maxTraps → Exits t p → Passes tooManyTraps (places d t P p) → Every Caught (places d t P p)
 caught-places (leaf l) d t P h x c = also record { exits = x; few = h } none
 caught-places (one u p) d t P h x c =
     let own : tooManyTraps (at d t P (one u p)) ≡ false = head-of (every-right (places (suc d) (trapsUnder u t) (under u P) p) (at d t P (one u p) ∷ []) c) in

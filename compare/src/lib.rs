@@ -1,0 +1,34 @@
+//! Statement tables of pure Esterel, read from document 01 alone.
+//!
+//! The specification is in `table`, `checks`, `sets`, `analysis`, `listing`
+//! and `instant`. `support` serves the tests and the generators.
+
+pub mod analysis;
+pub mod checks;
+pub mod instant;
+pub mod listing;
+pub mod sets;
+pub mod support;
+pub mod table;
+
+pub use analysis::analyse;
+pub use instant::{resume, resume_with_trail, start, start_with_trail, Closed, Entry, How};
+pub use listing::listing;
+
+/// The number of a failed check and the lowest node that it fits.
+#[derive(Clone, Copy, Debug, PartialEq, Eq)]
+pub struct Refusal {
+    pub number: u32,
+    pub node: usize,
+}
+
+impl Refusal {
+    pub fn at(number: u32, node: usize) -> Refusal {
+        Refusal { number, node }
+    }
+
+    /// For the checks that name no node and hand back node 0.
+    pub fn whole(number: u32) -> Refusal {
+        Refusal { number, node: 0 }
+    }
+}

@@ -1,0 +1,139 @@
+//! Sets of completion codes: start sets K, any-instant sets A, context sets S
+//! and marks. A set is a number with bit k for code k.
+
+use crate::table::{Statement, Tree};
+
+pub const ENDED: u64 = 1;
+pub const PAUSED: u64 = 1 << 1;
+/// The code of an exit to the innermost trap.
+const CAUGHT: u64 = 1 << 2;
+
+/// The start set K of every node.
+pub fn start_sets(tree: &Tree) -> Vec<u64> {
+    upward(tree, PAUSED)
+}
+
+/// The any-instant set A of every node: a pause that is resumed ends.
+pub fn any_sets(tree: &Tree) -> Vec<u64> {
+    upward(tree, ENDED | PAUSED)
+}
+
+fn upward(tree: &Tree, pause: u64) -> Vec<u64> {
+    let mut sets: Vec<u64> = Vec::with_capacity(tree.size());
+    for &statement in &tree.statements {
+        let set = match statement {
+            Statement::Nothing | Statement::Emit { .. } => ENDED,
+            Statement::Pause => pause,
+            Statement::Exit { level } => CAUGHT << level,
+            Statement::Signal { body } | Statement::Suspend { body } => sets[body],
+            Statement::Present { then, otherwise } => sets[then] | sets[otherwise],
+            Statement::Loop { body } => sets[body] & !ENDED,
+            Statement::Sequence { first, second } => sequence(sets[first], sets[second]),
+            Statement::Parallel { left, right } => parallel(sets[left], sets[right]),
+            Statement::Trap { body } => trap(sets[body]),
+        };
+        sets.push(set);
+    }
+    sets
+}
+
+/// The codes of a sequence: the second starts only where the first ends.
+pub fn sequence(first: u64, second: u64) -> u64 {
+    if first & ENDED != 0 {
+        (first & !ENDED) | second
+    } else {
+        first
+    }
+}
+
+/// Every larger one of a left and a right code. A code of either side is the
+/// larger one of some pair unless all codes of the other side exceed it.
+pub fn parallel(left: u64, right: u64) -> u64 {
+    if left == 0 || right == 0 {
+        return 0;
+    }
+    let least = left.trailing_zeros().max(right.trailing_zeros());
+    (left | right) & (u64::MAX << least)
+}
+
+/// The codes of a trap: 0 and 2 become 0, 1 stays, k from 3 becomes k - 1.
+pub fn trap(body: u64) -> u64 {
+    let ended = if body & (ENDED | CAUGHT) != 0 {
+        ENDED
+    } else {
+        0
+    };
+    let further_out = (body & !(ENDED | PAUSED | CAUGHT)) >> 1;
+    ended | (body & PAUSED) | further_out
+}
+
+/// The context set S of every node, from the program down. `traps` has the
+/// number of traps around each node, itself not counted.
+pub fn contexts(tree: &Tree, start_sets: &[u64], traps: &[usize]) -> Vec<u64> {
+    let mut contexts = vec![0; tree.size()];
+    for (node, &statement) in tree.statements.iter().enumerate().rev() {
+        let outer = contexts[node];
+        match statement {
+            Statement::Nothing
+            | Statement::Pause
+            | Statement::Emit { .. }
+            | Statement::Exit { .. } => {}
+            Statement::Signal { body } | Statement::Suspend { body } => contexts[body] = outer,
+            Statement::Present { then, otherwise } => {
+                contexts[then] = outer;
+                contexts[otherwise] = outer;
+            }
+            Statement::Loop { body } => contexts[body] = outer | ENDED,
+            Statement::Sequence { first, second } => {
+                contexts[first] = context_of_first(outer, start_sets[second]);
+                contexts[second] = context_of_second(outer, start_sets[first]);
+            }
+            Statement::Parallel { left, right } => {
+                contexts[left] = context_under_parallel(outer, traps[left]);
+                contexts[right] = context_under_parallel(outer, traps[right]);
+            }
+            Statement::Trap { body } => contexts[body] = context_under_trap(outer),
+        }
+    }
+    contexts
+}
+
+fn context_of_first(outer: u64, second: u64) -> u64 {
+    if second & outer != 0 {
+        outer | ENDED
+    } else {
+        outer & !ENDED
+    }
+}
+
+fn context_of_second(outer: u64, first: u64) -> u64 {
+    if first & ENDED != 0 {
+        outer
+    } else {
+        0
+    }
+}
+
+fn context_under_trap(outer: u64) -> u64 {
+    let caught = if outer & ENDED != 0 { CAUGHT } else { 0 };
+    let further_out = (outer & !(ENDED | PAUSED)) << 1;
+    (outer & (ENDED | PAUSED)) | caught | further_out
+}
+
+/// Code 0 and the exits to all traps around: a branch that pauses has not left.
+fn context_under_parallel(outer: u64, traps: usize) -> u64 {
+    if outer == 0 {
+        return 0;
+    }
+    let up_to_outermost = (CAUGHT << traps) - 1;
+    up_to_outermost & !PAUSED
+}
+
+/// A mark is 1 where the any-instant set meets the context.
+pub fn marks(any_sets: &[u64], contexts: &[u64]) -> Vec<u8> {
+    any_sets
+        .iter()
+        .zip(contexts)
+        .map(|(any, context)| u8::from(any & context != 0))
+        .collect()
+}

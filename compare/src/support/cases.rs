@@ -1,0 +1,120 @@
+//! An instant to try: what is lent to the call, and how it is written down.
+
+use super::hex;
+use super::random::Random;
+use crate::{resume, start, Closed, Refusal};
+
+#[derive(Clone, Copy, Debug, PartialEq, Eq)]
+pub enum Call {
+    Start,
+    Resume,
+}
+
+#[derive(Clone, Debug)]
+pub struct Case {
+    pub call: Call,
+    pub table: Vec<u8>,
+    pub answers: Vec<u8>,
+    pub state: Vec<u8>,
+    /// The emission buffer before the call: its length, and its byte 0.
+    /// Each further byte is one more than the one before, modulo 256.
+    pub emissions_length: usize,
+    pub emissions_first: u8,
+}
+
+/// The answer of a call, and the whole buffers after it.
+#[derive(Clone, Debug, PartialEq, Eq)]
+pub struct Outcome {
+    pub answer: Result<Closed, Refusal>,
+    pub state: Vec<u8>,
+    pub emissions: Vec<u8>,
+}
+
+impl Case {
+    /// A case with an emission buffer that is long enough.
+    pub fn new(random: &mut Random, call: Call, table: &[u8], state: &[u8]) -> Case {
+        Case {
+            call,
+            table: table.to_vec(),
+            answers: Vec::new(),
+            state: state.to_vec(),
+            emissions_length: *random.pick(&[256, 256, 256, 257, 260, 300]),
+            emissions_first: random.byte(),
+        }
+    }
+
+    pub fn answered(mut self, answers: &[u8]) -> Case {
+        self.answers = answers.to_vec();
+        self
+    }
+
+    /// The emission buffer before the call.
+    pub fn emissions(&self) -> Vec<u8> {
+        (0..self.emissions_length)
+            .map(|at| self.emissions_first.wrapping_add(at as u8))
+            .collect()
+    }
+
+    pub fn run(&self) -> Outcome {
+        let mut state = self.state.clone();
+        let mut emissions = self.emissions();
+        let call = match self.call {
+            Call::Start => start,
+            Call::Resume => resume,
+        };
+        let answer = call(&self.table, &self.answers, &mut state, &mut emissions);
+        Outcome {
+            answer,
+            state,
+            emissions,
+        }
+    }
+
+    /// The case as the input file holds it.
+    pub fn encode(&self) -> Vec<u8> {
+        let mut bytes = vec![match self.call {
+            Call::Start => 0,
+            Call::Resume => 1,
+        }];
+        for length in [
+            self.table.len(),
+            self.answers.len(),
+            self.state.len(),
+            self.emissions_length,
+        ] {
+            let length = u16::try_from(length).expect("a length of two bytes");
+            bytes.extend(length.to_le_bytes());
+        }
+        bytes.push(self.emissions_first);
+        bytes.extend(&self.table);
+        bytes.extend(&self.answers);
+        bytes.extend(&self.state);
+        bytes
+    }
+}
+
+impl Outcome {
+    /// The outcome as a line of the expected output.
+    pub fn line(&self) -> String {
+        let state = buffer(&self.state);
+        let emissions = buffer(&self.emissions);
+        match self.answer {
+            Ok(Closed {
+                code,
+                taken,
+                entries,
+            }) => format!("closed {code} {taken} {entries} {state} {emissions}\n"),
+            Err(Refusal { number, node }) => {
+                format!("refused {number} {node} {state} {emissions}\n")
+            }
+        }
+    }
+}
+
+fn buffer(bytes: &[u8]) -> String {
+    if bytes.is_empty() {
+        "-".to_string()
+    } else {
+        hex::encode(bytes)
+    }
+}

@@ -1,0 +1,305 @@
+//! Random tables: accepted programs of many shapes, and damaged ones.
+
+use super::random::Random;
+use crate::sets;
+
+/// How a family of programs is drawn.
+pub struct Shape {
+    pub name: &'static str,
+    /// How often each kind is chosen, by kind number; entry 0 is not used.
+    weights: [usize; 12],
+    /// Which child of a binary statement gets most of the nodes.
+    split: Split,
+}
+
+enum Split {
+    Even,
+    Left,
+    Right,
+}
+
+pub const SHAPES: [Shape; 9] = [
+    Shape {
+        name: "mixed",
+        weights: [0, 2, 5, 3, 3, 2, 4, 3, 3, 5, 4, 3],
+        split: Split::Even,
+    },
+    Shape {
+        name: "traps",
+        weights: [0, 1, 3, 1, 8, 1, 2, 1, 2, 2, 3, 14],
+        split: Split::Even,
+    },
+    Shape {
+        name: "left sequences",
+        weights: [0, 3, 3, 3, 1, 0, 1, 0, 1, 30, 1, 1],
+        split: Split::Left,
+    },
+    Shape {
+        name: "right sequences",
+        weights: [0, 3, 3, 3, 1, 0, 1, 0, 1, 30, 1, 1],
+        split: Split::Right,
+    },
+    Shape {
+        name: "parallels",
+        weights: [0, 1, 6, 2, 3, 1, 2, 1, 2, 3, 16, 3],
+        split: Split::Even,
+    },
+    Shape {
+        name: "wide",
+        weights: [0, 1, 4, 2, 2, 0, 5, 0, 0, 5, 5, 1],
+        split: Split::Even,
+    },
+    Shape {
+        name: "loops and presents",
+        weights: [0, 2, 5, 2, 2, 0, 9, 2, 8, 3, 2, 2],
+        split: Split::Even,
+    },
+    Shape {
+        name: "deep",
+        weights: [0, 1, 3, 1, 2, 8, 2, 8, 8, 2, 2, 4],
+        split: Split::Left,
+    },
+    Shape {
+        name: "loops in traps",
+        weights: [0, 1, 6, 2, 6, 1, 3, 2, 7, 6, 4, 7],
+        split: Split::Right,
+    },
+];
+
+const MOST_DEPTH: usize = 256;
+const MOST_TRAPS: usize = 32;
+
+/// Draws an accepted program of at most so many nodes.
+pub fn accepted(random: &mut Random, shape: &Shape, nodes: usize) -> Vec<u8> {
+    let mut draft = Draft {
+        random,
+        shape,
+        table: Vec::new(),
+    };
+    draft.statement(Room {
+        nodes,
+        depth: MOST_DEPTH,
+        traps: 0,
+    });
+    draft.table
+}
+
+/// What may still be put at a place of the program.
+#[derive(Clone, Copy)]
+struct Room {
+    nodes: usize,
+    depth: usize,
+    /// Traps around the place.
+    traps: usize,
+}
+
+impl Room {
+    fn below(self, nodes: usize) -> Room {
+        Room {
+            nodes,
+            depth: self.depth - 1,
+            traps: self.traps,
+        }
+    }
+}
+
+struct Draft<'a> {
+    random: &'a mut Random,
+    shape: &'a Shape,
+    table: Vec<u8>,
+}
+
+impl Draft<'_> {
+    /// Appends a random statement and hands back its start set.
+    fn statement(&mut self, room: Room) -> u64 {
+        let kind = self.kind(room);
+        match kind {
+            1 => self.put(1, 0, sets::ENDED),
+            2 => self.put(2, 0, sets::PAUSED),
+            3 => {
+                let signal = self.signal();
+                self.put(3, signal, sets::ENDED)
+            }
+            4 => {
+                let level = self.level(room.traps);
+                self.put(4, level, 4 << level)
+            }
+            5 | 7 => {
+                let body = self.statement(room.below(room.nodes - 1));
+                let signal = self.signal();
+                self.put(kind, signal, body)
+            }
+            8 => self.loop_statement(room),
+            11 => {
+                let mut inner = room.below(room.nodes - 1);
+                inner.traps += 1;
+                let body = self.statement(inner);
+                self.put(11, 0, sets::trap(body))
+            }
+            _ => self.binary(kind, room),
+        }
+    }
+
+    fn binary(&mut self, kind: u8, room: Room) -> u64 {
+        let first_nodes = self.share(room.nodes - 1);
+        let first = self.statement(room.below(first_nodes));
+        let second = self.statement(room.below(room.nodes - 1 - first_nodes));
+        match kind {
+            6 => {
+                let signal = self.signal();
+                self.put(6, signal, first | second)
+            }
+            9 => self.put(9, 0, sets::sequence(first, second)),
+            _ => self.put(10, 0, sets::parallel(first, second)),
+        }
+    }
+
+    /// A body that can end at once is followed by a pause. Room for that is
+    /// left: two nodes, and one more level of depth.
+    fn loop_statement(&mut self, room: Room) -> u64 {
+        let mut inner = room.below(room.nodes - 3);
+        inner.depth -= 1;
+        let mut body = self.statement(inner);
+        if body & sets::ENDED != 0 {
+            self.put(2, 0, sets::PAUSED);
+            body = self.put(9, 0, sets::sequence(body, sets::PAUSED));
+        }
+        self.put(8, 0, body)
+    }
+
+    /// Appends one node.
+    fn put(&mut self, kind: u8, field: u8, start_set: u64) -> u64 {
+        self.table.extend([kind, field]);
+        start_set
+    }
+
+    /// A kind that there is room for. A leaf is chosen early only now and
+    /// then, so that most of the room gets used.
+    fn kind(&mut self, room: Room) -> u8 {
+        let mut weights = self.shape.weights;
+        if room.traps == 0 {
+            weights[4] = 0;
+        }
+        if room.traps >= MOST_TRAPS {
+            weights[11] = 0;
+        }
+        if room.nodes < 4 || room.depth < 3 {
+            weights[8] = 0;
+        }
+        if room.nodes < 3 || room.depth < 2 {
+            weights[6] = 0;
+            weights[9] = 0;
+            weights[10] = 0;
+        }
+        if room.nodes < 2 || room.depth < 2 {
+            weights[5] = 0;
+            weights[7] = 0;
+            weights[11] = 0;
+        }
+        let inner: usize = weights[5..].iter().sum();
+        if inner > 0 && !self.random.one_in(40) {
+            weights[..5].fill(0);
+        } else {
+            weights[5..].fill(0);
+        }
+        self.weighted(&weights)
+    }
+
+    fn weighted(&mut self, weights: &[usize; 12]) -> u8 {
+        let mut ticket = self.random.below(weights.iter().sum());
+        for (kind, &weight) in weights.iter().enumerate() {
+            if ticket < weight {
+                return kind as u8;
+            }
+            ticket -= weight;
+        }
+        unreachable!("the ticket is below the sum of the weights")
+    }
+
+    /// How many of the nodes, at least 2, go to the first of two children.
+    fn share(&mut self, nodes: usize) -> usize {
+        let few = self.random.between(1, (nodes - 1).min(5));
+        match self.shape.split {
+            Split::Even => self.random.between(1, nodes - 1),
+            Split::Left => nodes - few,
+            Split::Right => few,
+        }
+    }
+
+    fn signal(&mut self) -> u8 {
+        *self.random.pick(&[0, 0, 1, 1, 2, 5, 7, 31, 128, 254, 255])
+    }
+
+    /// The innermost trap, the outermost one, or any.
+    fn level(&mut self, traps: usize) -> u8 {
+        let level = match self.random.below(4) {
+            0 | 1 => 0,
+            2 => traps - 1,
+            _ => self.random.below(traps),
+        };
+        level as u8
+    }
+}
+
+/// Spoils a table in one of many ways. Some results are still accepted.
+pub fn damaged(random: &mut Random, table: &[u8]) -> Vec<u8> {
+    let mut bytes = table.to_vec();
+    let node = random.below(bytes.len() / 2);
+    match random.below(14) {
+        0 => flip_bit(random, &mut bytes),
+        1 => {
+            for _ in 0..random.between(2, 6) {
+                flip_bit(random, &mut bytes);
+            }
+        }
+        2 => bytes.truncate(random.below(bytes.len())),
+        3 => bytes.truncate(2 * node),
+        4 => {
+            bytes.drain(..2 * node);
+        }
+        5 => {
+            let count = random.between(1, 9);
+            bytes.extend(random.bytes(count));
+        }
+        6 => {
+            let leaf = random.between(1, 3) as u8;
+            bytes.extend([leaf, 0]);
+        }
+        7 => {
+            let inner = *random.pick(&[6, 8, 9, 10, 11]);
+            bytes.extend([inner, 0]);
+        }
+        8 => bytes[2 * node] = *random.pick(&[0, 12, 13, 128, 255]),
+        9 => bytes[2 * node + 1] = random.between(1, 255) as u8,
+        10 => set_random_level(random, &mut bytes),
+        11 => pauses_to_nothing(random, &mut bytes),
+        12 => bytes[2 * node] = random.between(1, 11) as u8,
+        _ => {
+            bytes.remove(random.below(bytes.len()));
+        }
+    }
+    bytes
+}
+
+fn flip_bit(random: &mut Random, bytes: &mut [u8]) {
+    let at = random.below(bytes.len());
+    bytes[at] ^= 1 << random.below(8);
+}
+
+/// Gives some of the exits a level that their traps may not reach.
+fn set_random_level(random: &mut Random, bytes: &mut [u8]) {
+    for node in bytes.chunks_exact_mut(2) {
+        if node[0] == 4 && random.one_in(2) {
+            node[1] = *random.pick(&[0, 1, 2, 5, 31, 32, 63, 255]);
+        }
+    }
+}
+
+/// Lets some loop bodies end at once.
+fn pauses_to_nothing(random: &mut Random, bytes: &mut [u8]) {
+    for node in bytes.chunks_exact_mut(2) {
+        if node[0] == 2 && random.one_in(2) {
+            node[0] = 1;
+        }
+    }
+}

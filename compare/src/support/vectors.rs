@@ -1,0 +1,223 @@
+//! Reading the vector files: one flat JSON object a line.
+
+use std::collections::HashMap;
+use std::fs;
+use std::path::{Path, PathBuf};
+
+use super::cases::Call;
+use super::hex;
+use crate::{Closed, Refusal};
+
+pub struct ListingVector {
+    pub table: Vec<u8>,
+    pub listing: String,
+}
+
+pub struct InstantVector {
+    pub call: Call,
+    pub table: Vec<u8>,
+    pub answers: Vec<u8>,
+    pub state: Vec<u8>,
+    pub outcome: Result<VectorClosed, Refusal>,
+}
+
+/// What a vector says of an instant that closes.
+pub struct VectorClosed {
+    pub closed: Closed,
+    pub after: Vec<u8>,
+    pub emits: Vec<u8>,
+}
+
+/// Where the vector files are: BAVZHRONO_VECTORS, else beside the repository.
+pub fn directory() -> PathBuf {
+    match std::env::var_os("BAVZHRONO_VECTORS") {
+        Some(directory) => PathBuf::from(directory),
+        None => Path::new(env!("CARGO_MANIFEST_DIR")).join("../../shared/vectors"),
+    }
+}
+
+pub fn read_listings(file: &Path) -> Vec<ListingVector> {
+    read_objects(file)
+        .iter()
+        .map(|object| ListingVector {
+            table: bytes(object, "table"),
+            listing: text(object, "listing").to_string(),
+        })
+        .collect()
+}
+
+pub fn read_instants(file: &Path) -> Vec<InstantVector> {
+    read_objects(file)
+        .iter()
+        .map(|object| InstantVector {
+            call: match text(object, "call") {
+                "start" => Call::Start,
+                "resume" => Call::Resume,
+                other => panic!("unknown call {other}"),
+            },
+            table: bytes(object, "table"),
+            answers: bytes(object, "answers"),
+            state: bytes(object, "state"),
+            outcome: outcome(object),
+        })
+        .collect()
+}
+
+fn outcome(object: &Object) -> Result<VectorClosed, Refusal> {
+    if object.contains_key("refused") {
+        return Err(Refusal {
+            number: number(object, "refused") as u32,
+            node: number(object, "node") as usize,
+        });
+    }
+    Ok(VectorClosed {
+        closed: Closed {
+            code: number(object, "code") as u32,
+            taken: number(object, "taken") as usize,
+            entries: number(object, "entries") as usize,
+        },
+        after: bytes(object, "after"),
+        emits: list(object, "emits").iter().map(|&s| s as u8).collect(),
+    })
+}
+
+type Object = HashMap<String, Value>;
+
+#[derive(Debug)]
+enum Value {
+    Text(String),
+    Number(u64),
+    List(Vec<u64>),
+}
+
+fn text<'a>(object: &'a Object, key: &str) -> &'a str {
+    match object.get(key) {
+        Some(Value::Text(text)) => text,
+        other => panic!("{key} should be a text: {other:?}"),
+    }
+}
+
+fn bytes(object: &Object, key: &str) -> Vec<u8> {
+    hex::decode(text(object, key))
+}
+
+fn number(object: &Object, key: &str) -> u64 {
+    match object.get(key) {
+        Some(Value::Number(number)) => *number,
+        other => panic!("{key} should be a number: {other:?}"),
+    }
+}
+
+fn list<'a>(object: &'a Object, key: &str) -> &'a [u64] {
+    match object.get(key) {
+        Some(Value::List(list)) => list,
+        other => panic!("{key} should be a list: {other:?}"),
+    }
+}
+
+fn read_objects(file: &Path) -> Vec<Object> {
+    let content = fs::read_to_string(file)
+        .unwrap_or_else(|error| panic!("cannot read {}: {error}", file.display()));
+    content
+        .lines()
+        .map(|line| Reader { rest: line }.object())
+        .collect()
+}
+
+/// Reads the small part of JSON that the files use, and panics at any other.
+struct Reader<'a> {
+    rest: &'a str,
+}
+
+impl Reader<'_> {
+    fn object(&mut self) -> Object {
+        let mut object = Object::new();
+        self.expect('{');
+        loop {
+            let key = self.text();
+            self.expect(':');
+            let value = self.value();
+            object.insert(key, value);
+            if !self.accept(',') {
+                break;
+            }
+        }
+        self.expect('}');
+        assert!(self.rest.trim().is_empty(), "left over: {}", self.rest);
+        object
+    }
+
+    fn value(&mut self) -> Value {
+        match self.peek() {
+            Some('"') => Value::Text(self.text()),
+            Some('[') => Value::List(self.list()),
+            _ => Value::Number(self.number()),
+        }
+    }
+
+    fn list(&mut self) -> Vec<u64> {
+        let mut list = Vec::new();
+        self.expect('[');
+        if self.accept(']') {
+            return list;
+        }
+        loop {
+            list.push(self.number());
+            if !self.accept(',') {
+                break;
+            }
+        }
+        self.expect(']');
+        list
+    }
+
+    fn number(&mut self) -> u64 {
+        self.peek();
+        let end = self
+            .rest
+            .find(|c: char| !c.is_ascii_digit())
+            .unwrap_or(self.rest.len());
+        let (digits, rest) = self.rest.split_at(end);
+        self.rest = rest;
+        digits.parse().expect("a number")
+    }
+
+    fn text(&mut self) -> String {
+        self.expect('"');
+        let mut text = String::new();
+        let mut letters = self.rest.char_indices();
+        while let Some((at, letter)) = letters.next() {
+            match letter {
+                '"' => {
+                    self.rest = &self.rest[at + 1..];
+                    return text;
+                }
+                '\\' => match letters.next() {
+                    Some((_, 'n')) => text.push('\n'),
+                    Some((_, letter @ ('"' | '\\' | '/'))) => text.push(letter),
+                    other => panic!("unknown escape {other:?}"),
+                },
+                letter => text.push(letter),
+            }
+        }
+        panic!("a text without an end");
+    }
+
+    /// The next character that is not a blank.
+    fn peek(&mut self) -> Option<char> {
+        self.rest = self.rest.trim_start();
+        self.rest.chars().next()
+    }
+
+    fn accept(&mut self, wanted: char) -> bool {
+        let found = self.peek() == Some(wanted);
+        if found {
+            self.rest = &self.rest[wanted.len_utf8()..];
+        }
+        found
+    }
+
+    fn expect(&mut self, wanted: char) {
+        assert!(self.accept(wanted), "expected {wanted} at: {}", self.rest);
+    }
+}
