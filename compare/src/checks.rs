@@ -74,9 +74,9 @@ fn surroundings(tree: &Tree) -> Surroundings {
             | Statement::Pause
             | Statement::Emit { .. }
             | Statement::Exit { .. } => {}
-            Statement::Signal { body }
-            | Statement::Suspend { body }
-            | Statement::Loop { body } => around.hand_down(node, body),
+            Statement::Signal { body } | Statement::Suspend { body } | Statement::Loop { body } => {
+                around.hand_down(node, body)
+            }
             Statement::Trap { body } => {
                 around.hand_down(node, body);
                 around.traps[body] += 1;

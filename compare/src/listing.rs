@@ -31,13 +31,7 @@ fn accepted_listing(table: &[u8]) -> Result<String, Refusal> {
         writeln!(
             text,
             "{} {} {} {:x} {:x} {:x} {}",
-            node,
-            bytes[0],
-            bytes[1],
-            start_sets[node],
-            any_sets[node],
-            contexts[node],
-            marks[node]
+            node, bytes[0], bytes[1], start_sets[node], any_sets[node], contexts[node], marks[node]
         )
         .expect("writing to a string cannot fail");
     }

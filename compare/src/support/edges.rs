@@ -113,19 +113,11 @@ fn depths() -> Vec<Edge> {
         refused("depth 258", around(&[2, 0], &[7, 1], 257), 8, 0),
         accepted("256 with loops", around(&[2, 0], &[8, 0], 255)),
         refused("257 with loops", around(&[2, 0], &[8, 0], 256), 8, 0),
-        accepted(
-            "256 on the left",
-            around(&[2, 0], &[2, 0, 9, 0], 255),
-        ),
-        refused(
-            "257 on the left",
-            around(&[2, 0], &[2, 0, 9, 0], 256),
-            8,
-            0,
-        ),
+        accepted("256 on the left", around(&[2, 0], &[2, 0, 9, 0], 255)),
+        refused("257 on the left", around(&[2, 0], &[2, 0, 9, 0], 256), 8, 0),
         accepted("256 on the right", right_sequences(255)),
-        // The two innermost pauses are too deep; the lower one is node 256.
-        refused("257 on the right", right_sequences(256), 8, 256 - 1),
+        // The two innermost pauses are too deep: nodes 255 and 256.
+        refused("257 on the right", right_sequences(256), 8, 255),
     ]
 }
 
@@ -145,12 +137,7 @@ fn traps_and_levels() -> Vec<Edge> {
         refused("level 255 under 32", around(&[4, 255], &[11, 0], 32), 10, 0),
         refused("level 1 under 1", [4, 1, 11, 0], 10, 0),
         accepted("level 0 under 1", [4, 0, 11, 0]),
-        refused(
-            "level 0 beside the trap",
-            [4, 0, 11, 0, 4, 0, 9, 0],
-            10,
-            2,
-        ),
+        refused("level 0 beside the trap", [4, 0, 11, 0, 4, 0, 9, 0], 10, 2),
     ]
 }
 
@@ -171,13 +158,13 @@ fn order_of_checks() -> Vec<Edge> {
             9,
             2,
         ),
-        refused("10 at node 2 before 11 at node 1", early_loop(&[4, 0]), 10, 2),
         refused(
-            "8 at node 0 before 9",
-            around(&[2, 0], &[11, 0], 256),
-            8,
-            0,
+            "10 at node 2 before 11 at node 1",
+            early_loop(&[4, 0]),
+            10,
+            2,
         ),
+        refused("8 at node 0 before 9", around(&[2, 0], &[11, 0], 256), 8, 0),
         refused(
             "the lower of two loops",
             [1, 0, 8, 0, 3, 1, 8, 0, 10, 0],
@@ -206,11 +193,17 @@ fn sets_and_instants() -> Vec<Edge> {
         accepted("a loop left by an exit", [4, 0, 8, 0, 11, 0]),
         accepted(
             "an exit from 32 traps, in a loop",
-            after(&around(&[4, 31, 2, 0, 10, 0], &[11, 0], 32), &[2, 0, 9, 0, 8, 0]),
+            after(
+                &around(&[4, 31, 2, 0, 10, 0], &[11, 0], 32),
+                &[2, 0, 9, 0, 8, 0],
+            ),
         ),
         accepted(
-            "a parallel under 32 traps, in a loop",
-            after(&[4, 31, 2, 0, 10, 0], &after(&[11, 0].repeat(32), &[2, 0, 9, 0, 8, 0])),
+            "a context of all codes up to 33",
+            after(
+                &around(&[2, 0, 2, 0, 4, 31, 9, 0, 10, 0], &[11, 0], 32),
+                &[8, 0],
+            ),
         ),
     ]
 }
@@ -224,7 +217,7 @@ fn around(leaf: &[u8], nodes: &[u8], times: usize) -> Vec<u8> {
     after(leaf, &nodes.repeat(times))
 }
 
-/// Pauses, then as many sequences less one: each second is a sequence.
+/// One pause more than sequences: each second but the last is a sequence.
 fn right_sequences(sequences: usize) -> Vec<u8> {
     after(&[2, 0].repeat(sequences + 1), &[9, 0].repeat(sequences))
 }

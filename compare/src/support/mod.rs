@@ -1,6 +1,7 @@
 //! What the tests and the generators share: hexadecimal, random numbers,
 //! vector files, tables and instants to try.
 
+pub mod arguments;
 pub mod cases;
 pub mod edges;
 pub mod hex;

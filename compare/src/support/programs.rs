@@ -174,7 +174,7 @@ impl Draft<'_> {
     }
 
     /// A kind that there is room for. A leaf is chosen early only now and
-    /// then, so that most of the room gets used.
+    /// then and with little room left, so that most of the room gets used.
     fn kind(&mut self, room: Room) -> u8 {
         let mut weights = self.shape.weights;
         if room.traps == 0 {
@@ -197,10 +197,11 @@ impl Draft<'_> {
             weights[11] = 0;
         }
         let inner: usize = weights[5..].iter().sum();
-        if inner > 0 && !self.random.one_in(40) {
-            weights[..5].fill(0);
-        } else {
+        let stop_early = room.nodes < 20 && self.random.one_in(20);
+        if inner == 0 || stop_early {
             weights[5..].fill(0);
+        } else {
+            weights[..5].fill(0);
         }
         self.weighted(&weights)
     }
@@ -241,11 +242,59 @@ impl Draft<'_> {
     }
 }
 
+/// A program whose innermost statement is entered once for every step, and
+/// once more, in one instant: each step is a loop around a parallel, of a trap
+/// around the step within, and a pause. Innermost is a choice between a pause
+/// and an exit to any of the traps. At most 32 steps.
+pub fn ladder(steps: usize) -> Vec<u8> {
+    let mut table = vec![2, 0];
+    for level in 0..steps {
+        table.extend([4, level as u8]);
+    }
+    // Choices among all the exits, then the choice between pause and exits.
+    for _ in 0..steps {
+        table.extend([6, 3]);
+    }
+    table.extend([8, 0]);
+    for _ in 0..steps {
+        table.extend([11, 0, 2, 0, 10, 0, 8, 0]);
+    }
+    table
+}
+
+/// The state of a ladder that holds only the innermost pause.
+pub fn ladder_state(steps: usize) -> Vec<u8> {
+    let mut state = vec![0; ladder(steps).len() / 2];
+    state[0] = 1;
+    state
+}
+
+/// Answers that climb the whole ladder: exits to each trap, innermost first,
+/// then the pause.
+pub fn ladder_answers(steps: usize) -> Vec<u8> {
+    let mut answers = Vec::new();
+    for level in 0..steps {
+        answers.push(0);
+        answers.extend(vec![0; level]);
+        // The last exit is what remains when all others are refused.
+        if level + 1 < steps {
+            answers.push(1);
+        }
+    }
+    answers.push(1);
+    answers
+}
+
+/// The table with so many more nodes of one child around it.
+pub fn wrapped(table: &[u8], kind: u8, times: usize) -> Vec<u8> {
+    [table, &[kind, 0].repeat(times)].concat()
+}
+
 /// Spoils a table in one of many ways. Some results are still accepted.
 pub fn damaged(random: &mut Random, table: &[u8]) -> Vec<u8> {
     let mut bytes = table.to_vec();
     let node = random.below(bytes.len() / 2);
-    match random.below(14) {
+    match random.below(18) {
         0 => flip_bit(random, &mut bytes),
         1 => {
             for _ in 0..random.between(2, 6) {
@@ -271,9 +320,9 @@ pub fn damaged(random: &mut Random, table: &[u8]) -> Vec<u8> {
         }
         8 => bytes[2 * node] = *random.pick(&[0, 12, 13, 128, 255]),
         9 => bytes[2 * node + 1] = random.between(1, 255) as u8,
-        10 => set_random_level(random, &mut bytes),
-        11 => pauses_to_nothing(random, &mut bytes),
-        12 => bytes[2 * node] = random.between(1, 11) as u8,
+        10 | 11 => set_random_level(random, &mut bytes),
+        12..=14 => pauses_to_nothing(random, &mut bytes),
+        15 | 16 => bytes[2 * node] = random.between(1, 11) as u8,
         _ => {
             bytes.remove(random.below(bytes.len()));
         }

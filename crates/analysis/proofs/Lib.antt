@@ -4,3 +4,4 @@ pub mod Filling
 pub mod Loops
 pub mod Flags
 pub mod Contexts
+pub mod Accepts

@@ -8,6 +8,8 @@ use lib.ListN.{length}
 use Rattle.esterel.specs.Statement.{Stmt, size, loopDepth}
 use Rattle.esterel.specs.Table.{Verdict, passed, refused, scan, checkLength}
 use Rattle.esterel.specs.Checks.{checkProgram, Line, line, listing}
+use Rattle.table.specs.declared.Check
+use Rattle.table.specs.declared.Check.{Check}
 use Rattle.analysis.specs.Passes.{onto}
 use Rattle.analysis.specs.declared.Analysed.{Analysed}
 use Rattle.analysis.specs.declared.Analysed.the-variants.{Done, Refused}
@@ -29,6 +31,11 @@ roomFor n starts anys contexts marks = leb n starts && leb n anys && leb n conte
 unfoldable pub answerOf : Verdict → Analysed
 answerOf (passed p) = Done (size p) (loopDepth p)
 answerOf (refused number node) = Refused number node
+
+-- a check's answer where it refuses
+abbrev pub refusalOf : Check → Analysed
+refusalOf Check.Passed = Refused 0 0  -- never asked
+refusalOf (Check.Refused number node) = Refused number node
 
 -- the columns of the listing
 abbrev pub kOf : Line → ℕ

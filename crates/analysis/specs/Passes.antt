@@ -2,18 +2,20 @@
 use Prim.Native.Nat.{ℕ, _*_, _<_, _≤_}
 use mathlib.Core.Path.{_≡_}
 use mathlib.Core.Bool.{Bool, true, false}
-use mathlib.Core.List.{List, _++_, map}
-use lib.ListN.{length, getD, drop}
+use mathlib.Core.List.{List, [], _++_, map}
+use lib.ListN.{length, getD, take, drop}
 use Rattle.codes.specs.Codes.{empty, bit, word}
-use Rattle.esterel.specs.Statement.{nothing, Unary, Binary, present, sequence, parallel, Stmt, leaf, one, two, size, nodes}
+use Rattle.esterel.specs.Statement.{nothing, Unary, Binary, present, sequence, parallel, Stmt, leaf, one, two, size, nodes, loopDepth}
 use Rattle.esterel.specs.Sets.{startSet, Place, at, placesOf, mark}
-use Rattle.esterel.specs.Checks.{firstNode, endsAtOnce}
+use Rattle.esterel.specs.Table.{passed, scan}
+use Rattle.esterel.specs.Checks.{firstNode, endsAtOnce, checkProgram}
 use Rattle.esterel.specs.Outcome.{statementAt}
 use Rattle.table.specs.Program.{programOf, Readable}
-use Rattle.table.specs.Check.{refuseFound, placesCheck}
+use Rattle.table.specs.Check.{refuseFound, placesCheck, answerOf}
 use Rattle.table.specs.declared.Check.{Check}
 use Rattle.table.specs.declared.Check.the-variants.{Passed}
 use Rattle.analysis.specs.Steps.{setOfStmt}
+use Rattle.analysis.specs.declared.Acceptance.{Acceptance}
 
 -- a table that passes checks 1, 2 and 4 to 10, with the sizes of its subtrees
 pub record Surveyable (t sizes : List ℕ) : Type 0 where
@@ -74,3 +76,16 @@ pub record Walkable (t sets anys contexts marks : List ℕ) : Type 0 where
   pub flags : (j : ℕ) → j < size (programOf t) → getD marks j 0 ≡ firstEnds (statementAt (nodes (programOf t)) j)
   pub room : size (programOf t) ≤ length contexts
   pub marksRoom : size (programOf t) ≤ length marks
+
+-- a table that passes checks 4 to 11, with the sizes of its subtrees and its start sets
+pub record Ready (t sizes sets : List ℕ) : Type 0 where
+  pub verdict : checkProgram (scan t 0 []) ≡ passed (programOf t)
+  pub surveyable : Surveyable t sizes
+  pub starts : take (size (programOf t)) sets ≡ wordsOf false (programOf t)
+  pub room : size (programOf t) ≤ length sets
+
+-- what checks 4 to 11 answer and leave
+pub record Accepting (t sizes sets : List ℕ) (r : Acceptance) : Type 0 where
+  pub answer : r .check ≡ answerOf (checkProgram (scan t 0 []))
+  pub loops : r .check ≡ Passed → r .loops ≡ loopDepth (programOf t)
+  pub ready : r .check ≡ Passed → Ready t sizes sets

@@ -14,7 +14,9 @@ ghost use Rattle.table.specs.declared.Kind.the-variants.{Exit};
 ghost use Rattle.analysis.specs.Steps.{pauseSet, setOfStmt, sequenceOf, codesOf, underFirstOf, underSecondOf, leftOf, rightOf, trapsOf, pushed};
 ghost use Rattle.esterel.specs.Checks.{endsAtOnce};
 ghost use Rattle.table.specs.Program.{programOf, Readable};
-ghost use Rattle.analysis.specs.Passes.{Surveyable, FilledTo, wordsOf, onto, loopsCheck, placeAt, firstEnds, flagsOf, contextsOf, marksOf, Walkable};
+ghost use Rattle.analysis.specs.Passes.{Surveyable, FilledTo, wordsOf, onto, loopsCheck, placeAt, firstEnds, flagsOf, contextsOf, marksOf, Walkable, Accepting};
+ghost use Rattle.table.specs.Check.{WellSized};
+ghost use Rattle.analysis.specs.Analysis.{answerOf, refusalOf, roomFor, column, verdictFor, kOf, aOf, sOf, markOf};
 use table::Check;
 use table::Kind;
 
@@ -255,12 +257,6 @@ fn mark(set: u64, context: u64) -> u8
     if codes::meets(set, context) { 1 } else { 0 }
 }
 
-// What an analysis answers: the number of nodes and the loop depth, or the number and the node of the refusal.
-pub enum Analysed {
-    Done { nodes: usize, loops: usize },
-    Refused { number: u8, node: usize },
-}
-
 // The start set of a node's last child; nothing at the first node, which has none.
 fn last_set(sets: &[u64], node: usize) -> u64
     requires { ⌜ node ≤ length (now sets) ⌝ }
@@ -300,5 +296,54 @@ fn fill_contexts(table: &[u8], sets: &[u64], anys: &[u64], contexts: &mut [u64],
         waiting += table::arity(kind);
         contexts[i] = context;
         marks[i] = mark(anys[i], context);
+    }
+}
+
+// The answer of checks 4 to 11, and the loop depth where they pass.
+pub struct Acceptance {
+    pub check: Check,
+    pub loops: usize,
+}
+
+// Checks 4 to 11 of a table that passes 1 and 2, with the sizes of its subtrees and its start sets.
+pub fn accept(table: &[u8], sizes: &mut [u16], sets: &mut [u64]) -> Acceptance
+    requires { ⌜ WellSized (now table) × (1024 ≤ length (now sizes)) × (1024 ≤ length (now sets)) ⌝ }
+    ensures { λ r. ⌜ Accepting (now (table .entry)) (now (sizes .exit)) (now (sets .exit)) r ⌝ }
+{
+    let read = table::read_nodes(table, sizes);
+    let Check::Passed = read else {
+        return Acceptance {
+            check: read,
+            loops: 0,
+        };
+    };
+    let found = table::survey_table(table);
+    let placed = found.check;
+    let Check::Passed = placed else {
+        return Acceptance {
+            check: placed,
+            loops: 0,
+        };
+    };
+    fill(table, sizes, false, sets);
+    Acceptance {
+        check: check_loops(table, sets),
+        loops: found.loops,
+    }
+}
+
+// What an analysis answers: the number of nodes and the loop depth, or the number and the node of the refusal.
+pub enum Analysed {
+    Done { nodes: usize, loops: usize },
+    Refused { number: u8, node: usize },
+}
+
+// The refusal that a check answers.
+fn refused(check: Check) -> Analysed
+    ensures { λ r. ⌜ r ≡ refusalOf check ⌝ }
+{
+    match check {
+        Check::Passed => Analysed::Refused { number: 0, node: 0 },
+        Check::Refused { number, node } => Analysed::Refused { number, node },
     }
 }

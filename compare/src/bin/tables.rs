@@ -1,0 +1,164 @@
+//! Writes tables, and the listings that are expected of them.
+//!
+//! Usage: `tables [--listing-vectors FILE] INPUT EXPECTED`
+//!
+//! INPUT holds the tables one after the other, each as its length in bytes
+//! (2 bytes, little-endian) followed by that many bytes. EXPECTED holds the
+//! listings or refusal lines of the tables in the same order, exactly as the
+//! listing program prints them. First come the tables of the vector file, with
+//! the texts of that file, then the edges, then random tables.
+
+use std::fs;
+use std::path::Path;
+use std::process::ExitCode;
+
+use compare::listing;
+use compare::support::edges::edges;
+use compare::support::programs::{accepted, damaged, ladder, wrapped, SHAPES};
+use compare::support::random::Random;
+use compare::support::vectors::read_listings;
+use compare::support::{arguments, hex, SEED};
+
+const ACCEPTED: usize = 250;
+const DAMAGED: usize = 170;
+const LADDERS: [usize; 4] = [1, 2, 8, 32];
+
+fn main() -> ExitCode {
+    match write_files() {
+        Ok(()) => ExitCode::SUCCESS,
+        Err(message) => {
+            eprintln!("tables: {message}");
+            ExitCode::FAILURE
+        }
+    }
+}
+
+/// The two files as they grow.
+#[derive(Default)]
+struct Files {
+    tables: usize,
+    input: Vec<u8>,
+    expected: String,
+}
+
+impl Files {
+    fn add(&mut self, table: &[u8], text: &str) {
+        let length = u16::try_from(table.len()).expect("a length of two bytes");
+        self.tables += 1;
+        self.input.extend(length.to_le_bytes());
+        self.input.extend(table);
+        self.expected.push_str(text);
+    }
+}
+
+fn write_files() -> Result<(), String> {
+    let arguments = arguments::read("--listing-vectors")?;
+    println!("seed {SEED:#x}");
+    let mut files = Files::default();
+    if let Some(file) = &arguments.vectors {
+        add_vectors(&mut files, file)?;
+    }
+    add_edges(&mut files)?;
+    add_random(&mut files);
+    println!(
+        "tables {}, input bytes {}, expected bytes {}",
+        files.tables,
+        files.input.len(),
+        files.expected.len()
+    );
+    write(&arguments.input, &files.input)?;
+    write(&arguments.expected, files.expected.as_bytes())
+}
+
+fn write(file: &Path, content: &[u8]) -> Result<(), String> {
+    fs::write(file, content).map_err(|error| format!("cannot write {}: {error}", file.display()))
+}
+
+fn add_vectors(files: &mut Files, file: &Path) -> Result<(), String> {
+    let vectors = read_listings(file);
+    for (line, vector) in vectors.iter().enumerate() {
+        let ours = listing(&vector.table);
+        if ours != vector.listing {
+            return Err(format!(
+                "vector line {} disagrees\ntable {}\nvector:\n{}ours:\n{ours}",
+                line + 1,
+                hex::encode(&vector.table),
+                vector.listing
+            ));
+        }
+        files.add(&vector.table, &vector.listing);
+    }
+    println!("vectors {}, all agree", vectors.len());
+    Ok(())
+}
+
+fn add_edges(files: &mut Files) -> Result<(), String> {
+    let edges = edges();
+    for edge in &edges {
+        let text = listing(&edge.table);
+        let as_expected = match edge.refusal {
+            Some(refusal) => text == format!("refused {} {}\n", refusal.number, refusal.node),
+            None => text.starts_with("ok "),
+        };
+        if !as_expected {
+            return Err(format!("edge {} gives\n{text}", edge.name));
+        }
+        files.add(&edge.table, &text);
+    }
+    println!("edges {}", edges.len());
+    Ok(())
+}
+
+fn add_random(files: &mut Files) {
+    let random = &mut Random::new(SEED);
+    for number in 0..ACCEPTED {
+        let shape = &SHAPES[number % SHAPES.len()];
+        let nodes = size(random, number / SHAPES.len());
+        let table = accepted(random, shape, nodes);
+        files.add(&table, &listing(&table));
+    }
+    println!("accepted programs {ACCEPTED}");
+    for steps in LADDERS {
+        let table = ladder(steps);
+        files.add(&table, &listing(&table));
+    }
+    println!("ladders {}", LADDERS.len());
+    for number in 0..DAMAGED {
+        let table = bad_table(random, number);
+        files.add(&table, &listing(&table));
+    }
+    println!("damaged tables {DAMAGED}");
+}
+
+/// One big table of each shape, then mostly small ones.
+fn size(random: &mut Random, round: usize) -> usize {
+    match round {
+        0 => random.between(800, 1024),
+        1..=2 => random.between(101, 250),
+        3..=9 => random.between(31, 100),
+        _ => random.between(1, 30),
+    }
+}
+
+/// Random bytes, too many traps or too deep by a little, or damage.
+fn bad_table(random: &mut Random, number: usize) -> Vec<u8> {
+    match number {
+        0 => random.bytes(2049),
+        1 => random.bytes(2100),
+        2..=9 => {
+            let length = random.between(1, 40);
+            random.bytes(length)
+        }
+        10..=21 => wrapped(&small(random, number), 11, random.between(25, 36)),
+        22..=27 => wrapped(&small(random, number), 5, random.between(244, 257)),
+        _ => {
+            let table = small(random, number);
+            damaged(random, &table)
+        }
+    }
+}
+
+fn small(random: &mut Random, number: usize) -> Vec<u8> {
+    let nodes = random.between(2, 60);
+    accepted(random, &SHAPES[number % SHAPES.len()], nodes)
+}

@@ -1,0 +1,154 @@
+//! The edges of document 01 and the readings on tables, checks and sets.
+
+use compare::sets;
+use compare::support::edges::{edges, W1};
+use compare::{analyse, listing, resume, start, Refusal};
+
+#[test]
+fn every_call_judges_the_edge_tables_alike() {
+    for edge in edges() {
+        let size = edge.table.len() / 2;
+        let text = match edge.refusal {
+            Some(refusal) => format!("refused {} {}\n", refusal.number, refusal.node),
+            None => "ok ".to_string(),
+        };
+        assert!(listing(&edge.table).starts_with(&text), "{}", edge.name);
+
+        let Some(refusal) = edge.refusal else {
+            continue;
+        };
+        for call in [start, resume] {
+            let mut state = vec![0; size];
+            let mut emissions = vec![7; 256];
+            let answer = call(&edge.table, &[], &mut state, &mut emissions);
+            assert_eq!(answer, Err(refusal), "{}", edge.name);
+            assert_eq!(state, vec![0; size], "{}", edge.name);
+            assert_eq!(emissions, vec![7; 256], "{}", edge.name);
+        }
+    }
+}
+
+#[test]
+fn short_buffers_are_refused_by_3() {
+    for short in 0..4 {
+        let mut lengths = [4; 4];
+        lengths[short] = 3;
+        assert_eq!(analyse_with(W1, lengths), Err(Refusal::whole(3)));
+    }
+    assert_eq!(analyse_with(W1, [4; 4]), Ok((4, 1)));
+    assert_eq!(analyse_with(W1, [9; 4]), Ok((4, 1)));
+    // Before any kind is read, but after the length of the table.
+    assert_eq!(analyse_with(&[12, 0], [0; 4]), Err(Refusal::whole(3)));
+    assert_eq!(analyse_with(&[], [0; 4]), Err(Refusal::whole(2)));
+    assert_eq!(analyse_with(&[2; 2049], [0; 4]), Err(Refusal::whole(1)));
+}
+
+/// Analyses into buffers of the given lengths, and checks that only the first
+/// n entries of an accepted table change.
+fn analyse_with(table: &[u8], lengths: [usize; 4]) -> Result<(usize, usize), Refusal> {
+    let guard = 0xa5;
+    let mut start_sets = vec![guard; lengths[0]];
+    let mut any_sets = vec![guard; lengths[1]];
+    let mut contexts = vec![guard; lengths[2]];
+    let mut marks = vec![guard as u8; lengths[3]];
+    let answer = analyse(
+        table,
+        &mut start_sets,
+        &mut any_sets,
+        &mut contexts,
+        &mut marks,
+    );
+    let changed = match answer {
+        Ok((size, _)) => size,
+        Err(_) => 0,
+    };
+    for set in [&start_sets, &any_sets, &contexts] {
+        for (at, &entry) in set.iter().enumerate() {
+            assert_eq!(entry != guard, at < changed);
+        }
+    }
+    for (at, &mark) in marks.iter().enumerate() {
+        assert_eq!(mark != guard as u8, at < changed);
+    }
+    answer
+}
+
+#[test]
+fn contexts_of_the_readings() {
+    assert_eq!(contexts(&[2, 0, 11, 0, 2, 0, 10, 0, 8, 0])[1], 1);
+    assert_eq!(contexts(&[2, 0, 2, 0, 9, 0, 8, 0])[..2], [0, 0]);
+}
+
+#[test]
+fn a_context_reaches_code_33_under_32_traps() {
+    let mut table = vec![2, 0, 2, 0, 4, 31, 9, 0, 10, 0];
+    table.extend([11, 0].repeat(32));
+    table.extend([8, 0]);
+    let all_but_paused = (1u64 << 34) - 1 - 2;
+    assert_eq!(contexts(&table)[0], all_but_paused);
+}
+
+fn contexts(table: &[u8]) -> Vec<u64> {
+    let size = table.len() / 2;
+    let mut contexts = vec![0; size];
+    analyse(
+        table,
+        &mut vec![0; size],
+        &mut vec![0; size],
+        &mut contexts,
+        &mut vec![0; size],
+    )
+    .expect("an accepted table");
+    contexts
+}
+
+#[test]
+fn parallel_of_sets_is_every_larger_one() {
+    for left in 0..64u64 {
+        for right in 0..64u64 {
+            let mut larger = 0;
+            for one in (0..6).filter(|code| left >> code & 1 == 1) {
+                for other in (0..6).filter(|code| right >> code & 1 == 1) {
+                    larger |= 1 << one.max(other);
+                }
+            }
+            assert_eq!(sets::parallel(left, right), larger);
+        }
+    }
+}
+
+#[test]
+fn trap_of_sets_goes_code_by_code() {
+    for body in 0..256u64 {
+        let mut codes = 0;
+        for code in (0..8u32).filter(|code| body >> code & 1 == 1) {
+            codes |= match code {
+                0 | 2 => 1,
+                1 => 2,
+                further_out => 1 << (further_out - 1),
+            };
+        }
+        assert_eq!(sets::trap(body), codes);
+    }
+}
+
+#[test]
+fn sets_of_accepted_tables() {
+    for edge in edges().iter().filter(|edge| edge.refusal.is_none()) {
+        let size = edge.table.len() / 2;
+        let mut start_sets = vec![0; size];
+        let mut any_sets = vec![0; size];
+        analyse(
+            &edge.table,
+            &mut start_sets,
+            &mut any_sets,
+            &mut vec![0; size],
+            &mut vec![0; size],
+        )
+        .expect("an accepted table");
+        for (start_set, any_set) in start_sets.iter().zip(&any_sets) {
+            assert_ne!(*start_set, 0, "{}", edge.name);
+            assert_eq!(start_set & !any_set, 0, "{}", edge.name);
+        }
+    }
+}

@@ -1,0 +1,153 @@
+//! What holds of every trail, tried on random programs and states.
+
+use compare::analyse;
+use compare::support::programs::{accepted, ladder, ladder_answers, ladder_state, SHAPES};
+use compare::support::random::Random;
+use compare::support::{states, SEED};
+use compare::table::{self, Statement, Tree};
+use compare::{resume_with_trail, start_with_trail, Closed, Entry, How};
+
+struct Tried {
+    table: Vec<u8>,
+    tree: Tree,
+    start_sets: Vec<u64>,
+    loop_depth: usize,
+}
+
+impl Tried {
+    fn new(table: Vec<u8>) -> Tried {
+        let size = table.len() / 2;
+        let mut start_sets = vec![0; size];
+        let (_, loop_depth) = analyse(
+            &table,
+            &mut start_sets,
+            &mut vec![0; size],
+            &mut vec![0; size],
+            &mut vec![0; size],
+        )
+        .expect("an accepted program");
+        let tree = table::read(&table).expect("an accepted program");
+        Tried {
+            table,
+            tree,
+            start_sets,
+            loop_depth,
+        }
+    }
+
+    fn check(&self, closed: Closed, trail: &[Entry], state: &[u8]) {
+        assert_eq!(closed.entries, trail.len());
+        assert_eq!(closed.taken, self.answers_taken(trail));
+        assert_eq!(closed.code, trail[0].code);
+        assert!(closed.entries <= self.tree.size() * (1 + self.loop_depth));
+        assert!(closed.code <= 1);
+        let holds = state.contains(&1);
+        assert_eq!(holds, closed.code == 1);
+        for entry in trail.iter().filter(|entry| entry.how == How::Started) {
+            assert_eq!(self.start_sets[entry.node] >> entry.code & 1, 1);
+            assert!(entry.code != 0 || !self.is_loop_body(entry.node));
+        }
+    }
+
+    /// The started presents and the resumed suspends.
+    fn answers_taken(&self, trail: &[Entry]) -> usize {
+        trail
+            .iter()
+            .filter(|entry| {
+                matches!(
+                    (self.tree.statements[entry.node], entry.how),
+                    (Statement::Present { .. }, How::Started)
+                        | (Statement::Suspend { .. }, How::Resumed)
+                )
+            })
+            .count()
+    }
+
+    fn is_loop_body(&self, node: usize) -> bool {
+        self.tree
+            .statements
+            .contains(&Statement::Loop { body: node })
+    }
+
+    fn start(&self, answers: &[u8]) -> Vec<u8> {
+        let mut state = vec![255; self.tree.size()];
+        let (closed, trail) =
+            start_with_trail(&self.table, answers, &mut state, &mut [0; 256]).unwrap();
+        assert!(closed.entries <= self.tree.size());
+        assert!(trail.iter().all(|entry| entry.how == How::Started));
+        self.check(closed, &trail, &state);
+        state
+    }
+
+    fn resume(&self, answers: &[u8], mut state: Vec<u8>) -> Vec<u8> {
+        let (closed, trail) =
+            resume_with_trail(&self.table, answers, &mut state, &mut [0; 256]).unwrap();
+        self.check(closed, &trail, &state);
+        state
+    }
+}
+
+fn answers(random: &mut Random) -> Vec<u8> {
+    let mut answers = random.bytes(4000);
+    for answer in &mut answers {
+        *answer &= 1;
+    }
+    answers
+}
+
+#[test]
+fn trails_of_random_programs() {
+    let random = &mut Random::new(SEED);
+    for number in 0..900 {
+        let nodes = if number % 30 == 0 { 1024 } else { 40 };
+        let shape = &SHAPES[number % SHAPES.len()];
+        let tried = Tried::new(accepted(random, shape, nodes));
+
+        let mut state = tried.start(&answers(random));
+        for _ in 0..4 {
+            if !state.contains(&1) {
+                break;
+            }
+            state = tried.resume(&answers(random), state);
+        }
+        if let Some(state) = states::random_admitted(random, &tried.tree) {
+            tried.resume(&answers(random), state);
+        }
+    }
+}
+
+#[test]
+fn trails_from_all_admitted_states_of_small_programs() {
+    let random = &mut Random::new(SEED + 1);
+    let mut tries = 0;
+    for number in 0..900 {
+        let shape = &SHAPES[number % SHAPES.len()];
+        let tried = Tried::new(accepted(random, shape, 14));
+        for state in states::all_admitted(&tried.tree) {
+            tried.resume(&answers(random), state);
+            tries += 1;
+        }
+    }
+    assert!(tries > 2000, "{tries}");
+}
+
+#[test]
+fn a_ladder_enters_its_innermost_statement_once_more_than_its_steps() {
+    for steps in 1..=32 {
+        let tried = Tried::new(ladder(steps));
+        let mut state = ladder_state(steps);
+        let (closed, trail) = resume_with_trail(
+            &tried.table,
+            &ladder_answers(steps),
+            &mut state,
+            &mut [0; 256],
+        )
+        .unwrap();
+        tried.check(closed, &trail, &state);
+        assert_eq!(closed.taken, ladder_answers(steps).len());
+        // The choice between pause and exits: after the pause and all others.
+        let choice = 2 * steps;
+        let times = trail.iter().filter(|entry| entry.node == choice).count();
+        assert_eq!(times, 1 + steps + 1);
+    }
+}
