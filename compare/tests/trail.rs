@@ -132,7 +132,7 @@ fn trails_from_all_admitted_states_of_small_programs() {
 }
 
 #[test]
-fn a_ladder_enters_its_innermost_statement_once_more_than_its_steps() {
+fn a_ladder_enters_its_choice_once_more_than_its_loops() {
     for steps in 1..=32 {
         let tried = Tried::new(ladder(steps));
         let mut state = ladder_state(steps);
@@ -145,9 +145,8 @@ fn a_ladder_enters_its_innermost_statement_once_more_than_its_steps() {
         .unwrap();
         tried.check(closed, &trail, &state);
         assert_eq!(closed.taken, ladder_answers(steps).len());
-        // The choice between pause and exits: after the pause and all others.
         let choice = 2 * steps;
         let times = trail.iter().filter(|entry| entry.node == choice).count();
-        assert_eq!(times, 1 + steps + 1);
+        assert_eq!(times, 1 + tried.loop_depth);
     }
 }

@@ -208,7 +208,7 @@ fn add_edges(files: &mut Files, random: &mut Random) {
 
 /// Programs of few pauses: a start and all admitted states.
 fn add_small(files: &mut Files, random: &mut Random) {
-    for number in 0..54 {
+    for number in 0..90 {
         let (table, tree) = program(random, number, 4, 16);
         if states::pauses(&tree).len() > 4 {
             continue;

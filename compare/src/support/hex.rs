@@ -11,7 +11,7 @@ pub fn encode(bytes: &[u8]) -> String {
 }
 
 pub fn decode(text: &str) -> Vec<u8> {
-    assert!(text.len() % 2 == 0, "odd number of digits: {text}");
+    assert_eq!(text.len() % 2, 0, "odd number of digits: {text}");
     (0..text.len())
         .step_by(2)
         .map(|at| u8::from_str_radix(&text[at..at + 2], 16).expect("hexadecimal digits"))

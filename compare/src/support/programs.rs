@@ -242,16 +242,16 @@ impl Draft<'_> {
     }
 }
 
-/// A program whose innermost statement is entered once for every step, and
-/// once more, in one instant: each step is a loop around a parallel, of a trap
-/// around the step within, and a pause. Innermost is a choice between a pause
-/// and an exit to any of the traps. At most 32 steps.
+/// A program whose innermost statement can be entered 1 + d times in one
+/// instant, with loop depth d. Innermost is a loop around a choice between a
+/// pause and an exit to any of the traps. Each step puts a loop around a
+/// parallel of a pause and a trap around what there is. At most 32 steps.
 pub fn ladder(steps: usize) -> Vec<u8> {
     let mut table = vec![2, 0];
     for level in 0..steps {
         table.extend([4, level as u8]);
     }
-    // Choices among all the exits, then the choice between pause and exits.
+    // Choices among the exits, then the choice between pause and exits.
     for _ in 0..steps {
         table.extend([6, 3]);
     }
@@ -276,7 +276,7 @@ pub fn ladder_answers(steps: usize) -> Vec<u8> {
     for level in 0..steps {
         answers.push(0);
         answers.extend(vec![0; level]);
-        // The last exit is what remains when all others are refused.
+        // The last exit is what remains when all others are passed over.
         if level + 1 < steps {
             answers.push(1);
         }
@@ -320,7 +320,7 @@ pub fn damaged(random: &mut Random, table: &[u8]) -> Vec<u8> {
         }
         8 => bytes[2 * node] = *random.pick(&[0, 12, 13, 128, 255]),
         9 => bytes[2 * node + 1] = random.between(1, 255) as u8,
-        10 | 11 => set_random_level(random, &mut bytes),
+        10 | 11 => set_random_levels(random, &mut bytes),
         12..=14 => pauses_to_nothing(random, &mut bytes),
         15 | 16 => bytes[2 * node] = random.between(1, 11) as u8,
         _ => {
@@ -336,7 +336,7 @@ fn flip_bit(random: &mut Random, bytes: &mut [u8]) {
 }
 
 /// Gives some of the exits a level that their traps may not reach.
-fn set_random_level(random: &mut Random, bytes: &mut [u8]) {
+pub fn set_random_levels(random: &mut Random, bytes: &mut [u8]) {
     for node in bytes.chunks_exact_mut(2) {
         if node[0] == 4 && random.one_in(2) {
             node[1] = *random.pick(&[0, 1, 2, 5, 31, 32, 63, 255]);
@@ -345,7 +345,7 @@ fn set_random_level(random: &mut Random, bytes: &mut [u8]) {
 }
 
 /// Lets some loop bodies end at once.
-fn pauses_to_nothing(random: &mut Random, bytes: &mut [u8]) {
+pub fn pauses_to_nothing(random: &mut Random, bytes: &mut [u8]) {
     for node in bytes.chunks_exact_mut(2) {
         if node[0] == 2 && random.one_in(2) {
             node[0] = 1;

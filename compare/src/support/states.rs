@@ -83,12 +83,15 @@ fn hold(random: &mut Random, tree: &Tree, node: usize, state: &mut [u8]) {
     }
 }
 
-/// Spoils a state so that it is not admitted, if that can be done.
+/// Spoils an admitted state, or none if that doesn't succeed.
 pub fn inadmissible(random: &mut Random, tree: &Tree, state: &[u8]) -> Option<Vec<u8>> {
     let mut bad = state.to_vec();
     match random.below(5) {
         0 => bad.fill(0),
-        1 => bad[*random.pick(&pauses(tree))] = random.between(2, 255) as u8,
+        1 => {
+            let held: Vec<usize> = (0..state.len()).filter(|&at| state[at] == 1).collect();
+            bad[*random.pick(&held)] = *random.pick(&[2, 3, 128, 255]);
+        }
         2 => {
             let node = random.below(tree.size());
             bad[node] = random.between(1, 255) as u8;

@@ -5,3 +5,4 @@ pub mod Loops
 pub mod Flags
 pub mod Contexts
 pub mod Accepts
+pub mod Analyses

@@ -58,3 +58,11 @@ column f (refused number node) old = old
 -- what a call over the table and these buffers comes to
 abbrev pub verdictFor : (t starts anys contexts marks : List ℕ) → Verdict
 verdictFor t starts anys contexts marks = checked (roomFor (length t / 2) (length starts) (length anys) (length contexts) (length marks)) t
+
+-- the contract of `analyse`: the answer, and the whole content of each buffer, from the table and the buffers' old contents
+pub record Analysis (t starts anys contexts marks starts′ anys′ contexts′ marks′ : List ℕ) (r : Analysed) : Type 0 where
+  pub answer : r ≡ answerOf (verdictFor t starts anys contexts marks)
+  pub startsAre : starts′ ≡ column kOf (verdictFor t starts anys contexts marks) starts
+  pub anysAre : anys′ ≡ column aOf (verdictFor t starts anys contexts marks) anys
+  pub contextsAre : contexts′ ≡ column sOf (verdictFor t starts anys contexts marks) contexts
+  pub marksAre : marks′ ≡ column markOf (verdictFor t starts anys contexts marks) marks

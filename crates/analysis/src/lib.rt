@@ -16,7 +16,7 @@ ghost use Rattle.esterel.specs.Checks.{endsAtOnce};
 ghost use Rattle.table.specs.Program.{programOf, Readable};
 ghost use Rattle.analysis.specs.Passes.{Surveyable, FilledTo, wordsOf, onto, loopsCheck, placeAt, firstEnds, flagsOf, contextsOf, marksOf, Walkable, Accepting};
 ghost use Rattle.table.specs.Check.{WellSized};
-ghost use Rattle.analysis.specs.Analysis.{answerOf, refusalOf, roomFor, column, verdictFor, kOf, aOf, sOf, markOf};
+ghost use Rattle.analysis.specs.Analysis.{refusalOf, roomFor, Analysis};
 use table::Check;
 use table::Kind;
 
@@ -345,5 +345,55 @@ fn refused(check: Check) -> Analysed
     match check {
         Check::Passed => Analysed::Refused { number: 0, node: 0 },
         Check::Refused { number, node } => Analysed::Refused { number, node },
+    }
+}
+
+// Whether each of four buffers has an entry for each of n nodes.
+fn has_room(n: usize, starts: usize, anys: usize, contexts: usize, marks: usize) -> bool
+    ensures { λ r. ⌜ r ≡ roomFor n starts anys contexts marks ⌝ }
+{
+    (n <= starts) & (n <= anys) & (n <= contexts) & (n <= marks)
+}
+
+// The analysis of a table: checks 1, 2, 3, 4 to 11, then K, A, S and marks of every node in postorder. A refusal changes
+// nothing that is lent: all before check 11 has passed goes into local arrays.
+pub fn analyse(
+    table: &[u8],
+    start_sets: &mut [u64],
+    any_sets: &mut [u64],
+    contexts: &mut [u64],
+    marks: &mut [u8],
+) -> Analysed
+    ensures { λ r. ⌜ Analysis (now (table .entry)) (now («start_sets» .entry)) (now («any_sets» .entry)) (now (contexts .entry)) (now (marks .entry)) (now («start_sets» .exit)) (now («any_sets» .exit)) (now (contexts .exit)) (now (marks .exit)) r ⌝ }
+{
+    let length = table::check_length(table);
+    let Check::Passed = length else {
+        return refused(length);
+    };
+    let n = table.len() / 2;
+    let room = has_room(
+        n,
+        start_sets.len(),
+        any_sets.len(),
+        contexts.len(),
+        marks.len(),
+    );
+    if !room {
+        return Analysed::Refused { number: 3, node: 0 };
+    }
+    let mut sizes = [0u16; esterel::MAX_NODES];
+    let mut sets = [0u64; esterel::MAX_NODES];
+    let accepted = accept(table, &mut sizes, &mut sets);
+    let check = accepted.check;
+    let Check::Passed = check else {
+        return refused(check);
+    };
+    copy(&sets, start_sets, n);
+    fill(table, &sizes, true, any_sets);
+    fill_flags(table, &sizes, &sets, marks);
+    fill_contexts(table, &sets, any_sets, contexts, marks);
+    Analysed::Done {
+        nodes: n,
+        loops: accepted.loops,
     }
 }

@@ -1,0 +1,200 @@
+-- One lemma for each return of `analyse`.
+use mathlib.Core.Path.{_≡_, refl, sym, ap, ap₂, subst, _∙_}
+use mathlib.Core.Bool.{Bool, true, false, not, _&&_}
+use mathlib.Core.List.{List, [], _∷_, _++_, map}
+use Prim.Native.Nat.{ℕ, zero, suc, _*_, _/_, _≤_, _<_}
+use native.Mathlib.Omega.{arith}
+use borrow.Author.Tests.{leb-true}
+use lib.Dec.{leb}
+use lib.ListN.{length, getD, take, drop, List·getD-append}
+use lib.Seq.{drop-at, getD-take}
+use Rattle.codes.specs.Codes.{empty, word}
+use Rattle.codes.proofs.Bools.{left, right}
+use Rattle.esterel.specs.Statement.{Stmt, size, nodes, loopDepth}
+use Rattle.esterel.specs.Sets.{Place, at, placesOf, mark}
+use Rattle.esterel.specs.Table.{Verdict, passed, refused, scan}
+use Rattle.esterel.specs.Checks.{checkProgram, Line, lineOf, listing}
+use Rattle.esterel.specs.Outcome.{statementAt}
+use Rattle.esterel.proofs.Accepted.{stmtOf, statements}
+use Rattle.table.specs.Program.{programOf}
+use Rattle.table.specs.Check.{refuse, lengthCheck}
+use Rattle.table.specs.Check.{answerOf as checkOf}
+use Rattle.table.specs.declared.Check.{Check}
+use Rattle.table.specs.declared.Check.the-variants.{Passed}
+use Rattle.table.specs.declared.Check.the-variants.{Refused as RefusedCheck}
+use Rattle.table.proofs.View.{table-length}
+use Rattle.analysis.specs.Steps.{setOfStmt}
+use Rattle.analysis.specs.Passes.{FilledTo, wordsOf, onto, firstEnds, flagsOf, contextWord, contextsOf, marksOf, Ready, Walkable}
+use Rattle.analysis.specs.Analysis.{checkRoom, checked, roomFor, answerOf, refusalOf, kOf, aOf, sOf, markOf, column, verdictFor, Analysis}
+use Rattle.analysis.specs.declared.Analysed.{Analysed}
+use Rattle.analysis.specs.declared.Analysed.the-variants.{Done, Refused}
+use Rattle.analysis.proofs.Accepts.{length-law}
+use Rattle.analysis.proofs.Contexts.{length-marks}
+use Rattle.analysis.proofs.Filling.{length-words, words-at, filled-to, length-flags, flags-at}
+
+-- ---- the verdict of the call
+
+module _ (t k a s m : List ℕ) where
+  abbrev room : Bool
+  room = roomFor (length t / 2) (length k) (length a) (length s) (length m)
+
+  abbrev later : Bool → Verdict
+  later b = checkRoom b (checkProgram (scan t 0 []))
+
+  after-length : (c : Check) → c ≡ lengthCheck t → verdictFor t k a s m ≡ refuse c (later room)
+  unfolding checked
+  after-length c e = length-law t (later room) ∙ ap (λ x. refuse x (later room)) (sym e)
+
+  pub length-refused : (c : Check) (number node : ℕ) → c ≡ lengthCheck t → c ≡ RefusedCheck number node → verdictFor t k a s m ≡ refused number node
+  length-refused c number node e z = after-length c e ∙ ap (λ x. refuse x (later room)) z
+
+  module _ (c : Check) (e : c ≡ lengthCheck t) (z : c ≡ Passed) (b : Bool) (eb : b ≡ roomFor (length t / 2) (length k) (length a) (length s) (length m)) where
+    after-room : verdictFor t k a s m ≡ later b
+    after-room = after-length c e ∙ ap (λ x. refuse x (later room)) z ∙ ap later (sym eb)
+
+    pub room-refused : b ≡ false → verdictFor t k a s m ≡ refused 3 0
+    room-refused f = after-room ∙ ap later f
+
+    pub room-passed : b ≡ true → verdictFor t k a s m ≡ checkProgram (scan t 0 [])
+    room-passed f = after-room ∙ ap later f
+
+-- a refusal's number and node are its verdict's
+pub verdict-refused : (v : Verdict) (c : Check) (number node : ℕ) → c ≡ checkOf v → c ≡ RefusedCheck number node → v ≡ refused number node
+verdict-refused (passed p) c number node e z = let f : RefusedCheck number node ≡ Passed = sym z ∙ e in cc
+verdict-refused (refused x y) c number node e z = let f : RefusedCheck number node ≡ RefusedCheck x y = sym z ∙ e in cc
+
+-- nothing lent has changed
+pub refusing : {t k a s m : List ℕ} {r : Analysed} (number node : ℕ) → verdictFor t k a s m ≡ refused number node → r ≡ Refused number node → Analysis t k a s m k a s m r
+unfolding answerOf column
+refusing {k = k} {a = a} {s = s} {m = m} number node v e =
+    record {
+      answer = e ∙ sym (ap answerOf v);
+      startsAre = sym (ap (λ x. column kOf x k) v);
+      anysAre = sym (ap (λ x. column aOf x a) v);
+      contextsAre = sym (ap (λ x. column sOf x s) v);
+      marksAre = sym (ap (λ x. column markOf x m) v);
+    }
+
+pub refusal-is : {c : Check} {r : Analysed} (number node : ℕ) → c ≡ RefusedCheck number node → r ≡ refusalOf c → r ≡ Refused number node
+refusal-is number node z e = e ∙ ap refusalOf z
+
+-- ---- room
+
+-- n is the number of nodes
+pub record Room (n k a s m : ℕ) : Type 0 where
+  pub starts : n ≤ k
+  pub anys : n ≤ a
+  pub contexts : n ≤ s
+  pub marks : n ≤ m
+
+pub room-of : (n k a s m : ℕ) (b : Bool) → b ≡ roomFor n k a s m → b ≡ true → Room n k a s m
+room-of n k a s m b e z =
+    let f : roomFor n k a s m ≡ true = sym e ∙ z in
+    let g = left (leb n k && leb n a && leb n s) (leb n m) f in
+    let h = left (leb n k && leb n a) (leb n s) g in
+    record {
+      starts = leb-true n k (left (leb n k) (leb n a) h);
+      anys = leb-true n a (right (leb n k) h);
+      contexts = leb-true n s (right (leb n k && leb n a) g);
+      marks = leb-true n m (right (leb n k && leb n a && leb n s) f);
+    }
+
+-- ---- the columns
+
+map-lines : (f : Line → ℕ) (g : Place → ℕ) → ((x : Place) → f (lineOf x) ≡ g x) → (ps : List Place) → map f (map lineOf ps) ≡ map g ps
+map-lines f g e [] = refl
+map-lines f g e (x ∷ ps) = rw (e x, map-lines f g e ps)
+
+map-stmts : (f : Stmt → ℕ) (ps : List Place) → map (λ x. f (stmtOf x)) ps ≡ map f (map stmtOf ps)
+map-stmts f [] = refl
+map-stmts f (x ∷ ps) = rw (map-stmts f ps)
+
+starts-column : (p : Stmt) → map kOf (listing p) ≡ wordsOf false p
+unfolding wordsOf
+starts-column p =
+    map-lines kOf (λ x. word (setOfStmt false (stmtOf x))) by (placesOf p) ∙ map-stmts (λ q. word (setOfStmt false q)) (placesOf p) ∙ ap (map (λ q. word (setOfStmt false q))) (statements p 1 0 empty)
+  where
+    by : (x : Place) → kOf (lineOf x) ≡ word (setOfStmt false (stmtOf x))
+    by (at d t S q) = refl
+
+anys-column : (p : Stmt) → map aOf (listing p) ≡ wordsOf true p
+unfolding wordsOf
+anys-column p =
+    map-lines aOf (λ x. word (setOfStmt true (stmtOf x))) by (placesOf p) ∙ map-stmts (λ q. word (setOfStmt true q)) (placesOf p) ∙ ap (map (λ q. word (setOfStmt true q))) (statements p 1 0 empty)
+  where
+    by : (x : Place) → aOf (lineOf x) ≡ word (setOfStmt true (stmtOf x))
+    by (at d t S q) = refl
+
+contexts-column : (p : Stmt) → map sOf (listing p) ≡ contextsOf p
+unfolding contextsOf
+contexts-column p = map-lines sOf contextWord by (placesOf p)
+  where
+    by : (x : Place) → sOf (lineOf x) ≡ contextWord x
+    by (at d t S q) = refl
+
+marks-column : (p : Stmt) → map markOf (listing p) ≡ marksOf p
+unfolding marksOf
+marks-column p = map-lines markOf mark by (placesOf p)
+  where
+    by : (x : Place) → markOf (lineOf x) ≡ mark x
+    by (at d t S q) = refl
+
+column-is : (f : Line → ℕ) (p : Stmt) (v : Verdict) (c old : List ℕ) → v ≡ passed p → map f (listing p) ≡ c → onto c old ≡ column f v old
+unfolding column
+column-is f p v c old e z = ap (λ x. onto x old) (sym z) ∙ sym (ap (λ x. column f x old) e)
+
+-- a column over a column of the same length
+onto-onto : (c d old : List ℕ) → length c ≡ length d → onto c (onto d old) ≡ onto c old
+onto-onto c d old e = rw (drop-at d (drop (length d) old) (length c) (sym e), ← e) refl
+
+-- ---- what the passes need, and what they leave
+
+module _ {t sizes sets : List ℕ} (o : Ready t sizes sets) where
+  abbrev p : Stmt
+  p = programOf t
+
+  pub nodes-are : length t / 2 ≡ size p
+  nodes-are = omega (arith, table-length t (o .surveyable .readable))
+
+  pub starts-to : FilledTo false p (size p) sets
+  unfolding FilledTo
+  starts-to j h =
+      sym (getD-take (size p) sets j 0 h) ∙ ap (λ l. getD l j 0) (o .starts) ∙ words-at false p j h
+
+  pub walkable : {anys contexts marks : List ℕ} (oldAnys oldMarks : List ℕ) → anys ≡ onto (wordsOf true p) oldAnys → size p ≤ length anys → size p ≤ length contexts → marks ≡ onto (flagsOf p) oldMarks → size p ≤ length marks → Walkable t sets anys contexts marks
+  walkable oldAnys oldMarks ea ra rs em rm =
+      record {
+        readable = o .surveyable .readable;
+        passes = o .surveyable .passes;
+        starts = starts-to;
+        startsRoom = o .room;
+        any = subst (FilledTo true p (size p)) (sym ea) (filled-to true p oldAnys);
+        anyRoom = ra;
+        flags = λ j h. ap (λ l. getD l j 0) em ∙ List·getD-append (flagsOf p) (drop (length (flagsOf p)) oldMarks) 0 j (rw (length-flags p) h) ∙ flags-at p j h;
+        room = rs;
+        marksRoom = rm;
+      }
+
+  pub finishing : {k a s m k′ a′ s′ m′ m″ : List ℕ} {n loops : ℕ} → verdictFor t k a s m ≡ checkProgram (scan t 0 []) → n ≡ length t / 2 → loops ≡ loopDepth p → k′ ≡ take n sets ++ drop n k → a′ ≡ onto (wordsOf true p) a → m″ ≡ onto (flagsOf p) m → s′ ≡ onto (contextsOf p) s → m′ ≡ onto (marksOf p) m″ → Analysis t k a s m k′ a′ s′ m′ (Done n loops)
+  unfolding answerOf
+  finishing {k} {a} {s} {m} {k′} {a′} {s′} {m′} {m″} {n} {loops} v en el ek ea em es em′ =
+      let z : verdictFor t k a s m ≡ passed p = v ∙ o .verdict in
+      let count : n ≡ size p = en ∙ nodes-are in
+      record {
+        answer = ap₂ Done count el ∙ sym (ap answerOf z);
+        startsAre =
+            ek ∙ ap (λ x. take x sets ++ drop x k) count ∙ ap (λ x. x ++ drop (size p) k) (o .starts)
+            ∙ ap (λ x. wordsOf false p ++ drop x k) (sym (length-words false p)) ∙ column-is kOf p _ _ k z (starts-column p);
+        anysAre = ea ∙ column-is aOf p _ _ a z (anys-column p);
+        contextsAre = es ∙ column-is sOf p _ _ s z (contexts-column p);
+        marksAre =
+            em′ ∙ ap (onto (marksOf p)) em ∙ onto-onto (marksOf p) (flagsOf p) m (length-marks p ∙ sym (length-flags p)) ∙ column-is markOf p _ _ m z (marks-column p);
+      }
+
+pub not-is-true : (b : Bool) → not b ≡ true → b ≡ false
+not-is-true true e = sym e
+not-is-true false e = refl
+
+pub not-is-false : (b : Bool) → not b ≡ false → b ≡ true
+not-is-false true e = refl
+not-is-false false e = sym e
