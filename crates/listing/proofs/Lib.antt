@@ -1,0 +1,10 @@
+pub mod Digits
+pub mod Writing
+pub mod Numbers
+pub mod Fields
+pub mod Lines
+pub mod Columns
+pub mod Whole
+pub mod Bound
+pub mod Example
+pub mod Fronts
