@@ -6,7 +6,7 @@ use Prim.Native.Nat.{ℕ, _+_, _/_, _≤_, _<_}
 use native.Mathlib.Omega.{arith}
 use borrow.Author.Tests.{le-leb, lt-leb}
 use lib.Dec.{leb}
-use lib.ListN.{length, drop}
+use lib.ListN.{length, drop, length-append}
 use lib.Seq.{sets, sets-eq}
 use Rattle.esterel.specs.Limits.{maxNodes}
 use Rattle.esterel.specs.Table.{Verdict, passed, refused}
@@ -17,7 +17,7 @@ use Rattle.analysis.specs.declared.Analysed.{Analysed}
 use Rattle.analysis.specs.declared.Analysed.the-variants.{Done, Refused}
 use Rattle.listing.specs.Text.{textOf}
 use Rattle.listing.specs.Written.{Written}
-use Rattle.listing.specs.Rendering.{Rendering}
+use Rattle.listing.specs.Rendering.{Rendering, WholeText}
 use Rattle.listing.proofs.Columns.{room-enough, checked-verdict, refused-is, Listed, done-is}
 use Rattle.listing.specs.declared.Rendered.{Rendered}
 use Rattle.listing.specs.declared.Rendered.the-variants.{Whole, TooShort}
@@ -55,3 +55,25 @@ module _ {t k a s m k′ a′ s′ m′ : List ℕ} {r : Analysed} (o : Analysis
 
   pub listed-text : {n d : ℕ} → r ≡ Done n d → passed (programOf t) ≡ verdict t
   listed-text e = sym (listed e .is) ∙ local-verdict t k a s m ek ea es em
+
+-- where the text fits, it is there whole, and the answer says so
+module _ {text old new : List ℕ} {r : Rendered} (o : Rendering text old new r) (fits : length text ≤ length old) where
+  room-is : leb (length text) (length old) ≡ true
+  room-is = le-leb (length text) (length old) fits
+
+  answer-is : r ≡ Whole (length text)
+  answer-is = o .answer ∙ rw room-is
+
+  pub whole-text : {n : ℕ} → r ≡ Whole n → WholeText text old new n
+  whole-text {n} e =
+      let same : Whole n ≡ Whole (length text) = sym e ∙ answer-is in
+      let end : n ≡ length text = cc in
+      let content : new ≡ text ++ drop (length text) old = o .content ∙ rw room-is in
+      record {
+        end = end;
+        within = rw (content, length-append) (omega arith);
+        content = content;
+      }
+
+  pub never-short : {A : Type 0} → r ≡ TooShort → A
+  never-short e = let same : TooShort ≡ Whole (length text) = sym e ∙ answer-is in let z : _≡_ {A = ℕ} 0 1 = cc in absurd (omega arith)

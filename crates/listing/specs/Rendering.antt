@@ -1,5 +1,5 @@
 -- What `render` answers and leaves in the lent text.
-use Prim.Native.Nat.{ℕ}
+use Prim.Native.Nat.{ℕ, _≤_}
 use mathlib.Core.Path.{_≡_}
 use mathlib.Core.Bool.{Bool, true, false, cond}
 use mathlib.Core.List.{List, _++_}
@@ -12,3 +12,9 @@ use Rattle.listing.specs.declared.Rendered.the-variants.{Whole, TooShort
 pub record Rendering (text old new : List ℕ) (r : Rendered) : Type 0 where
   pub answer : r ≡ cond (leb (length text) (length old)) (Whole (length text)) TooShort
   pub content : new ≡ cond (leb (length text) (length old)) (text ++ drop (length text) old) old
+
+-- the text at the front of a buffer in which it always fits
+pub record WholeText (text old new : List ℕ) (r : ℕ) : Type 0 where
+  pub end : r ≡ length text
+  pub within : r ≤ length new
+  pub content : new ≡ text ++ drop (length text) old

@@ -11,7 +11,7 @@ ghost use Rattle.table.specs.Program.{programOf};
 ghost use Rattle.listing.specs.Text.{digit as digitOf, digits, lineText, linesFrom, headerText, textOf};
 ghost use Rattle.esterel.specs.Checks.{verdict};
 ghost use Rattle.listing.specs.Written.{Written, lineAt, Columns};
-ghost use Rattle.listing.specs.Rendering.{Rendering};
+ghost use Rattle.listing.specs.Rendering.{Rendering, WholeText};
 use analysis::Analysed;
 
 // How many digits a number has.
@@ -326,5 +326,19 @@ pub fn render(table: &[u8], text: &mut [u8]) -> Rendered
         Analysed::Done { nodes: _, loops } => {
             render_listing(table, &starts, &anys, &contexts, &marks, loops, text)
         }
+    }
+}
+
+// A text of this many bytes holds the listing of any table.
+pub const MAX_TEXT: usize = 67584;
+
+// The listing, or the line of the refusal, in a text that is long enough for any; its length.
+pub fn render_whole(table: &[u8], text: &mut [u8; MAX_TEXT]) -> usize
+    ensures { λ r. ⌜ WholeText (textOf (verdict (now (table .entry)))) (now (text .entry)) (now (text .exit)) r ⌝ }
+{
+    let rendered = render(table, text);
+    match rendered {
+        Rendered::Whole { length } => length,
+        Rendered::TooShort => 0,
     }
 }
