@@ -2,6 +2,7 @@
 // output. What it prints is the library's; this file only moves bytes.
 ghost use Prim.Native.Nat.{_≤_};
 ghost use lib.ListN.{length};
+ghost use Rattle.list.specs.Input.{Within};
 
 // What reading the input came to.
 enum Input {

@@ -1,0 +1,85 @@
+-- `tables::list_next` meets its contract: what is read lies within its buffer.
+use borrow.Author.Needs.{needs}
+use native.Mathlib.Omega.{arith}
+use mathlib.Core.Path.{sym}
+use lib.ListN.{length-append}
+use lib.Seq.{length-take-le}
+use Rattle.tables.proofs.list_next.Statement.{statement}
+use Rattle.tables.proofs.list_next.Tie as tie
+
+slice-aggregate-read-full : tie.Need-slice-aggregate-read-full
+slice-aggregate-read-full c = search needs
+
+read-full-requires : tie.Need-read-full-requires
+read-full-requires c κs = search needs
+
+returns : tie.Need-returns
+returns c = search needs
+
+array-read-wide : tie.Need-array-read-wide
+array-read-wide c = search needs
+
+wide-requires : tie.Need-wide-requires
+wide-requires c κs = search needs
+
+array-read-wide-2 : tie.Need-array-read-wide-2
+array-read-wide-2 c = search needs
+
+wide-requires-2 : tie.Need-wide-requires-2
+wide-requires-2 c κs = search needs
+
+mul-length : tie.Need-mul-length
+mul-length c = omega (arith, c .wide2 .ensures)
+
+add-length : tie.Need-add-length
+add-length c = omega (arith, c .before .wide .ensures, c .wide2 .ensures)
+
+buffer-requires : tie.Need-buffer-requires
+buffer-requires c κs = search needs
+
+returns-2 : tie.Need-returns-2
+returns-2 c = search needs
+
+array-borrow-prefix-table : tie.Need-array-borrow-prefix-table
+array-borrow-prefix-table c = search needs
+
+slice-aggregate-read-full-2 : tie.Need-slice-aggregate-read-full-2
+slice-aggregate-read-full-2 c = sym (length-take-le _ _ (omega (arith, c .before .if2 .left, c .before .before .buffer .ensures)))
+
+read-full-requires-2 : tie.Need-read-full-requires-2
+read-full-requires-2 c κs = search needs
+
+array-share-prefix-table : tie.Need-array-share-prefix-table
+array-share-prefix-table c = rw length-append (omega (arith, c .before .read-full2 .ensures .0))
+
+slice-aggregate-list-one : tie.Need-slice-aggregate-list-one
+slice-aggregate-list-one c = sym (length-take-le _ _ (rw length-append (omega (arith, c .before .before .read-full2 .ensures .0))))
+
+list-one-requires : tie.Need-list-one-requires
+list-one-requires c κs = search needs
+
+returns-3 : tie.Need-returns-3
+returns-3 c = search needs
+
+pub list-next-spec : {M : Type 1} → statement M
+list-next-spec =
+    tie.close
+    (tie.spec
+    slice-aggregate-read-full
+    read-full-requires
+    returns
+    array-read-wide
+    wide-requires
+    array-read-wide-2
+    wide-requires-2
+    mul-length
+    add-length
+    buffer-requires
+    returns-2
+    array-borrow-prefix-table
+    slice-aggregate-read-full-2
+    read-full-requires-2
+    array-share-prefix-table
+    slice-aggregate-list-one
+    list-one-requires
+    returns-3)
