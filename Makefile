@@ -1,16 +1,25 @@
-# Thin, over the toolchain's rt. Each target does its own set-up.
-.PHONY: run test definitions
+# Thin, over the toolchain's rt and cargo. Each target does its own set-up.
+.PHONY: run test definitions vectors
 
-# the worked examples: proves the definitions and Table W, and prints the table
+# builds the listing program and lists a worked example; TABLE=FILE lists a table of your own
+TABLE = examples/w1.table
 run:
-	@rt check esterel
-	@sed -n '/^pub record TableW/,$$p' crates/esterel/specs/TableW.antt
+	@rt check list > target-run.log 2>&1 || { cat target-run.log; rm -f target-run.log; exit 1; }
+	@rm -f target-run.log
+	@target/bin/list < $(TABLE)
 
-# the gate: every crate proved from nothing, every must-fail edit refused, every file formatted
+# the gate: everything proved from nothing, every must-fail edit refused, every program's output compared, all formatted
 test:
-	@rt fmt --check
-	@rt ci
+	@tools/test.sh
 
 # the definitions against vectors made by another program, and the edges of document 01
 definitions:
 	@python3 tools/run_definitions.py
+
+# writes the expected outputs of the program crates again, by the implementation in compare/, and shows what differs
+VECTORS = ../shared/vectors
+vectors:
+	@cd compare && cargo build --release --offline --quiet
+	@compare/target/release/tables --listing-vectors $(VECTORS)/listing_open.jsonl crates/tables/stdin crates/tables/stdout
+	@for t in examples/*.table; do compare/target/release/list < $$t > $${t%.table}.listing; done
+	@git diff --stat -- crates examples
