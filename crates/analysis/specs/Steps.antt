@@ -1,7 +1,6 @@
 -- One node's set from its children's, on 64-bit words: what the passes compute. `last` is the word of the only child or of the second,
 -- `first` that of the first of two.
 use Prim.Native.Nat.{ℕ, zero, suc, _+_}
-use mathlib.Core.List.{List, [], _∷_}
 use mathlib.Core.Bool.{Bool, true, false, cond}
 use Rattle.codes.specs.Codes.{Codes, only, union, word}
 use Rattle.codes.specs.Words.{_∋_, singletonOf, unionOf, withoutEndedOf, meetsOf, parallelOf, caughtOf, underTrapOf, underParallelOf}
@@ -90,9 +89,3 @@ trapsOf Sequence t = t
 trapsOf Parallel t = t
 trapsOf Trap t = t + 1
 trapsOf Unknown t = t
-
--- what is pushed for the children: nothing, the only one's, or the first's and then the second's
-abbrev pub pushed : (children left right : ℕ) → List ℕ
-pushed zero x y = []
-pushed (suc zero) x y = x ∷ []
-pushed (suc (suc c)) x y = x ∷ y ∷ []

@@ -1,21 +1,19 @@
 // The analysis of a table: start sets K, any-instant sets A, contexts S and marks.
 ghost use mathlib.Core.Path.{_≡_};
-ghost use Prim.Native.Nat.{ℕ, _+_, _-_, _*_, _<_, _≤_};
-ghost use lib.ListN.{length, getD, take, drop};
 ghost use mathlib.Core.List.{_++_};
 ghost use mathlib.Core.Bool.{false};
+ghost use Prim.Native.Nat.{ℕ, _+_, _-_, _*_, _<_, _≤_};
+ghost use lib.ListN.{length, getD, take, drop};
 ghost use Rattle.codes.specs.Words.{singletonOf, meetsOf};
 ghost use Rattle.codes.specs.Codes.{bit, word};
-ghost use lib.Seq.{sets as setsFrom};
-ghost use Rattle.table.specs.Kinds.{kindOf, arityOf};
 ghost use Rattle.esterel.specs.Statement.{size, nodes};
 ghost use Rattle.esterel.specs.Outcome.{statementAt};
-ghost use Rattle.table.specs.declared.Kind.the-variants.{Exit};
-ghost use Rattle.analysis.specs.Steps.{pauseSet, setOfStmt, sequenceOf, codesOf, underFirstOf, underSecondOf, leftOf, rightOf, trapsOf, pushed};
 ghost use Rattle.esterel.specs.Checks.{endsAtOnce};
+ghost use Rattle.table.specs.declared.Kind.the-variants.{Exit};
 ghost use Rattle.table.specs.Program.{programOf, Readable};
-ghost use Rattle.analysis.specs.Passes.{Surveyable, FilledTo, wordsOf, onto, loopsCheck, placeAt, firstEnds, flagsOf, contextsOf, marksOf, Walkable, Accepting};
 ghost use Rattle.table.specs.Check.{WellSized};
+ghost use Rattle.analysis.specs.Steps.{pauseSet, setOfStmt, sequenceOf, codesOf, underFirstOf, underSecondOf, leftOf, rightOf, trapsOf};
+ghost use Rattle.analysis.specs.Passes.{Surveyable, FilledTo, wordsOf, onto, loopsCheck, placeAt, firstEnds, flagsOf, contextsOf, marksOf, Walkable, Accepting};
 ghost use Rattle.analysis.specs.Analysis.{refusalOf, roomFor, Analysis};
 use table::Check;
 use table::Kind;
