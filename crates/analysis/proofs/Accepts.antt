@@ -35,21 +35,21 @@ length-law t next = go (ltb (2 * maxNodes) (length t)) (eqb (length t) 0 || eqb 
 
 pub well-sized : (t : List ℕ) → lengthCheck t ≡ Passed → WellSized t
 unfolding lengthCheck
-well-sized t e = go (ltb 2048 (length t)) refl (eqb (length t) 0) refl (eqb (length t % 2) 1) refl e
+well-sized t e = go (ltb (2 * maxNodes) (length t)) refl (eqb (length t) 0) refl (eqb (length t % 2) 1) refl e
   where
-    go : (a : Bool) → ltb 2048 (length t) ≡ a → (b : Bool) → eqb (length t) 0 ≡ b → (c : Bool) → eqb (length t % 2) 1 ≡ c → cond a (Refused 1 0) (cond (b || c) (Refused 2 0) Passed) ≡ Passed → WellSized t
+    go : (a : Bool) → ltb (2 * maxNodes) (length t) ≡ a → (b : Bool) → eqb (length t) 0 ≡ b → (c : Bool) → eqb (length t % 2) 1 ≡ c → cond a (Refused 1 0) (cond (b || c) (Refused 2 0) Passed) ≡ Passed → WellSized t
     go true ea b eb c ec z = let y : _≡_ {A = ℕ} 0 1 = cc in absurd (omega arith)
     go false ea true eb c ec z = let y : _≡_ {A = ℕ} 0 1 = cc in absurd (omega arith)
     go false ea false eb true ec z = let y : _≡_ {A = ℕ} 0 1 = cc in absurd (omega arith)
     go false ea false eb false ec z =
         let some : length t ≡ 0 → ⊥ = eqb-false (length t) 0 eb in
         let even : length t % 2 ≡ 1 → ⊥ = eqb-false (length t % 2) 1 ec in
-        record { some = omega arith; even = omega arith; few = ltb-false 2048 (length t) ea }
+        record { some = omega arith; even = omega arith; few = ltb-false (2 * maxNodes) (length t) ea }
 
 -- a table of a good length is read by its nodes
 pub read-is : (t : List ℕ) → WellSized t → read t ≡ scan t 0 []
 read-is t w =
-    let a : ltb 2048 (length t) ≡ false = le-ltb 2048 (length t) (w .few) in
+    let a : ltb (2 * maxNodes) (length t) ≡ false = le-ltb (2 * maxNodes) (length t) (w .few) in
     let b : eqb (length t) 0 ≡ false = ne-eqb (length t) 0 (λ z. omega (arith, w .some)) in
     let c : eqb (length t % 2) 1 ≡ false = ne-eqb (length t % 2) 1 (λ z. omega (arith, w .even)) in
     rw (a, b, c)

@@ -12,7 +12,7 @@ use Rattle.codes.specs.Codes.{Codes, empty, only, union, given, withoutEnded, m
 use Rattle.codes.specs.Words.{singletonOf, unionOf, withoutEndedOf, meetsOf}
 use Rattle.codes.proofs.Bools.{toNot}
 use Rattle.codes.proofs.Laws.{singleton-word, union-word, without-ended-word, meets-word, under-trap-word, under-parallel-word, given-word, word-same}
-use Rattle.esterel.specs.Limits.{maxNodes}
+use Rattle.esterel.specs.Limits.{maxNodes, maxDepth}
 use Rattle.esterel.specs.Statement.{Leaf, nothing, pause, emit, exit, Unary, signal, suspend, loop, trap, Binary, present, sequence, parallel, Stmt, leaf, one, two, kind, size, nodes, trapsUnder}
 use Rattle.esterel.specs.Sets.{startSet, anyInstantSet, Place, at, placesOf, under, underFirst, underLeft, underRight, mark}
 use Rattle.esterel.specs.Checks.{tooDeep}
@@ -158,8 +158,8 @@ pub record Walking (p : Stmt) (pending counts contexts₀ contexts marks₀ mark
   pub ws : List Waiting
   pub walk : Walk p i ws
   pub count : waiting ≡ length ws
-  pub pendingLong : length pending ≡ 257
-  pub countsLong : length counts ≡ 257
+  pub pendingLong : length pending ≡ maxDepth + 1
+  pub countsLong : length counts ≡ maxDepth + 1
   pub pendingOn : On (λ w. word (w .context)) pending ws
   pub countsOn : On (λ w. w .traps) counts ws
   pub contextsAre : contexts ≡ back (contextsOf p) contexts₀ i
@@ -170,7 +170,7 @@ unfolding word
 empty-word = refl
 
 -- at the beginning the program waits, with the empty context
-pub walk-start : (p : Stmt) (pending counts contexts marks : List ℕ) (i : ℕ) → i ≡ size p → length pending ≡ 257 → getD pending 0 0 ≡ 0 → length counts ≡ 257 → getD counts 0 0 ≡ 0 → Walking p pending counts contexts contexts marks marks 1 i
+pub walk-start : (p : Stmt) (pending counts contexts marks : List ℕ) (i : ℕ) → i ≡ size p → length pending ≡ maxDepth + 1 → getD pending 0 0 ≡ 0 → length counts ≡ maxDepth + 1 → getD counts 0 0 ≡ 0 → Walking p pending counts contexts contexts marks marks 1 i
 unfolding begin
 walk-start p pending counts contexts marks i e lp vp lc vc =
     rw e
@@ -215,7 +215,7 @@ pub record Turn (t counts contexts marks : List ℕ) (waiting i : ℕ) : Type 0 
   pub inside : i < size (programOf t)
   pub table : 2 * i + 1 < length t
   pub waits : 1 ≤ waiting
-  pub fits : waiting - 1 + 1 < 257
+  pub fits : waiting - 1 + 1 < maxDepth + 1
   pub traps : getD counts (waiting - 1) 0 ≤ 62
   pub inContexts : i < length contexts
   pub inMarks : i < length marks
@@ -240,11 +240,11 @@ module _ {t : List ℕ} (readable : Readable t) (passes : placesCheck (placesOf 
   pass : PlacesPass (placesOf (programOf t))
   pass = places-pass (placesOf (programOf t)) passes
 
-  not-deep : w .depth ≤ 256
+  not-deep : w .depth ≤ maxDepth
   not-deep =
       let x = every-at (at 0 0 empty (leaf nothing)) refl (pass .depths) i in
       let y : tooDeep (placeOf w) ≡ false = rw (here .place) at x in
-      nltb→le 256 (w .depth) (toNot (ltb 256 (w .depth)) y)
+      nltb→le maxDepth (w .depth) (toNot (ltb maxDepth (w .depth)) y)
 
   few-traps : w .traps ≤ 32
   few-traps =
@@ -255,7 +255,7 @@ module _ {t : List ℕ} (readable : Readable t) (passes : placesCheck (placesOf 
   waits : 1 ≤ waiting
   waits = omega (arith, index)
 
-  fits : waiting - 1 + 1 < 257
+  fits : waiting - 1 + 1 < maxDepth + 1
   fits = omega (arith, index, here .depth, not-deep)
 
   context-is : getD pending (waiting - 1) 0 ≡ word (w .context)

@@ -6,6 +6,7 @@ ghost use Prim.Native.Nat.{ℕ, _+_, _-_, _*_, _<_, _≤_};
 ghost use lib.ListN.{length, getD, take, drop};
 ghost use Rattle.codes.specs.Words.{singletonOf, meetsOf};
 ghost use Rattle.codes.specs.Codes.{bit, word};
+ghost use Rattle.esterel.specs.Limits.{maxNodes};
 ghost use Rattle.esterel.specs.Statement.{size, nodes};
 ghost use Rattle.esterel.specs.Outcome.{statementAt};
 ghost use Rattle.esterel.specs.Checks.{endsAtOnce};
@@ -274,8 +275,8 @@ fn fill_contexts(table: &[u8], sets: &[u64], anys: &[u64], contexts: &mut [u64],
     ensures contexts { λ _. ⌜ now (contexts .exit) ≡ onto (contextsOf (programOf (now (table .entry)))) (now (contexts .entry)) ⌝ }
     ensures marks { λ _. ⌜ now (marks .exit) ≡ onto (marksOf (programOf (now (table .entry)))) (now (marks .entry)) ⌝ }
 {
-    let mut pending = [0u64; 257];
-    let mut counts = [0u32; 257];
+    let mut pending = [0u64; esterel::MAX_DEPTH + 1];
+    let mut counts = [0u32; esterel::MAX_DEPTH + 1];
     let mut waiting: usize = 1;
     let mut i = table.len() / 2;
     while 0 < i {
@@ -305,7 +306,7 @@ pub struct Acceptance {
 
 // Checks 4 to 11 of a table that passes 1 and 2, with the sizes of its subtrees and its start sets.
 pub fn accept(table: &[u8], sizes: &mut [u16], sets: &mut [u64]) -> Acceptance
-    requires { ⌜ WellSized (now table) × (1024 ≤ length (now sizes)) × (1024 ≤ length (now sets)) ⌝ }
+    requires { ⌜ WellSized (now table) × (maxNodes ≤ length (now sizes)) × (maxNodes ≤ length (now sets)) ⌝ }
     ensures { λ r. ⌜ Accepting (now (table .entry)) (now (sizes .exit)) (now (sets .exit)) r ⌝ }
 {
     let read = table::read_nodes(table, sizes);

@@ -58,7 +58,7 @@ pub reads-back : (p : Stmt) → size p ≤ maxNodes → read (postfix p) ≡ pas
 reads-back p small =
     let l = length-postfix p in
     let pos = size-pos p in
-    let a : ltb (2 * maxNodes) (length (postfix p)) ≡ false = fromNot _ (no-ltb {a = 2048} {b = length (postfix p)} (omega arith)) in
+    let a : ltb (2 * maxNodes) (length (postfix p)) ≡ false = fromNot _ (no-ltb {a = 2 * maxNodes} {b = length (postfix p)} (omega arith)) in
     let b : eqb (length (postfix p)) 0 ≡ false = fromNot _ (no-eqb {a = length (postfix p)} {b = 0} (omega arith)) in
     let c : eqb (length (postfix p) % 2) 1 ≡ false = fromNot _ (no-eqb {a = length (postfix p) % 2} {b = 1} (omega arith)) in
     rw (a, b, c, ← append-nil (postfix p)) (scans p [] 0 [])

@@ -36,8 +36,8 @@ few-bytes false next p e = refl
 
 pub few-nodes : (t : List ℕ) → Readable t → size (programOf t) ≤ maxNodes
 few-nodes t ok =
-    let z = few-bytes (ltb 2048 (length t)) _ (programOf t) (ok .reads) in
-    omega (arith, ltb-false 2048 (length t) z, table-length t ok)
+    let z = few-bytes (ltb (2 * maxNodes) (length t)) _ (programOf t) (ok .reads) in
+    omega (arith, ltb-false (2 * maxNodes) (length t) z, table-length t ok)
 
 -- before the node i − 1. With each node seen, what waits is at most one deeper, in one more trap and in one more loop.
 pub record State (p : Stmt) (depths traps loops : List ℕ) (faults : Faults) (loopsSeen waiting i : ℕ) : Type 0 where

@@ -255,7 +255,7 @@ fn span(sizes: &[u16], node: usize, children: usize) -> usize
 // Checks 4 to 7, and the size of the subtree at each node, in one pass: what is needed of the statements before a node is
 // how many of them are unused, and their sizes.
 pub fn read_nodes(table: &[u8], sizes: &mut [u16]) -> Check
-    requires { ⌜ WellSized (now table) × (1024 ≤ length (now sizes)) ⌝ }
+    requires { ⌜ WellSized (now table) × (maxNodes ≤ length (now sizes)) ⌝ }
     ensures { λ r. ⌜ Read (now (table .entry)) (now (sizes .exit)) r ⌝ }
 {
     let n = table.len() / 2;
