@@ -1,0 +1,172 @@
+-- A state is admitted exactly if it holds something and each node's part of it fits.
+use mathlib.Core.Path.{_≡_, refl, sym, ap, _∙_}
+use mathlib.Core.Bool.{Bool, true, false, _&&_}
+use mathlib.Core.List.{List, [], _∷_, _++_}
+use Prim.Native.Nat.{ℕ, zero, suc, _+_, _-_, _≤_, _<_}
+use native.Mathlib.Decide.{decLt}
+use native.Mathlib.Omega.{arith}
+use borrow.Author.Tests.{lt-ltb, le-ltb}
+use lib.Dec.{ltb}
+use lib.ListN.{length, getD, take, drop}
+use lib.Seq.{take-take, drop-drop, take-add, getD-take, length-take-le}
+use Rattle.codes.proofs.Bools.{both, left, right}
+use Rattle.esterel.specs.Statement.{Binary, Stmt, leaf, one, two, size, nodes}
+use Rattle.esterel.specs.Instant.{holds, first, second, apart, atPauses, oneBranch, admitted}
+use Rattle.esterel.specs.Outcome.{statementAt}
+use Rattle.esterel.proofs.Nodes.{Sits, sits-own}
+use Rattle.esterel.proofs.Sizes.{length-nodes}
+use Rattle.instant.specs.Admission.{countHeld, Counted, byteFits, childrenApart, nodeFits}
+
+-- counts and holds
+pub count-append : (a b : List ℕ) → countHeld (a ++ b) ≡ countHeld a + countHeld b
+count-append [] b = omega arith
+count-append (zero ∷ a) b = count-append a b
+count-append (suc x ∷ a) b = omega (arith, count-append a b)
+
+holds-count : (h : List ℕ) → holds h ≡ ltb 0 (countHeld h)
+holds-count [] = refl
+holds-count (zero ∷ h) = holds-count h
+holds-count (suc b ∷ h) = sym (lt-ltb 0 (suc (countHeld h)) (omega arith))
+
+-- the count over a part
+pub count-rises : (h : List ℕ) (f k : ℕ) → countHeld (take (f + k) h) ≡ countHeld (take f h) + countHeld (take k (drop f h))
+count-rises h f k = ap countHeld (take-add f k h) ∙ count-append (take f h) (take k (drop f h))
+
+-- a part holds something exactly if the count rises over it
+pub part-holds : (h : List ℕ) (f k : ℕ) → holds (take k (drop f h)) ≡ ltb (countHeld (take f h)) (countHeld (take (f + k) h))
+part-holds h f k =
+    holds-count (take k (drop f h)) ∙ go (countHeld (take f h)) (countHeld (take (f + k) h)) (countHeld (take k (drop f h))) (count-rises h f k)
+  where
+    go : (a b c : ℕ) → b ≡ a + c → ltb 0 c ≡ ltb a b
+    go a b zero e = sym (le-ltb a b (omega arith))
+    go a b (suc c) e = lt-ltb 0 (suc c) (omega arith) ∙ sym (lt-ltb a b (omega arith))
+
+-- each node's byte
+pub all-bytes : (ps : List Stmt) (h : List ℕ) → length ps ≡ length h → ((i : ℕ) → i < length ps → byteFits (statementAt ps i) (getD h i 0) ≡ true) → atPauses ps h ≡ true
+all-bytes [] [] e f = refl
+all-bytes [] (b ∷ h) e f = absurd (omega arith)
+all-bytes (p ∷ ps) [] e f = absurd (omega arith)
+all-bytes (p ∷ ps) (b ∷ h) e f = both (f 0 (omega arith)) (all-bytes ps h (omega arith) (λ i l. f (suc i) (omega arith)))
+
+pub byte-of : (ps : List Stmt) (h : List ℕ) → atPauses ps h ≡ true → (i : ℕ) → i < length ps → byteFits (statementAt ps i) (getD h i 0) ≡ true
+byte-of [] h e i l = absurd (omega arith)
+byte-of (p ∷ ps) [] e i l = cc
+byte-of (p ∷ ps) (b ∷ h) e zero l = left (byteFits p b) (atPauses ps h) e
+byte-of (p ∷ ps) (b ∷ h) e (suc i) l = byte-of ps h (right (byteFits p b) e) i (omega arith)
+
+within : (m n k : ℕ) (l : List ℕ) → n + m ≤ k → take m (drop n (take k l)) ≡ take m (drop n l)
+within m zero k l e = take-take m k l (omega arith)
+within zero (suc n) zero [] e = refl
+within zero (suc n) zero (x ∷ l) e = refl
+within (suc m) (suc n) zero l e = absurd (omega arith)
+within m (suc n) (suc k) [] e = refl
+within m (suc n) (suc k) (x ∷ l) e = within m n k l (omega arith)
+
+module _ (ps : List Stmt) (h : List ℕ) where
+  -- the bytes of p, whose first node is f
+  abbrev pub part : Stmt → ℕ → List ℕ
+  part p f = take (size p) (drop f h)
+
+  part-first : (p : Stmt) (f k : ℕ) → size p ≤ k → first p (take k (drop f h)) ≡ part p f
+  part-first p f k e = take-take (size p) k (drop f h) e
+
+  part-second : (p q : Stmt) (f k : ℕ) → size p + size q ≤ k → second p q (take k (drop f h)) ≡ part q (f + size p)
+  part-second p q f k e = within (size q) (size p) k (drop f h) e ∙ ap (take (size q)) (drop-drop (size p) f h)
+
+  own-two : (b : Binary) (p q : Stmt) (f i : ℕ) → i ≡ f + (size p + size q) → childrenApart (two b p q) h i ≡ apart b (holds (part p f)) (holds (part q (f + size p)))
+  own-two b p q f i e =
+      let x : i - size q - size p ≡ f = omega arith in
+      let y : i - size q ≡ f + size p = omega arith in
+      rw (x, y)
+
+  abbrev pub Apart : ℕ → Type 0
+  Apart i = childrenApart (statementAt ps i) h i ≡ true
+
+  -- at each of the k nodes from f on
+  abbrev pub Over : ℕ → ℕ → Type 0
+  Over f k = (i : ℕ) → f ≤ i → i < f + k → Apart i
+
+  join : (f k l : ℕ) → Over f k → Over (f + k) l → Over f (k + l)
+  join f k l a b i lo hi = go (decLt i (f + k))
+    where
+      go : Dec (i < f + k) → Apart i
+      go (yes c) = a i lo c
+      go (no c) = b i (omega arith) (omega arith)
+
+  last : (f k : ℕ) → Over f k → Apart (f + k) → Over f (suc k)
+  last f k a b i lo hi = go (decLt i (f + k))
+    where
+      go : Dec (i < f + k) → Apart i
+      go (yes c) = a i lo c
+      go (no c) = let e : i ≡ f + k = omega arith in rw e b
+
+  pub each-apart : (p : Stmt) (f : ℕ) → Sits ps f p → oneBranch p (part p f) ≡ true → Over f (size p)
+  each-apart (leaf l) f w o = λ i a z. let e : i ≡ f = omega arith in rw (e, w)
+  each-apart (one u p) f w o =
+      last f (size p) (each-apart p f (w .0) (rw (part-first p f (suc (size p)) (omega arith)) at o)) (rw (w .1))
+  each-apart (two b p q) f w o =
+      let o′ : apart b (holds (part p f)) (holds (part q (f + size p))) && (oneBranch p (part p f) && oneBranch q (part q (f + size p))) ≡ true = rw (part-first p f (suc (size p + size q)) (omega arith), part-second p q f (suc (size p + size q)) (omega arith)) at o in
+      let children = right (apart b (holds (part p f)) (holds (part q (f + size p)))) o′ in
+      last f (size p + size q)
+      (join f (size p) (size q) (each-apart p f (w .0) (left (oneBranch p (part p f)) _ children)) (each-apart q (f + size p) (w .1) (right (oneBranch p (part p f)) children)))
+      (rw (w .2) (own-two b p q f _ refl ∙ left (apart b (holds (part p f)) (holds (part q (f + size p)))) _ o′))
+
+  pub apart-each : (p : Stmt) (f : ℕ) → Sits ps f p → Over f (size p) → oneBranch p (part p f) ≡ true
+  apart-each (leaf l) f w o = refl
+  apart-each (one u p) f w o = rw (part-first p f (suc (size p)) (omega arith)) (apart-each p f (w .0) (λ i a z. o i a (omega arith)))
+  apart-each (two b p q) f w o =
+      let own = rw (w .2) at (o (f + (size p + size q)) (omega arith) (omega arith)) in
+      rw (part-first p f (suc (size p + size q)) (omega arith), part-second p q f (suc (size p + size q)) (omega arith))
+      (both (sym (own-two b p q f _ refl) ∙ own)
+      (both (apart-each p f (w .0) (λ i a z. o i a (omega arith))) (apart-each q (f + size p) (w .1) (λ i a z. o i (omega arith) (omega arith)))))
+
+-- all nodes before i fit
+pub record FitsTo (p : Stmt) (state : List ℕ) (i : ℕ) : Type 0 where
+  pub bound : i ≤ size p
+  pub fits : (j : ℕ) → j < i → nodeFits (nodes p) state j ≡ true
+
+pub fits-begin : {p : Stmt} {state : List ℕ} → FitsTo p state 0
+fits-begin = record { bound = omega arith; fits = λ j h. absurd (omega arith) }
+
+pub fits-next : {p : Stmt} {state : List ℕ} {i : ℕ} → FitsTo p state i → i < size p → nodeFits (nodes p) state i ≡ true → FitsTo p state (i + 1)
+fits-next {p} {state} {i} o h e = record { bound = omega arith; fits = λ j k. go j k (decLt j i) }
+  where
+    go : (j : ℕ) → j < i + 1 → Dec (j < i) → nodeFits (nodes p) state j ≡ true
+    go j k (yes c) = o .fits j c
+    go j k (no c) = let z : j ≡ i = omega arith in rw z e
+
+module _ (p : Stmt) (state : List ℕ) (room : size p ≤ length state) where
+  abbrev own : List ℕ
+  own = take (size p) state
+
+  own-byte : (i : ℕ) → i < size p → getD own i 0 ≡ getD state i 0
+  own-byte i h = getD-take (size p) state i 0 h
+
+  own-length : length (nodes p) ≡ length own
+  own-length = length-nodes p ∙ sym (length-take-le (size p) state room)
+
+  node-fits : admitted p own ≡ true → (i : ℕ) → i < size p → nodeFits (nodes p) state i ≡ true
+  node-fits e i h =
+      let rest = right (holds own) e in
+      both (rw (own-byte i h) at (byte-of (nodes p) own (left (atPauses (nodes p) own) (oneBranch p own) rest) i (omega (arith, length-nodes p))))
+      (each-apart (nodes p) state p 0 (sits-own p) (right (atPauses (nodes p) own) rest) i (omega arith) (omega arith))
+
+  pub not-admitted : (i : ℕ) → i < size p → nodeFits (nodes p) state i ≡ false → false ≡ admitted p own
+  not-admitted i h n = go (admitted p own) refl
+    where
+      go : (b : Bool) → admitted p own ≡ b → false ≡ b
+      go false e = refl
+      go true e = sym n ∙ node-fits e i h
+
+  module _ {counts : List ℕ} (c : Counted state counts (size p)) {n : ℕ} (en : n ≡ size p) where
+    own-holds : holds own ≡ ltb 0 (getD counts n 0)
+    own-holds = rw en (holds-count own ∙ ap (ltb 0) (sym (c .entry (size p) (omega arith))))
+
+    pub nothing-held : getD counts n 0 ≡ 0 → false ≡ admitted p own
+    nothing-held e = sym (ap (λ x. x && (atPauses (nodes p) own && oneBranch p own)) (own-holds ∙ ap (ltb 0) e))
+
+    pub is-admitted : (getD counts n 0 ≡ 0 → ⊥) → {i : ℕ} → FitsTo p state i → size p ≤ i → true ≡ admitted p own
+    is-admitted some o h =
+        sym (both (own-holds ∙ lt-ltb 0 (getD counts n 0) (omega (arith, some)))
+        (both (all-bytes (nodes p) own own-length (λ j k. let l : j < size p = omega (arith, length-nodes p) in rw (own-byte j l) (left (byteFits (statementAt (nodes p) j) (getD state j 0)) _ (o .fits j (omega arith)))))
+        (apart-each (nodes p) state p 0 (sits-own p) (λ j k l. right (byteFits (statementAt (nodes p) j) (getD state j 0)) (o .fits j (omega arith))))))

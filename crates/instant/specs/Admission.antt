@@ -1,0 +1,65 @@
+-- Check 12 by the nodes: the prefix counts of held pauses, and what each node asks of a state.
+use Prim.Native.Nat.{ℕ, zero, suc, _-_, _≤_, _<_}
+use mathlib.Core.Path.{_≡_}
+use mathlib.Core.Bool.{Bool, true, false, not, _&&_, _||_}
+use mathlib.Core.List.{List, [], _∷_}
+use lib.Dec.{eqb}
+use lib.ListN.{length, getD, take, drop}
+use Rattle.esterel.specs.Statement.{nothing, pause, emit, exit, present, sequence, parallel, Stmt, leaf, one, two, kind, size}
+use Rattle.esterel.specs.Instant.{holds, apart}
+use Rattle.esterel.specs.Outcome.{statementAt}
+use Rattle.esterel.specs.Table.{Node, takes0, takes1, takes2, faulty}
+use Rattle.table.specs.declared.Kind.{Kind}
+use Rattle.table.specs.Kinds.{headOf}
+
+-- the number of bytes that are not 0
+abbrev pub countHeld : List ℕ → ℕ
+countHeld [] = 0
+countHeld (zero ∷ h) = countHeld h
+countHeld (suc b ∷ h) = suc (countHeld h)
+
+-- entry j is the number of held pauses before node j
+pub record Counted (state counts : List ℕ) (n : ℕ) : Type 0 where
+  pub entry : (j : ℕ) → j ≤ n → getD counts j 0 ≡ countHeld (take j state)
+  pub long : n < length counts
+
+-- what node i asks of its own byte
+abbrev pub byteFits : Stmt → ℕ → Bool
+byteFits w b = eqb b 0 || eqb b 1 && eqb (kind w) 2
+
+-- and of its children's, where its own number is i
+abbrev pub childrenApart : Stmt → List ℕ → ℕ → Bool
+childrenApart (leaf l) h i = true
+childrenApart (one u q) h i = true
+childrenApart (two b q r) h i = apart b (holds (take (size q) (drop (i - size r - size q) h))) (holds (take (size r) (drop (i - size r) h)))
+
+-- node i: its own byte, and where its children's held pauses are
+abbrev pub nodeFits : List Stmt → List ℕ → ℕ → Bool
+nodeFits ps h i = byteFits (statementAt ps i) (getD h i 0) && childrenApart (statementAt ps i) h i
+
+-- the same by the kind: a pause may hold, and a sequence or present holds pauses in one child at most
+abbrev pub pauses : Node → Bool
+pauses (takes0 nothing) = false
+pauses (takes0 pause) = true
+pauses (takes0 (emit s)) = false
+pauses (takes0 (exit level)) = false
+pauses (takes1 u) = false
+pauses (takes2 b) = false
+pauses (faulty number) = false
+
+abbrev pub isPause : Kind → Bool
+isPause k = pauses (headOf k 0)
+
+abbrev pub byteFitsKind : Kind → ℕ → Bool
+byteFitsKind k b = eqb b 0 || eqb b 1 && isPause k
+
+abbrev pub excludes : Node → Bool
+excludes (takes0 l) = false
+excludes (takes1 u) = false
+excludes (takes2 (present s)) = true
+excludes (takes2 sequence) = true
+excludes (takes2 parallel) = false
+excludes (faulty number) = false
+
+abbrev pub isExclusive : Kind → Bool
+isExclusive k = excludes (headOf k 0)
