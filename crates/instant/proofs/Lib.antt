@@ -1,3 +1,13 @@
+pub mod Sets
+pub mod Small
+pub mod Algebra
+pub mod Nodes
+pub mod Views
+pub mod Start
+pub mod Returns
+pub mod Bytes
+pub mod Again
+pub mod Resumes
 pub mod Admits
 pub mod Counting
 pub mod Fitting

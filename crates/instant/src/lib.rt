@@ -1,15 +1,419 @@
 // One instant of an accepted program: start and resume.
 ghost use mathlib.Core.Path.{_≡_};
+ghost use mathlib.Core.Bool.{cond};
 ghost use mathlib.Core.List.{[], _∷_};
-ghost use Prim.Native.Nat.{_+_, _-_, _*_, _<_, _≤_};
+ghost use Prim.Native.Nat.{_+_, _-_, _<_, _≤_, max};
+ghost use lib.Dec.{eqb, ltb};
 ghost use lib.ListN.{length, getD, take};
+ghost use lib.Seq.{sets};
+ghost use Rattle.esterel.specs.Codes.{catchCode};
+ghost use Rattle.esterel.specs.Instant.{zeros, admitted};
 ghost use Rattle.esterel.specs.Limits.{maxNodes};
 ghost use Rattle.esterel.specs.Statement.{size, nodes};
-ghost use Rattle.esterel.specs.Instant.{admitted};
+ghost use Rattle.table.specs.Kinds.{isTrap};
 ghost use Rattle.table.specs.Program.{programOf};
 ghost use Rattle.analysis.specs.Passes.{Surveyable};
+ghost use Rattle.instant.specs.Steps.{entriesOf, oneMore, TrapLeft, besides, isPresent, isSuspend, doneAfter, leafOf, LeafRan};
+ghost use Rattle.instant.specs.Run.{Runnable, Room, Clear, Started, Holding, Resumed};
 ghost use Rattle.instant.specs.Admission.{countHeld, Counted, isExclusive, isPause, byteFitsKind, nodeFits};
 use table::Kind;
+
+// What a run of a statement answers: the code, the answers taken up to its end and its entries; or that an answer is
+// needed and none is left.
+pub enum Ran {
+    Closed {
+        code: usize,
+        taken: usize,
+        entries: usize,
+    },
+    Starved,
+}
+
+fn is_trap(kind: Kind) -> bool
+    ensures { λ r. ⌜ r ≡ isTrap kind ⌝ }
+{
+    match kind {
+        Kind::Nothing => false,
+        Kind::Pause => false,
+        Kind::Emit => false,
+        Kind::Exit => false,
+        Kind::Signal => false,
+        Kind::Present => false,
+        Kind::Suspend => false,
+        Kind::Loop => false,
+        Kind::Sequence => false,
+        Kind::Parallel => false,
+        Kind::Trap => true,
+        Kind::Unknown => false,
+    }
+}
+
+fn is_present(kind: Kind) -> bool
+    ensures { λ r. ⌜ r ≡ isPresent kind ⌝ }
+{
+    match kind {
+        Kind::Nothing => false,
+        Kind::Pause => false,
+        Kind::Emit => false,
+        Kind::Exit => false,
+        Kind::Signal => false,
+        Kind::Present => true,
+        Kind::Suspend => false,
+        Kind::Loop => false,
+        Kind::Sequence => false,
+        Kind::Parallel => false,
+        Kind::Trap => false,
+        Kind::Unknown => false,
+    }
+}
+
+fn is_suspend(kind: Kind) -> bool
+    ensures { λ r. ⌜ r ≡ isSuspend kind ⌝ }
+{
+    match kind {
+        Kind::Nothing => false,
+        Kind::Pause => false,
+        Kind::Emit => false,
+        Kind::Exit => false,
+        Kind::Signal => false,
+        Kind::Present => false,
+        Kind::Suspend => true,
+        Kind::Loop => false,
+        Kind::Sequence => false,
+        Kind::Parallel => false,
+        Kind::Trap => false,
+        Kind::Unknown => false,
+    }
+}
+
+fn larger(a: usize, b: usize) -> usize
+    ensures { λ r. ⌜ r ≡ max a b ⌝ }
+{
+    if a <= b { b } else { a }
+}
+
+// The branch of a present that an answer takes: the second for 0.
+fn branch(answer: u8, first: usize, last: usize) -> usize
+    ensures { λ r. ⌜ r ≡ cond (eqb answer 0) last first ⌝ }
+{
+    if answer == 0 { last } else { first }
+}
+
+// What a trap makes of a code.
+fn caught(code: usize) -> usize
+    ensures { λ r. ⌜ r ≡ catchCode code ⌝ }
+{
+    if code < 2 {
+        return code;
+    }
+    if code == 2 {
+        return 0;
+    }
+    code - 1
+}
+
+// The bytes of the nodes from `from` up to `to` become 0.
+fn clear(held: &mut [u8], from: usize, to: usize)
+    requires { ⌜ (from ≤ to) × (to ≤ length (now held)) ⌝ }
+    ensures { λ _. ⌜ now (held .exit) ≡ sets (now (held .entry)) from (zeros (to - from)) ⌝ }
+{
+    let mut i = from;
+    while i < to {
+        held[i] = 0;
+        i += 1;
+    }
+}
+
+// A node's own entry, beside those beneath it.
+fn one_more(inner: Ran) -> Ran
+    requires { ⌜ entriesOf inner < 4294967296 ⌝ }
+    ensures { λ r. ⌜ r ≡ oneMore inner ⌝ }
+{
+    match inner {
+        Ran::Closed {
+            code,
+            taken,
+            entries,
+        } => Ran::Closed {
+            code,
+            taken,
+            entries: entries + 1,
+        },
+        Ran::Starved => Ran::Starved,
+    }
+}
+
+// A trap is left: one that catches drops all pauses beneath it.
+fn leave_trap(inner: Ran, held: &mut [u8], first: usize, node: usize) -> Ran
+    requires { ⌜ (entriesOf inner < 4294967296) × (first ≤ node) × (node ≤ length (now held)) ⌝ }
+    ensures { λ r. ⌜ TrapLeft inner first node (now (held .entry)) (now (held .exit)) r ⌝ }
+{
+    let Ran::Closed {
+        code,
+        taken,
+        entries,
+    } = inner
+    else {
+        return Ran::Starved;
+    };
+    if code == 2 {
+        clear(held, first, node);
+        return Ran::Closed {
+            code: 0,
+            taken,
+            entries: entries + 1,
+        };
+    }
+    Ran::Closed {
+        code: caught(code),
+        taken,
+        entries: entries + 1,
+    }
+}
+
+// A node with two children is left, of which the first finished with a code and so many entries.
+fn join(code: usize, entries: usize, right: Ran) -> Ran
+    requires { ⌜ entries + entriesOf right < 4294967296 ⌝ }
+    ensures { λ r. ⌜ r ≡ oneMore (besides code entries right) ⌝ }
+{
+    match right {
+        Ran::Closed {
+            code: last,
+            taken,
+            entries: more,
+        } => Ran::Closed {
+            code: larger(code, last),
+            taken,
+            entries: entries + more + 1,
+        },
+        Ran::Starved => Ran::Starved,
+    }
+}
+
+// A statement without children is started, where nothing is held.
+fn start_leaf(
+    kind: Kind,
+    field: usize,
+    node: usize,
+    taken: usize,
+    held: &mut [u8],
+    emissions: &mut [u8],
+) -> Ran
+    requires { ⌜ (node < length (now held)) × (field < 256) × (256 ≤ length (now emissions)) ⌝ }
+    ensures { λ r. ⌜ LeafRan (leafOf kind field) node taken (now (held .entry)) (now (held .exit)) (now (emissions .entry)) (now (emissions .exit)) r ⌝ }
+{
+    match kind {
+        Kind::Pause => {
+            held[node] = 1;
+            Ran::Closed {
+                code: 1,
+                taken,
+                entries: 1,
+            }
+        }
+        Kind::Emit => {
+            emissions[field] = 1;
+            Ran::Closed {
+                code: 0,
+                taken,
+                entries: 1,
+            }
+        }
+        Kind::Exit => Ran::Closed {
+            code: 2 + field,
+            taken,
+            entries: 1,
+        },
+        _ => Ran::Closed {
+            code: 0,
+            taken,
+            entries: 1,
+        },
+    }
+}
+
+// The statement at a node is started, where nothing is held beneath it. So no byte is cleared, but by a trap that catches.
+fn start_at(
+    table: &[u8],
+    sizes: &[u16],
+    answers: &[u8],
+    node: usize,
+    taken: usize,
+    held: &mut [u8],
+    emissions: &mut [u8],
+) -> Ran
+    requires { ⌜ Runnable (now table) (now sizes) × Room (now table) (now answers) (now held) (now emissions) node taken × Clear (now table) (now held) node ⌝ }
+    ensures { λ r. ⌜ Started (now (table .entry)) (now (answers .entry)) (now (held .entry)) (now (held .exit)) (now (emissions .entry)) (now (emissions .exit)) node taken r ⌝ }
+{
+    let kind = table::kind_at(table, node);
+    let children = table::arity(kind);
+    if children == 0 {
+        return start_leaf(
+            kind,
+            table::field_at(table, node),
+            node,
+            taken,
+            held,
+            emissions,
+        );
+    }
+    let last = node - 1;
+    let size = table::size_at(sizes, last);
+    if children == 1 {
+        let inner = start_at(table, sizes, answers, last, taken, held, emissions);
+        if is_trap(kind) {
+            return leave_trap(inner, held, node - size, node);
+        }
+        return one_more(inner);
+    }
+    let first = last - size;
+    if is_present(kind) {
+        if answers.len() <= taken {
+            return Ran::Starved;
+        }
+        let chosen = branch(answers[taken], first, last);
+        let inner = start_at(table, sizes, answers, chosen, taken + 1, held, emissions);
+        return one_more(inner);
+    }
+    let left = start_at(table, sizes, answers, first, taken, held, emissions);
+    let Ran::Closed {
+        code,
+        taken: after,
+        entries,
+    } = left
+    else {
+        return Ran::Starved;
+    };
+    if table::is_sequence(kind) & (code != 0) {
+        return one_more(left);
+    }
+    let right = start_at(table, sizes, answers, last, after, held, emissions);
+    join(code, entries, right)
+}
+
+// Whether a pause is held at a node from `from` up to `to`; the counts are those of the pauses held before each node.
+fn holds_between(counts: &[u16], from: usize, to: usize) -> bool
+    requires { ⌜ (from < length (now counts)) × (to < length (now counts)) ⌝ }
+    ensures { λ r. ⌜ r ≡ ltb (getD (now (counts .entry)) from 0) (getD (now (counts .entry)) to 0) ⌝ }
+{
+    counts[from] < counts[to]
+}
+
+// Whether a node with two children is done after its first, which finished with a code: a sequence unless it ended, a
+// parallel unless the second holds a pause.
+fn done_after(kind: Kind, code: usize, second: bool) -> bool
+    ensures { λ r. ⌜ r ≡ doneAfter kind code second ⌝ }
+{
+    match kind {
+        Kind::Nothing => true,
+        Kind::Pause => true,
+        Kind::Emit => true,
+        Kind::Exit => true,
+        Kind::Signal => true,
+        Kind::Present => true,
+        Kind::Suspend => true,
+        Kind::Loop => true,
+        Kind::Sequence => code != 0,
+        Kind::Parallel => !second,
+        Kind::Trap => true,
+        Kind::Unknown => true,
+    }
+}
+
+// The statement at a node, which holds a pause, is resumed. Which of two children hold one is asked of the counts: the bytes
+// beneath a node are those that were counted until it is resumed.
+fn resume_at(
+    table: &[u8],
+    sizes: &[u16],
+    counts: &[u16],
+    answers: &[u8],
+    node: usize,
+    taken: usize,
+    held: &mut [u8],
+    emissions: &mut [u8],
+) -> Ran
+    requires { ⌜ Runnable (now table) (now sizes) × Room (now table) (now answers) (now held) (now emissions) node taken × Holding (now table) (now counts) (now held) node ⌝ }
+    ensures { λ r. ⌜ Resumed (now (table .entry)) (now (answers .entry)) (now (held .entry)) (now (held .exit)) (now (emissions .entry)) (now (emissions .exit)) node taken r ⌝ }
+{
+    let kind = table::kind_at(table, node);
+    let children = table::arity(kind);
+    if children == 0 {
+        held[node] = 0;
+        return Ran::Closed {
+            code: 0,
+            taken,
+            entries: 1,
+        };
+    }
+    let last = node - 1;
+    let size = table::size_at(sizes, last);
+    if children == 1 {
+        if is_suspend(kind) {
+            if answers.len() <= taken {
+                return Ran::Starved;
+            }
+            if answers[taken] != 0 {
+                return Ran::Closed {
+                    code: 1,
+                    taken: taken + 1,
+                    entries: 1,
+                };
+            }
+            let inner = resume_at(
+                table,
+                sizes,
+                counts,
+                answers,
+                last,
+                taken + 1,
+                held,
+                emissions,
+            );
+            return one_more(inner);
+        }
+        let inner = resume_at(table, sizes, counts, answers, last, taken, held, emissions);
+        if is_trap(kind) {
+            return leave_trap(inner, held, node - size, node);
+        }
+        let Ran::Closed {
+            code,
+            taken: after,
+            entries,
+        } = inner
+        else {
+            return Ran::Starved;
+        };
+        if table::is_loop(kind) & (code == 0) {
+            let again = start_at(table, sizes, answers, last, after, held, emissions);
+            return join(code, entries, again);
+        }
+        return one_more(inner);
+    }
+    let first = last - size;
+    let begin = first + 1 - table::size_at(sizes, first);
+    if !holds_between(counts, begin, first + 1) {
+        let inner = resume_at(table, sizes, counts, answers, last, taken, held, emissions);
+        return one_more(inner);
+    }
+    let left = resume_at(table, sizes, counts, answers, first, taken, held, emissions);
+    let Ran::Closed {
+        code,
+        taken: after,
+        entries,
+    } = left
+    else {
+        return Ran::Starved;
+    };
+    if done_after(kind, code, holds_between(counts, first + 1, node)) {
+        return one_more(left);
+    }
+    if table::is_sequence(kind) {
+        let right = start_at(table, sizes, answers, last, after, held, emissions);
+        return join(code, entries, right);
+    }
+    let right = resume_at(table, sizes, counts, answers, last, after, held, emissions);
+    join(code, entries, right)
+}
 
 // Whether a kind holds pauses in at most one of its two children.
 fn is_exclusive(kind: Kind) -> bool

@@ -1,0 +1,61 @@
+-- The small functions' answers, by what is known at each return.
+use mathlib.Core.Path.{_≡_, refl}
+use mathlib.Core.Bool.{false}
+use mathlib.Core.List.{List, [], _∷_}
+use Prim.Native.Nat.{ℕ, zero, suc, _+_, _-_, _<_, _≤_}
+use native.Mathlib.Omega.{arith}
+use lib.Seq.{sets}
+use types.Run.{OneOf, miss}
+use denote.Enum.Declared.{tagOf}
+use Rattle.esterel.specs.Statement.{nothing}
+use Rattle.esterel.specs.Codes.{catchCode}
+use Rattle.esterel.specs.Instant.{zeros}
+use Rattle.table.specs.declared.Kind.{Kind}
+use Rattle.table.specs.declared.Kind.the-variants.{Nothing, Pause, Emit, Exit, Signal, Present, Suspend, Loop, Sequence, Parallel, Trap, Unknown}
+use Rattle.table.proofs.Kind.{the-type}
+use Rattle.instant.specs.Steps.{catches, TrapLeft, leafOf}
+use Rattle.instant.specs.declared.Ran.{Ran}
+use Rattle.instant.specs.declared.Ran.the-variants.{Closed}
+
+pub catch-low : (c : ℕ) → c < 2 → c ≡ catchCode c
+catch-low zero h = refl
+catch-low (suc zero) h = refl
+catch-low (suc (suc c)) h = absurd (omega arith)
+
+pub catch-high : (c : ℕ) → 2 ≤ c → (c ≡ 2 → ⊥) → c - 1 ≡ catchCode c
+catch-high zero h n = absurd (omega arith)
+catch-high (suc zero) h n = absurd (omega arith)
+catch-high (suc (suc zero)) h n = absurd (n refl)
+catch-high (suc (suc (suc c))) h n = omega arith
+
+pub catches-not : (c taken entries : ℕ) → (c ≡ 2 → ⊥) → catches (Closed c taken entries) ≡ false
+catches-not zero taken entries n = refl
+catches-not (suc zero) taken entries n = refl
+catches-not (suc (suc zero)) taken entries n = absurd (n refl)
+catches-not (suc (suc (suc c))) taken entries n = refl
+
+-- all kinds but pause, emit and exit
+abbrev tags : List ℕ
+tags = 0 ∷ 4 ∷ 5 ∷ 6 ∷ 7 ∷ 8 ∷ 9 ∷ 10 ∷ 11 ∷ []
+
+pub other-leaf : (k : Kind) (field : ℕ) → OneOf tags (tagOf the-type k) → leafOf k field ≡ nothing
+other-leaf Nothing f h = refl
+other-leaf Pause f h = absurd (miss tags 1 tt h)
+other-leaf Emit f h = absurd (miss tags 2 tt h)
+other-leaf Exit f h = absurd (miss tags 3 tt h)
+other-leaf Signal f h = refl
+other-leaf Present f h = refl
+other-leaf Suspend f h = refl
+other-leaf Loop f h = refl
+other-leaf Sequence f h = refl
+other-leaf Parallel f h = refl
+other-leaf Trap f h = refl
+other-leaf Unknown f h = refl
+
+-- a trap is left, which catches or does not
+module _ {inner : Ran} {c k e first node : ℕ} {held : List ℕ} (is : inner ≡ Closed c k e) where
+  pub trap-here : {held′ : List ℕ} → c ≡ 2 → held′ ≡ sets held first (zeros (node - first)) → TrapLeft inner first node held held′ (Closed 0 k (e + 1))
+  trap-here two h = rw (is, two) record { answer = refl; state = h }
+
+  pub trap-other : {d : ℕ} → (c ≡ 2 → ⊥) → d ≡ catchCode c → TrapLeft inner first node held held (Closed d k (e + 1))
+  trap-other n h = rw (is, h) record { answer = refl; state = rw (catches-not c k e n) }

@@ -1,0 +1,118 @@
+-- What the small functions around the calls of a run answer.
+use Prim.Native.Nat.{ℕ, zero, suc, _+_, _-_, max}
+use mathlib.Core.Path.{_≡_}
+use mathlib.Core.Bool.{Bool, true, false, not, cond}
+use mathlib.Core.List.{List, [], _∷_}
+use lib.Dec.{eqb}
+use lib.ListN.{set}
+use lib.Seq.{sets}
+use Rattle.esterel.specs.Statement.{Leaf, nothing, pause, emit, exit, leaf, signal, suspend, loop, trap, present, sequence, parallel}
+use Rattle.esterel.specs.Codes.{catchCode}
+use Rattle.esterel.specs.Table.{Node, takes0, takes1, takes2, faulty}
+use Rattle.esterel.specs.Instant.{zeros}
+use Rattle.esterel.specs.Outcome.{emission}
+use Rattle.table.specs.Kinds.{headOf}
+use Rattle.table.specs.declared.Kind.{Kind}
+use Rattle.instant.specs.declared.Ran.{Ran}
+use Rattle.instant.specs.declared.Ran.the-variants.{Closed, Starved}
+
+-- byte 1 for each of the signals
+abbrev pub marked : List ℕ → List ℕ → List ℕ
+marked [] bytes = bytes
+marked (s ∷ ss) bytes = marked ss (set bytes s 1)
+
+abbrev pub entriesOf : Ran → ℕ
+entriesOf (Closed code taken entries) = entries
+entriesOf Starved = 0
+
+-- the node's own entry
+abbrev pub oneMore : Ran → Ran
+oneMore (Closed code taken entries) = Closed code taken (entries + 1)
+oneMore Starved = Starved
+
+-- what a trap makes of an answer
+abbrev pub catchRan : Ran → Ran
+catchRan (Closed code taken entries) = Closed (catchCode code) taken entries
+catchRan Starved = Starved
+
+abbrev pub catches : Ran → Bool
+catches (Closed zero taken entries) = false
+catches (Closed (suc zero) taken entries) = false
+catches (Closed (suc (suc zero)) taken entries) = true
+catches (Closed (suc (suc (suc k))) taken entries) = false
+catches Starved = false
+
+-- a trap is left, with the nodes from `first` on beneath it: one that catches drops all pauses there
+pub record TrapLeft (inner : Ran) (first node : ℕ) (held held′ : List ℕ) (r : Ran) : Type 0 where
+  pub answer : r ≡ oneMore (catchRan inner)
+  pub state : held′ ≡ cond (catches inner) (sets held first (zeros (node - first))) held
+
+-- an answer after a part that finished with a code and so many entries
+abbrev pub besides : (code entries : ℕ) → Ran → Ran
+besides code entries (Closed c taken e) = Closed (max code c) taken (entries + e)
+besides code entries Starved = Starved
+
+-- the nodes that ask at their start
+abbrev pub tests : Node → Bool
+tests (takes0 l) = false
+tests (takes1 u) = false
+tests (takes2 (present s)) = true
+tests (takes2 sequence) = false
+tests (takes2 parallel) = false
+tests (faulty number) = false
+
+abbrev pub isPresent : Kind → Bool
+isPresent k = tests (headOf k 0)
+
+-- and at their resumption
+abbrev pub waits : Node → Bool
+waits (takes0 l) = false
+waits (takes1 (signal s)) = false
+waits (takes1 (suspend s)) = true
+waits (takes1 loop) = false
+waits (takes1 trap) = false
+waits (takes2 b) = false
+waits (faulty number) = false
+
+abbrev pub isSuspend : Kind → Bool
+isSuspend k = waits (headOf k 0)
+
+-- whether a node with two children is done after its first: it finished with a code, and the second holds a pause or not
+abbrev pub doneIn : Node → ℕ → Bool → Bool
+doneIn (takes0 l) code second = true
+doneIn (takes1 u) code second = true
+doneIn (takes2 (present s)) code second = true
+doneIn (takes2 sequence) code second = not (eqb code 0)
+doneIn (takes2 parallel) code second = not second
+doneIn (faulty number) code second = true
+
+abbrev pub doneAfter : Kind → ℕ → Bool → Bool
+doneAfter k code second = doneIn (headOf k 0) code second
+
+-- the statement of a node without children
+abbrev pub leafIn : Node → Leaf
+leafIn (takes0 l) = l
+leafIn (takes1 u) = nothing
+leafIn (takes2 b) = nothing
+leafIn (faulty number) = nothing
+
+abbrev pub leafOf : Kind → ℕ → Leaf
+leafOf k field = leafIn (headOf k field)
+
+abbrev pub leafCode : Leaf → ℕ
+leafCode nothing = 0
+leafCode pause = 1
+leafCode (emit s) = 0
+leafCode (exit level) = 2 + level
+
+abbrev pub leafState : Leaf → ℕ → List ℕ → List ℕ
+leafState nothing node held = held
+leafState pause node held = set held node 1
+leafState (emit s) node held = held
+leafState (exit level) node held = held
+
+-- a start of it
+pub record LeafRan (l : Leaf) (node taken : ℕ) (held held′ emissions emissions′ : List ℕ) (r : Ran) : Type 0 where
+  pub answer : r ≡ Closed (leafCode l) taken 1
+  pub state : held′ ≡ leafState l node held
+  pub marks : emissions′ ≡ marked (emission (leaf l)) emissions
