@@ -2,7 +2,7 @@
 use mathlib.Core.Path.{_≡_, refl, sym, ap, ap₂, subst, _∙_}
 use mathlib.Core.Bool.{Bool, true, false, not, _&&_}
 use mathlib.Core.List.{List, [], _∷_, _++_, map}
-use Prim.Native.Nat.{ℕ, zero, suc, _*_, _/_, _≤_, _<_}
+use Prim.Native.Nat.{ℕ, _/_, _≤_}
 use native.Mathlib.Omega.{arith}
 use borrow.Author.Tests.{leb-true}
 use lib.Dec.{leb}
@@ -14,7 +14,6 @@ use Rattle.esterel.specs.Statement.{Stmt, size, nodes, loopDepth}
 use Rattle.esterel.specs.Sets.{Place, at, placesOf, mark}
 use Rattle.esterel.specs.Table.{Verdict, passed, refused, scan}
 use Rattle.esterel.specs.Checks.{checkProgram, Line, lineOf, listing}
-use Rattle.esterel.specs.Outcome.{statementAt}
 use Rattle.esterel.proofs.Accepted.{stmtOf, statements}
 use Rattle.table.specs.Program.{programOf}
 use Rattle.table.specs.Check.{refuse, lengthCheck}
@@ -24,7 +23,7 @@ use Rattle.table.specs.declared.Check.the-variants.{Passed}
 use Rattle.table.specs.declared.Check.the-variants.{Refused as RefusedCheck}
 use Rattle.table.proofs.View.{table-length}
 use Rattle.analysis.specs.Steps.{setOfStmt}
-use Rattle.analysis.specs.Passes.{FilledTo, wordsOf, onto, firstEnds, flagsOf, contextWord, contextsOf, marksOf, Ready, Walkable}
+use Rattle.analysis.specs.Passes.{FilledTo, wordsOf, onto, flagsOf, contextWord, contextsOf, marksOf, Ready, Walkable}
 use Rattle.analysis.specs.Analysis.{checkRoom, checked, roomFor, answerOf, refusalOf, kOf, aOf, sOf, markOf, column, verdictFor, Analysis}
 use Rattle.analysis.specs.declared.Analysed.{Analysed}
 use Rattle.analysis.specs.declared.Analysed.the-variants.{Done, Refused}
@@ -32,30 +31,27 @@ use Rattle.analysis.proofs.Accepts.{length-law}
 use Rattle.analysis.proofs.Contexts.{length-marks}
 use Rattle.analysis.proofs.Filling.{length-words, words-at, filled-to, length-flags, flags-at}
 
--- ---- the verdict of the call
+-- ---- the verdict of a call
 
-module _ (t k a s m : List ℕ) where
-  abbrev room : Bool
-  room = roomFor (length t / 2) (length k) (length a) (length s) (length m)
-
+module _ (t : List ℕ) (room : Bool) where
   abbrev later : Bool → Verdict
   later b = checkRoom b (checkProgram (scan t 0 []))
 
-  after-length : (c : Check) → c ≡ lengthCheck t → verdictFor t k a s m ≡ refuse c (later room)
+  after-length : (c : Check) → c ≡ lengthCheck t → checked room t ≡ refuse c (later room)
   unfolding checked
   after-length c e = length-law t (later room) ∙ ap (λ x. refuse x (later room)) (sym e)
 
-  pub length-refused : (c : Check) (number node : ℕ) → c ≡ lengthCheck t → c ≡ RefusedCheck number node → verdictFor t k a s m ≡ refused number node
+  pub length-refused : (c : Check) (number node : ℕ) → c ≡ lengthCheck t → c ≡ RefusedCheck number node → checked room t ≡ refused number node
   length-refused c number node e z = after-length c e ∙ ap (λ x. refuse x (later room)) z
 
-  module _ (c : Check) (e : c ≡ lengthCheck t) (z : c ≡ Passed) (b : Bool) (eb : b ≡ roomFor (length t / 2) (length k) (length a) (length s) (length m)) where
-    after-room : verdictFor t k a s m ≡ later b
+  module _ (c : Check) (e : c ≡ lengthCheck t) (z : c ≡ Passed) (b : Bool) (eb : b ≡ room) where
+    after-room : checked room t ≡ later b
     after-room = after-length c e ∙ ap (λ x. refuse x (later room)) z ∙ ap later (sym eb)
 
-    pub room-refused : b ≡ false → verdictFor t k a s m ≡ refused 3 0
+    pub room-refused : b ≡ false → checked room t ≡ refused 3 0
     room-refused f = after-room ∙ ap later f
 
-    pub room-passed : b ≡ true → verdictFor t k a s m ≡ checkProgram (scan t 0 [])
+    pub room-passed : b ≡ true → checked room t ≡ checkProgram (scan t 0 [])
     room-passed f = after-room ∙ ap later f
 
 -- a refusal's number and node are its verdict's

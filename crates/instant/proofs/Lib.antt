@@ -11,3 +11,4 @@ pub mod Resumes
 pub mod Admits
 pub mod Counting
 pub mod Fitting
+pub mod Checking

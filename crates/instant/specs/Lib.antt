@@ -1,3 +1,4 @@
 pub mod Admission
 pub mod Steps
 pub mod Run
+pub mod Calls

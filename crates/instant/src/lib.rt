@@ -1,10 +1,10 @@
 // One instant of an accepted program: start and resume.
 ghost use mathlib.Core.Path.{_≡_};
 ghost use mathlib.Core.Bool.{cond};
-ghost use mathlib.Core.List.{[], _∷_};
+ghost use mathlib.Core.List.{_++_, [], _∷_};
 ghost use Prim.Native.Nat.{_+_, _-_, _<_, _≤_, max};
 ghost use lib.Dec.{eqb, ltb};
-ghost use lib.ListN.{length, getD, take};
+ghost use lib.ListN.{drop, length, getD, take};
 ghost use lib.Seq.{sets};
 ghost use Rattle.esterel.specs.Codes.{catchCode};
 ghost use Rattle.esterel.specs.Instant.{zeros, admitted};
@@ -16,6 +16,8 @@ ghost use Rattle.analysis.specs.Passes.{Surveyable};
 ghost use Rattle.instant.specs.Steps.{entriesOf, oneMore, TrapLeft, besides, isPresent, isSuspend, doneAfter, leafOf, LeafRan};
 ghost use Rattle.instant.specs.Run.{Runnable, Room, Clear, Started, Holding, Resumed};
 ghost use Rattle.instant.specs.Admission.{countHeld, Counted, isExclusive, isPause, byteFitsKind, nodeFits};
+ghost use Rattle.instant.specs.Calls.{roomFor, CallChecked, refusalOf};
+use table::Check;
 use table::Kind;
 
 // What a run of a statement answers: the code, the answers taken up to its end and its entries; or that an answer is
@@ -526,4 +528,64 @@ fn is_admitted(table: &[u8], sizes: &[u16], counts: &[u16], state: &[u8]) -> boo
         i += 1;
     }
     true
+}
+
+// What an instant answers: closed with its code, the answers taken and the entries; or the number and the node of the
+// refusal.
+pub enum Reaction {
+    Closed {
+        code: usize,
+        taken: usize,
+        entries: usize,
+    },
+    Refused {
+        number: u8,
+        node: usize,
+    },
+}
+
+// The refusal that a check answers.
+fn refused(check: Check) -> Reaction
+    ensures { λ r. ⌜ r ≡ refusalOf check ⌝ }
+{
+    match check {
+        Check::Passed => Reaction::Refused { number: 0, node: 0 },
+        Check::Refused { number, node } => Reaction::Refused { number, node },
+    }
+}
+
+// Check 3: a byte of state for each node, and one for each signal.
+fn has_room(n: usize, state: usize, emissions: usize) -> bool
+    ensures { λ r. ⌜ r ≡ roomFor n state emissions ⌝ }
+{
+    (n <= state) & (esterel::SIGNALS <= emissions)
+}
+
+// Checks 1, 2, 3 and 4 to 11, with the sizes of all subtrees.
+fn check_call(table: &[u8], state: usize, emissions: usize, sizes: &mut [u16]) -> Check
+    requires { ⌜ maxNodes ≤ length (now sizes) ⌝ }
+    ensures { λ r. ⌜ CallChecked (now (table .entry)) state emissions (now (sizes .exit)) r ⌝ }
+{
+    let length = table::check_length(table);
+    let Check::Passed = length else {
+        return length;
+    };
+    if !has_room(table.len() / 2, state, emissions) {
+        return Check::Refused { number: 3, node: 0 };
+    }
+    let mut sets = [0u64; esterel::MAX_NODES];
+    let accepted = analysis::accept(table, sizes, &mut sets);
+    accepted.check
+}
+
+// The first n bytes.
+fn copy(from: &[u8], to: &mut [u8], n: usize)
+    requires { ⌜ (n ≤ length (now from)) × (n ≤ length (now to)) ⌝ }
+    ensures { λ _. ⌜ now (to .exit) ≡ take n (now (from .entry)) ++ drop n (now (to .entry)) ⌝ }
+{
+    let mut i: usize = 0;
+    while i < n {
+        to[i] = from[i];
+        i += 1;
+    }
 }

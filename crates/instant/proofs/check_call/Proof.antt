@@ -1,0 +1,56 @@
+-- `instant::check_call` meets its contract: each return answers the first failed check.
+use borrow.Author.Needs.{needs}
+use native.Mathlib.Omega.{arith}
+use native.Mathlib.Omega.{arith}
+use mathlib.Core.Path.{sym, _∙_}
+use denote.Ref.{now}
+use Rattle.analysis.proofs.Accepts.{well-sized}
+use Rattle.analysis.proofs.Analyses.{not-is-true, not-is-false}
+use Rattle.instant.proofs.Checking.{length-fails, room-fails, accepts}
+use Rattle.instant.proofs.check_call.Statement.{statement}
+use Rattle.instant.proofs.check_call.Tie as tie
+
+check-length-requires : tie.Need-check-length-requires
+check-length-requires c κs = search needs
+
+enum-told : tie.Need-enum-told
+enum-told c = search needs
+
+enum-told-2 : tie.Need-enum-told-2
+enum-told-2 c = search needs
+
+returns : tie.Need-returns
+returns c = length-fails (now (c .before .before .before .before .before .args .table)) (c .before .before .before .before .before .args .state) (c .before .before .before .before .before .args .emissions) _ (c .before .before .check-length .ensures) _ _ (c .enum-told2 .given .1)
+
+has-room-requires : tie.Need-has-room-requires
+has-room-requires c κs = search needs
+
+returns-2 : tie.Need-returns-2
+returns-2 c = room-fails (now (c .before .before .before .before .before .before .before .args .table)) (c .before .before .before .before .before .before .before .args .state) (c .before .before .before .before .before .before .before .args .emissions) _ (c .before .before .before .before .check-length .ensures) (c .before .before .enum-told .given .1) (c .before .has-room .ensures) (not-is-true _ (c .if1 .taken))
+
+slice-aggregate-accept : tie.Need-slice-aggregate-accept
+slice-aggregate-accept c = search needs
+
+accept-requires : tie.Need-accept-requires
+accept-requires c κs = (well-sized (now (c .before .before .before .before .before .before .before .before .before .args .table)) (sym (c .before .before .before .before .before .before .check-length .ensures) ∙ c .before .before .before .before .enum-told .given .1), c .before .before .before .before .before .before .before .before .before .pre, omega arith)
+
+same-length : tie.Need-same-length
+same-length c = search needs
+
+returns-3 : tie.Need-returns-3
+returns-3 c = accepts (now (c .before .before .before .before .before .before .before .before .before .before .before .before .before .args .table)) (c .before .before .before .before .before .before .before .before .before .before .before .before .before .args .state) (c .before .before .before .before .before .before .before .before .before .before .before .before .before .args .emissions) _ (c .before .before .before .before .before .before .before .before .before .before .check-length .ensures) (c .before .before .before .before .before .before .before .before .enum-told .given .1) (c .before .before .before .before .before .before .before .has-room .ensures) (not-is-false _ (c .before .before .before .before .before .before .if1 .left)) (c .before .before .before .accept .ensures)
+
+pub check-call-spec : {M : Type 1} → statement M
+check-call-spec =
+    tie.close
+    (tie.spec
+    check-length-requires
+    enum-told
+    enum-told-2
+    returns
+    has-room-requires
+    returns-2
+    slice-aggregate-accept
+    accept-requires
+    same-length
+    returns-3)

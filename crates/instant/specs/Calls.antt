@@ -1,0 +1,88 @@
+-- What `start` and `resume` answer and leave in the lent buffers.
+use Prim.Native.Nat.{ℕ, _/_, _≤_}
+use mathlib.Core.Path.{_≡_}
+use mathlib.Core.Bool.{Bool, cond, _&&_}
+use mathlib.Core.List.{List}
+use lib.Dec.{leb}
+use lib.ListN.{length, take}
+use Rattle.esterel.specs.Limits.{signals}
+use Rattle.esterel.specs.Statement.{size}
+use Rattle.esterel.specs.Table.{Verdict, passed, refused}
+use Rattle.esterel.specs.Instant.{start, resume, admitted}
+use Rattle.esterel.specs.Outcome.{Outcome, done, needsAnswer, noRule, outcome}
+use Rattle.table.specs.Check.{answerOf as checkOf}
+use Rattle.table.specs.declared.Check.{Check}
+use Rattle.table.specs.declared.Check.the-variants.{Passed}
+use Rattle.table.specs.declared.Check.the-variants.{Refused as RefusedCheck}
+use Rattle.table.specs.Program.{programOf}
+use Rattle.analysis.specs.Passes.{Surveyable, onto}
+use Rattle.analysis.specs.Analysis.{checked}
+use Rattle.instant.specs.Run.{Runnable}
+use Rattle.instant.specs.declared.Reaction.{Reaction}
+use Rattle.instant.specs.declared.Reaction.the-variants.{Closed, Refused}
+
+-- check 3: a byte of state for each node, and one for each signal
+abbrev pub roomFor : (n state emissions : ℕ) → Bool
+roomFor n state emissions = leb n state && leb signals emissions
+
+-- checks 1, 2, 3, 4 to 11, in this order
+abbrev pub verdictFor : List ℕ → (state emissions : ℕ) → Verdict
+verdictFor t state emissions = checked (roomFor (length t / 2) state emissions) t
+
+-- what a call comes to: refused by number and node, or closed with what the instant hands back
+pub data Call : Type 0 where
+  refuses : (number node : ℕ) → Call
+  closes : (code taken entries : ℕ) (state emissions : List ℕ) → Call
+
+abbrev pub closing : Outcome → Call
+closing (done code taken entries state emissions) = closes code taken entries state emissions
+closing needsAnswer = refuses 13 0
+closing noRule = refuses 0 0  -- never of an accepted program from an admitted state
+
+-- a start looks at no byte of the state
+unfoldable pub startCall : Verdict → (answers : List ℕ) → Call
+startCall (passed p) answers = closing (outcome p (start 0 p answers))
+startCall (refused number node) answers = refuses number node
+
+-- check 12, then the instant
+unfoldable pub resumeCall : Verdict → (state answers : List ℕ) → Call
+resumeCall (passed p) state answers =
+    cond (admitted p (take (size p) state)) (closing (outcome p (resume 0 p (take (size p) state) answers))) (refuses 12 0)
+resumeCall (refused number node) state answers = refuses number node
+
+abbrev pub answerOf : Call → Reaction
+answerOf (refuses number node) = Refused number node
+answerOf (closes code taken entries state emissions) = Closed code taken entries
+
+-- a buffer after the call: after a refusal it is as it was
+abbrev pub stateAfter : Call → List ℕ → List ℕ
+stateAfter (refuses number node) old = old
+stateAfter (closes code taken entries state emissions) old = onto state old
+
+abbrev pub emissionsAfter : Call → List ℕ → List ℕ
+emissionsAfter (refuses number node) old = old
+emissionsAfter (closes code taken entries state emissions) old = onto emissions old
+
+-- the answer, and the whole content of both buffers
+pub record Reacts (call : Call) (state emissions state′ emissions′ : List ℕ) (r : Reaction) : Type 0 where
+  pub answer : r ≡ answerOf call
+  pub stateIs : state′ ≡ stateAfter call state
+  pub emissionsAre : emissions′ ≡ emissionsAfter call emissions
+
+-- an accepted table, with the sizes of its subtrees, and buffers that suffice
+pub record Ready (t : List ℕ) (state emissions : ℕ) (sizes : List ℕ) : Type 0 where
+  pub verdict : verdictFor t state emissions ≡ passed (programOf t)
+  pub surveyable : Surveyable t sizes
+  pub runnable : Runnable t sizes
+  pub places : size (programOf t) ≤ state
+  pub marks : signals ≤ emissions
+
+-- what checks 1 to 11 answer, and leave in the list of sizes
+pub record CallChecked (t : List ℕ) (state emissions : ℕ) (sizes : List ℕ) (r : Check) : Type 0 where
+  pub answer : r ≡ checkOf (verdictFor t state emissions)
+  pub ready : r ≡ Passed → Ready t state emissions sizes
+
+-- a check's answer where it refuses
+abbrev pub refusalOf : Check → Reaction
+refusalOf Passed = Refused 0 0  -- never asked
+refusalOf (RefusedCheck number node) = Refused number node
