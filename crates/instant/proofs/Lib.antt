@@ -12,3 +12,4 @@ pub mod Admits
 pub mod Counting
 pub mod Fitting
 pub mod Checking
+pub mod Emissions
