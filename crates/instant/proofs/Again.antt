@@ -18,7 +18,7 @@ use Rattle.instant.specs.declared.Ran.{Ran}
 use Rattle.instant.specs.declared.Ran.the-variants.{Closed, Starved}
 use Rattle.instant.proofs.Sets.{Zero}
 use Rattle.instant.proofs.Algebra.{Sized, inside, is-starved, taken-le, held-behind, then-zeros-is, zeros-then-is, stopped-is, beside-is, second-is, catch-is, again-kept, again-is, idle-is, besides-none, besides-idle}
-use Rattle.instant.proofs.Start.{entered}
+use Rattle.instant.proofs.Starts.{entered}
 
 -- one statement beneath
 module _ {t answers held em : List ℕ} {node f : ℕ} (own : getD held node 0 ≡ 0) (B ans : List ℕ) (p : Stmt) (ends : f + size p ≡ node) where

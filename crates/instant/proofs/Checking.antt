@@ -18,6 +18,7 @@ use Rattle.table.specs.declared.Check.the-variants.{Passed}
 use Rattle.table.specs.declared.Check.the-variants.{Refused as RefusedCheck}
 use Rattle.analysis.specs.Passes.{Accepting}
 use Rattle.analysis.specs.declared.Acceptance.{Acceptance}
+use Rattle.analysis.proofs.Accepts.{well-sized}
 use Rattle.analysis.proofs.Analyses.{length-refused, room-refused, room-passed, nodes-are}
 use Rattle.instant.specs.Calls.{roomFor, verdictFor, CallChecked}
 
@@ -50,6 +51,7 @@ module _ (t : List ℕ) (state emissions : ℕ) (sizes : List ℕ) where
                     verdict = same ∙ a .verdict;
                     surveyable = a .surveyable;
                     runnable = record { readable = a .surveyable .readable; verdict = a .verdict; sized = a .surveyable .sized; listed = a .surveyable .listed };
+                    few = omega (arith, nodes-are a, well-sized t (sym e ∙ z) .few);
                     places = omega (arith, nodes-are a, leb-true (length t / 2) state (left (leb (length t / 2) state) (leb signals emissions) enough));
                     marks = leb-true signals emissions (right (leb (length t / 2) state) enough);
                   };

@@ -3,7 +3,7 @@ pub mod Small
 pub mod Algebra
 pub mod Nodes
 pub mod Views
-pub mod Start
+pub mod Starts
 pub mod Returns
 pub mod Bytes
 pub mod Again
@@ -13,3 +13,4 @@ pub mod Counting
 pub mod Fitting
 pub mod Checking
 pub mod Emissions
+pub mod Closing

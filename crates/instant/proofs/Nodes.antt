@@ -104,7 +104,7 @@ module _ {ps : List Stmt} {p : Stmt} {C : ℕ → Type 0} {L : ℕ} {ans : List 
   run-few (noRule o) = o
 
 module _ {t sizes : List ℕ} (ok : Runnable t sizes) where
-  accepted : Accepted (programOf t)
+  pub accepted : Accepted (programOf t)
   accepted = sym (ap checkProgram (scans t (programOf t) (ok .readable .reads))) ∙ ok .verdict
 
   module _ (j : ℕ) (h : j < size (programOf t)) where

@@ -28,7 +28,7 @@ use Rattle.instant.proofs.Bytes.{part-at, sets-same, zero-part, own-one
 use Rattle.instant.proofs.Algebra.{Sized, Quiet, entries-le, held-behind, drop-behind, ended-zero}
 use Rattle.instant.proofs.Nodes.{spans, load-le, start-sized, resume-sized, resume-few, resume-quiet, Over, Both}
 use Rattle.instant.proofs.Views.{kind-is, leaf-of, one-of, two-of}
-use Rattle.instant.proofs.Start.{start-as, sized-as}
+use Rattle.instant.proofs.Starts.{start-as, sized-as}
 use Rattle.instant.proofs.Returns.{room-after}
 use Rattle.instant.proofs.Again.{one-kept, one-starved, trap-again, loop-again, suspend-on, right-only, left-starved, left-done, sequence-both, parallel-both}
 

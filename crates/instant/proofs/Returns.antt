@@ -24,7 +24,7 @@ use Rattle.instant.specs.declared.Ran.the-variants.{Closed, Starved}
 use Rattle.instant.proofs.Algebra.{Sized, entries-le, taken-le, held-length, em-length, held-behind}
 use Rattle.instant.proofs.Nodes.{spans, start-sized, start-few, Both}
 use Rattle.instant.proofs.Views.{kind-is, leaf-of, has-last, one-of, two-of}
-use Rattle.instant.proofs.Start.{start-as, sized-as, leaf-start, other-start, trap-start, then-start, else-start, stopped-start, starved-start, joined-start}
+use Rattle.instant.proofs.Starts.{start-as, sized-as, leaf-start, other-start, trap-start, then-start, else-start, stopped-start, starved-start, joined-start}
 
 leaf-is : (l : Leaf) → leafOf (kindOf (kind (leaf l))) (field (leaf l)) ≡ l
 unfolding kindOf

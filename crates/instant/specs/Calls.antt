@@ -5,7 +5,7 @@ use mathlib.Core.Bool.{Bool, cond, _&&_}
 use mathlib.Core.List.{List}
 use lib.Dec.{leb}
 use lib.ListN.{length, take}
-use Rattle.esterel.specs.Limits.{signals}
+use Rattle.esterel.specs.Limits.{maxNodes, signals}
 use Rattle.esterel.specs.Statement.{size}
 use Rattle.esterel.specs.Table.{Verdict, passed, refused}
 use Rattle.esterel.specs.Instant.{start, resume, admitted}
@@ -74,6 +74,7 @@ pub record Ready (t : List ℕ) (state emissions : ℕ) (sizes : List ℕ) : Typ
   pub verdict : verdictFor t state emissions ≡ passed (programOf t)
   pub surveyable : Surveyable t sizes
   pub runnable : Runnable t sizes
+  pub few : size (programOf t) ≤ maxNodes
   pub places : size (programOf t) ≤ state
   pub marks : signals ≤ emissions
 

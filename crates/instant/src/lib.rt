@@ -16,7 +16,7 @@ ghost use Rattle.analysis.specs.Passes.{Surveyable};
 ghost use Rattle.instant.specs.Steps.{entriesOf, oneMore, TrapLeft, besides, isPresent, isSuspend, doneAfter, leafOf, LeafRan};
 ghost use Rattle.instant.specs.Run.{Runnable, Room, Clear, Started, Holding, Resumed};
 ghost use Rattle.instant.specs.Admission.{countHeld, Counted, isExclusive, isPause, byteFitsKind, nodeFits};
-ghost use Rattle.instant.specs.Calls.{roomFor, CallChecked, refusalOf};
+ghost use Rattle.instant.specs.Calls.{roomFor, CallChecked, refusalOf, verdictFor, startCall, Reacts};
 use table::Check;
 use table::Kind;
 
@@ -587,5 +587,38 @@ fn copy(from: &[u8], to: &mut [u8], n: usize)
     while i < n {
         to[i] = from[i];
         i += 1;
+    }
+}
+
+// One instant of a fresh program.
+fn start(table: &[u8], answers: &[u8], state: &mut [u8], emissions: &mut [u8]) -> Reaction
+    ensures { λ r. ⌜ Reacts (startCall (verdictFor (now (table .entry)) (length (now (state .entry))) (length (now (emissions .entry)))) (now (answers .entry))) (now (state .entry)) (now (emissions .entry)) (now (state .exit)) (now (emissions .exit)) r ⌝ }
+{
+    let mut sizes = [0u16; esterel::MAX_NODES];
+    let check = check_call(table, state.len(), emissions.len(), &mut sizes);
+    let Check::Passed = check else {
+        return refused(check);
+    };
+    let n = table.len() / 2;
+    let mut held = [0u8; esterel::MAX_NODES];
+    let mut marks = [0u8; esterel::SIGNALS];
+    let ran = start_at(table, &sizes, answers, n - 1, 0, &mut held, &mut marks);
+    let Ran::Closed {
+        code,
+        taken,
+        entries,
+    } = ran
+    else {
+        return Reaction::Refused {
+            number: 13,
+            node: 0,
+        };
+    };
+    copy(&held, state, n);
+    copy(&marks, emissions, esterel::SIGNALS);
+    Reaction::Closed {
+        code,
+        taken,
+        entries,
     }
 }
