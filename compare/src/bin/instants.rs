@@ -31,7 +31,6 @@
 //! First come the cases of the vector file, with the outcomes of that file,
 //! then own ones.
 
-use std::fs;
 use std::path::Path;
 use std::process::ExitCode;
 
@@ -109,12 +108,7 @@ fn write_files() -> Result<(), String> {
         files.input.len(),
         files.expected.len()
     );
-    write(&arguments.input, &files.input)?;
-    write(&arguments.expected, files.expected.as_bytes())
-}
-
-fn write(file: &Path, content: &[u8]) -> Result<(), String> {
-    fs::write(file, content).map_err(|error| format!("cannot write {}: {error}", file.display()))
+    arguments.write(&files.input, files.expected.as_bytes())
 }
 
 /// The cases of the file, and some of them again with a short emission buffer.

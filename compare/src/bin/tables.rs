@@ -8,7 +8,6 @@
 //! listing program prints them. First come the tables of the vector file, with
 //! the texts of that file, then the edges, then random tables.
 
-use std::fs;
 use std::path::Path;
 use std::process::ExitCode;
 
@@ -68,12 +67,7 @@ fn write_files() -> Result<(), String> {
         files.input.len(),
         files.expected.len()
     );
-    write(&arguments.input, &files.input)?;
-    write(&arguments.expected, files.expected.as_bytes())
-}
-
-fn write(file: &Path, content: &[u8]) -> Result<(), String> {
-    fs::write(file, content).map_err(|error| format!("cannot write {}: {error}", file.display()))
+    arguments.write(&files.input, files.expected.as_bytes())
 }
 
 fn add_vectors(files: &mut Files, file: &Path) -> Result<(), String> {

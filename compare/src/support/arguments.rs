@@ -1,6 +1,7 @@
 //! The command line of the generators.
 
-use std::path::PathBuf;
+use std::fs;
+use std::path::{Path, PathBuf};
 
 pub struct Arguments {
     pub vectors: Option<PathBuf>,
@@ -31,4 +32,16 @@ pub fn read(option: &str) -> Result<Arguments, String> {
         input,
         expected,
     })
+}
+
+impl Arguments {
+    /// Writes both files.
+    pub fn write(&self, input: &[u8], expected: &[u8]) -> Result<(), String> {
+        write(&self.input, input)?;
+        write(&self.expected, expected)
+    }
+}
+
+fn write(file: &Path, content: &[u8]) -> Result<(), String> {
+    fs::write(file, content).map_err(|error| format!("cannot write {}: {error}", file.display()))
 }

@@ -12,5 +12,6 @@ pub mod Reading
 pub mod Every
 pub mod Accepted
 pub mod Caught
+pub mod Ranges
 pub mod Subtrees
 pub mod Theorems

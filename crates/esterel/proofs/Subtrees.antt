@@ -1,7 +1,7 @@
 -- Every node's statement stands in one piece that ends at the node; so do its children's.
-use mathlib.Core.Path.{_≡_, refl, sym, ap, _∙_}
+use mathlib.Core.Path.{_≡_, refl, sym, _∙_}
 use mathlib.Core.Bool.{Bool, true, false, not, _&&_}
-use mathlib.Core.List.{List, [], _∷_, _++_}
+use mathlib.Core.List.{List, [], _∷_}
 use Prim.Native.Nat.{ℕ, zero, suc, _+_, _-_, _*_, _≤_, _<_}
 use native.Mathlib.Decide.{decLt}
 use native.Mathlib.Omega.{arith}
@@ -9,13 +9,14 @@ use lib.Dec.{eqb}
 use lib.ListN.{length, getD, List·getD-eq-default}
 use Rattle.codes.proofs.Bools.{both, left, right}
 use Rattle.codes.proofs.Members.{only-out}
-use Rattle.esterel.specs.Statement.{Leaf, nothing, pause, emit, exit, Unary, signal, suspend, loop, trap, Binary, present, sequence, parallel, Stmt, leaf, one, two, kind, field, size, nodes}
+use Rattle.esterel.specs.Statement.{nothing, pause, emit, exit, Unary, signal, suspend, loop, trap, Binary, present, sequence, parallel, Stmt, leaf, one, two, kind, field, size, nodes}
 use Rattle.esterel.specs.Sets.{startSet}
 use Rattle.esterel.specs.Table.{bytesOf}
 use Rattle.esterel.specs.Instant.{Entry, entry, started, resumed}
 use Rattle.esterel.specs.Outcome.{statementAt, allIn, allGoOn}
 use Rattle.esterel.specs.Theorems.{Subtrees}
 use Rattle.esterel.proofs.Sizes.{length-nodes, size-pos}
+use Rattle.esterel.proofs.Ranges.{Over, over-join, over-last}
 use Rattle.esterel.proofs.Nodes.{Part, part-child, part-first, part-second, part-own, sits, root}
 
 module _ (ps : List Stmt) where
@@ -24,32 +25,18 @@ module _ (ps : List Stmt) where
     part : Part ps first (nodes (statementAt ps i))
     ends : first + size (statementAt ps i) ≡ suc i
 
-  -- over k nodes from n on
-  abbrev Pieces : ℕ → ℕ → Type 0
-  Pieces n k = (i : ℕ) → n ≤ i → i < n + k → Piece i
+  -- a statement's own node, after those of its children
+  last : (w : Stmt) (n k : ℕ) → size w ≡ suc k → Part ps n (nodes w) → Over Piece n k → Over Piece n (suc k)
+  last w n k z c ih =
+      let own : statementAt ps (n + k) ≡ w = root ps w n (sits ps w n c) (n + k) (omega arith) in
+      over-last Piece n k ih record { first = n; part = rw own c; ends = rw own (omega arith) }
 
-  last : (w : Stmt) (n k : ℕ) → size w ≡ suc k → Part ps n (nodes w) → Pieces n k → Pieces n (size w)
-  last w n k z c ih i lo hi = go (decLt i (n + k))
-    where
-      go : Dec (i < n + k) → Piece i
-      go (yes h) = ih i lo h
-      go (no h) =
-          let own : statementAt ps i ≡ w = root ps w n (sits ps w n c) i (omega arith) in
-          record { first = n; part = rw own c; ends = rw own (omega arith) }
-
-  join : (n k l : ℕ) → Pieces n k → Pieces (n + k) l → Pieces n (k + l)
-  join n k l f g i lo hi = go (decLt i (n + k))
-    where
-      go : Dec (i < n + k) → Piece i
-      go (yes h) = f i lo h
-      go (no h) = g i (omega arith) (omega arith)
-
-  pieces : (p : Stmt) (n : ℕ) → Part ps n (nodes p) → Pieces n (size p)
+  pieces : (p : Stmt) (n : ℕ) → Part ps n (nodes p) → Over Piece n (size p)
   pieces (leaf l) n c = last (leaf l) n 0 refl c (λ i lo hi. absurd (omega arith))
   pieces (one u p) n c = last (one u p) n (size p) refl c (pieces p n (part-child ps u p c))
   pieces (two b p q) n c =
       last (two b p q) n (size p + size q) refl c
-      (join n (size p) (size q) (pieces p n (part-first ps b p q c)) (pieces q (n + size p) (part-second ps b p q c)))
+      (over-join Piece n (size p) (size q) (pieces p n (part-first ps b p q c)) (pieces q (n + size p) (part-second ps b p q c)))
 
 module _ (p : Stmt) (i : ℕ) where
   piece-at : i < size p → Piece (nodes p) i

@@ -14,6 +14,7 @@ use Rattle.esterel.specs.Statement.{Binary, Stmt, leaf, one, two, size, nodes}
 use Rattle.esterel.specs.Instant.{holds, first, second, apart, atPauses, oneBranch, admitted}
 use Rattle.esterel.specs.Outcome.{statementAt}
 use Rattle.esterel.proofs.Nodes.{Sits, sits-own}
+use Rattle.esterel.proofs.Ranges.{Over, over-join, over-last}
 use Rattle.esterel.proofs.Sizes.{length-nodes}
 use Rattle.instant.specs.Admission.{countHeld, Counted, byteFits, childrenApart, nodeFits}
 
@@ -82,36 +83,18 @@ module _ (ps : List Stmt) (h : List ℕ) where
   abbrev pub Apart : ℕ → Type 0
   Apart i = childrenApart (statementAt ps i) h i ≡ true
 
-  -- at each of the k nodes from f on
-  abbrev pub Over : ℕ → ℕ → Type 0
-  Over f k = (i : ℕ) → f ≤ i → i < f + k → Apart i
-
-  join : (f k l : ℕ) → Over f k → Over (f + k) l → Over f (k + l)
-  join f k l a b i lo hi = go (decLt i (f + k))
-    where
-      go : Dec (i < f + k) → Apart i
-      go (yes c) = a i lo c
-      go (no c) = b i (omega arith) (omega arith)
-
-  last : (f k : ℕ) → Over f k → Apart (f + k) → Over f (suc k)
-  last f k a b i lo hi = go (decLt i (f + k))
-    where
-      go : Dec (i < f + k) → Apart i
-      go (yes c) = a i lo c
-      go (no c) = let e : i ≡ f + k = omega arith in rw e b
-
-  pub each-apart : (p : Stmt) (f : ℕ) → Sits ps f p → oneBranch p (part p f) ≡ true → Over f (size p)
+  pub each-apart : (p : Stmt) (f : ℕ) → Sits ps f p → oneBranch p (part p f) ≡ true → Over Apart f (size p)
   each-apart (leaf l) f w o = λ i a z. let e : i ≡ f = omega arith in rw (e, w)
   each-apart (one u p) f w o =
-      last f (size p) (each-apart p f (w .0) (rw (part-first p f (suc (size p)) (omega arith)) at o)) (rw (w .1))
+      over-last Apart f (size p) (each-apart p f (w .0) (rw (part-first p f (suc (size p)) (omega arith)) at o)) (rw (w .1))
   each-apart (two b p q) f w o =
       let o′ : apart b (holds (part p f)) (holds (part q (f + size p))) && (oneBranch p (part p f) && oneBranch q (part q (f + size p))) ≡ true = rw (part-first p f (suc (size p + size q)) (omega arith), part-second p q f (suc (size p + size q)) (omega arith)) at o in
       let children = right (apart b (holds (part p f)) (holds (part q (f + size p)))) o′ in
-      last f (size p + size q)
-      (join f (size p) (size q) (each-apart p f (w .0) (left (oneBranch p (part p f)) _ children)) (each-apart q (f + size p) (w .1) (right (oneBranch p (part p f)) children)))
+      over-last Apart f (size p + size q)
+      (over-join Apart f (size p) (size q) (each-apart p f (w .0) (left (oneBranch p (part p f)) _ children)) (each-apart q (f + size p) (w .1) (right (oneBranch p (part p f)) children)))
       (rw (w .2) (own-two b p q f _ refl ∙ left (apart b (holds (part p f)) (holds (part q (f + size p)))) _ o′))
 
-  pub apart-each : (p : Stmt) (f : ℕ) → Sits ps f p → Over f (size p) → oneBranch p (part p f) ≡ true
+  pub apart-each : (p : Stmt) (f : ℕ) → Sits ps f p → Over Apart f (size p) → oneBranch p (part p f) ≡ true
   apart-each (leaf l) f w o = refl
   apart-each (one u p) f w o = rw (part-first p f (suc (size p)) (omega arith)) (apart-each p f (w .0) (λ i a z. o i a (omega arith)))
   apart-each (two b p q) f w o =

@@ -49,8 +49,7 @@ module _ (t : List ℕ) (state emissions : ℕ) (sizes : List ℕ) where
                   let a = o .ready y in
                   record {
                     verdict = same ∙ a .verdict;
-                    surveyable = a .surveyable;
-                    runnable = record { readable = a .surveyable .readable; verdict = a .verdict; sized = a .surveyable .sized; listed = a .surveyable .listed };
+                    runnable = record { surveyable = a .surveyable; verdict = a .verdict };
                     few = omega (arith, nodes-are a, well-sized t (sym e ∙ z) .few);
                     places = omega (arith, nodes-are a, leb-true (length t / 2) state (left (leb (length t / 2) state) (leb signals emissions) enough));
                     marks = leb-true signals emissions (right (leb (length t / 2) state) enough);

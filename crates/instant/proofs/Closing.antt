@@ -1,10 +1,10 @@
 -- What a run over a program's last node makes of the call's buffers.
 use mathlib.Core.Path.{_≡_, refl, sym, ap, ap₂, subst, _∙_}
-use mathlib.Core.List.{List, [], _∷_, _++_, append-assoc}
+use mathlib.Core.List.{List, _++_}
 use Prim.Native.Nat.{ℕ, zero, suc, _+_, _-_, _/_, _≤_}
 use native.Mathlib.Omega.{arith}
-use lib.ListN.{length, getD, take, drop, set, length-drop, length-replicate, length-set, length-append, take-append-drop}
-use lib.Seq.{sets, take-all, take-at, take-suc-set, drop-set-lt}
+use lib.ListN.{length, getD, take, drop, length-drop, length-replicate, length-append}
+use lib.Seq.{sets, sets-eq, take-all, take-at}
 use Rattle.esterel.specs.Limits.{signals}
 use Rattle.esterel.specs.Statement.{Stmt, size, nodes}
 use Rattle.esterel.specs.Instant.{Entry, Result, zeros, start}
@@ -39,18 +39,10 @@ last-is t n e = root (nodes (programOf t)) (programOf t) 0 (sits-own (programOf 
 pub first-is : (t : List ℕ) (n : ℕ) → n ≡ size (programOf t) → firstAt t (n - 1) ≡ 0
 first-is t n e = let z = ap size (last-is t n e) in omega (arith, size-pos (programOf t))
 
--- stores within a list
-sets-is : (l : List ℕ) (i : ℕ) (v : List ℕ) → i + length v ≤ length l → sets l i v ≡ take i l ++ (v ++ drop (i + length v) l)
-sets-is l i [] h = let z : i + 0 ≡ i = omega arith in rw z (sym (take-append-drop i l))
-sets-is l i (x ∷ v) h =
-    let z : suc i + length v ≡ i + suc (length v) = omega arith in
-    sets-is (set l i x) (suc i) v (rw length-set (omega arith))
-    ∙ ap₂ _++_ (take-suc-set l i x (omega arith)) (ap (λ m. v ++ m) (drop-set-lt (suc i + length v) l i x (omega arith) ∙ ap (λ k. drop k l) z))
-    ∙ append-assoc (take i l) (x ∷ []) (v ++ drop (i + suc (length v)) l)
-
+-- stores from the first on
 sets-front : (l v : List ℕ) (n : ℕ) → length v ≡ n → n ≤ length l → take n (sets l 0 v) ≡ v
 sets-front l v n e h =
-    let whole : sets l 0 v ≡ v ++ drop (0 + length v) l = sets-is l 0 v (omega arith) in
+    let whole : sets l 0 v ≡ v ++ drop (0 + length v) l = sets-eq v l 0 (omega arith) in
     ap (take n) whole ∙ take-at v (drop (0 + length v) l) n e
 
 -- the answers that a run took are those that its trail asks for
@@ -89,7 +81,7 @@ zero-at (suc m) (suc j) = zero-at m j
 
 module _ {t sizes : List ℕ} {a b : ℕ} (o : Ready t a b sizes) where
   pub nodes-are : length t / 2 ≡ size (programOf t)
-  nodes-are = omega (arith, table-length t (o .runnable .readable))
+  nodes-are = omega (arith, table-length t (o .runnable .surveyable .readable))
 
   pub root-clear : (n : ℕ) → n ≡ size (programOf t) → (m : ℕ) → Clear t (zeros m) (n - 1)
   unfolding Clear

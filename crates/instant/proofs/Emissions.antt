@@ -6,7 +6,7 @@ use Prim.Native.Nat.{ℕ, zero, suc, _+_, _<_}
 use native.Mathlib.Omega.{arith}
 use borrow.Author.Tests.{eq-eqb, ne-eqb}
 use lib.Dec.{eqb}
-use lib.ListN.{length, set}
+use lib.ListN.{set}
 use Rattle.esterel.specs.Codes.{bit}
 use Rattle.esterel.specs.Instant.{zeros}
 use Rattle.esterel.specs.Outcome.{member, emissionBytes}

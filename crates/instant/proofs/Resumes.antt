@@ -99,7 +99,7 @@ module _ (b : Bool) (c : ℕ) where
 -- the entries of a resumption are few
 pub few-resumed : {t sizes counts answers h h′ e e′ : List ℕ} {r : Ran} (j k : ℕ) → Runnable t sizes → j < size (programOf t) → Holding t counts h j → Resumed t answers h h′ e e′ j k r → entriesOf r ≤ 1049600
 few-resumed {t = t} {answers = answers} {h = h} j k ok lt hd o =
-    omega (arith, entries-le (load (stmtAt t j)) (resume-few ok j lt (bytesAt t h j) (hd .state) (drop k answers)) o, load-le (stmtAt t j) 1024 (omega (arith, spans ok j lt, few-nodes t (ok .readable))))
+    omega (arith, entries-le (load (stmtAt t j)) (resume-few ok j lt (bytesAt t h j) (hd .state) (drop k answers)) o, load-le (stmtAt t j) 1024 (omega (arith, spans ok j lt, few-nodes t (ok .surveyable .readable))))
 
 module _ {t sizes counts answers held em : List ℕ} {node taken : ℕ} (ok : Runnable t sizes) (room : Room t answers held em node taken) (hd : Holding t counts held node) where
   -- the node's statement and its bytes
@@ -297,7 +297,7 @@ module _ {t sizes counts answers held em : List ℕ} {node taken : ℕ} (ok : Ru
 
       module _ (z : n ≡ 0 → ⊥) (y : n ≡ 1 → ⊥) {m : ℕ} (em1 : m ≡ getD sizes (node - 1 - s) 0) where
         size-left : {b : Binary} {p q : Stmt} → Both t node s b p q → m ≡ size p
-        size-left v = em1 ∙ ok .sized (node - 1 - s) (omega (arith, room .within)) ∙ ap size (v .left)
+        size-left v = em1 ∙ ok .surveyable .sized (node - 1 - s) (omega (arith, room .within)) ∙ ap size (v .left)
 
         pub begin-le : m ≤ node - 1 - s + 1
         begin-le = let (b, p, q, v) = two-of ok (room .within) ek en es z y in omega (arith, size-left v, v .ends, v .sized, v .some-right)

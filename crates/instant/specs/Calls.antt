@@ -15,7 +15,7 @@ use Rattle.table.specs.declared.Check.{Check}
 use Rattle.table.specs.declared.Check.the-variants.{Passed}
 use Rattle.table.specs.declared.Check.the-variants.{Refused as RefusedCheck}
 use Rattle.table.specs.Program.{programOf}
-use Rattle.analysis.specs.Passes.{Surveyable, onto}
+use Rattle.analysis.specs.Passes.{onto}
 use Rattle.analysis.specs.Analysis.{checked}
 use Rattle.instant.specs.Run.{Runnable}
 use Rattle.instant.specs.declared.Reaction.{Reaction}
@@ -72,7 +72,6 @@ pub record Reacts (call : Call) (state emissions state′ emissions′ : List �
 -- an accepted table, with the sizes of its subtrees, and buffers that suffice
 pub record Ready (t : List ℕ) (state emissions : ℕ) (sizes : List ℕ) : Type 0 where
   pub verdict : verdictFor t state emissions ≡ passed (programOf t)
-  pub surveyable : Surveyable t sizes
   pub runnable : Runnable t sizes
   pub few : size (programOf t) ≤ maxNodes
   pub places : size (programOf t) ≤ state

@@ -11,7 +11,8 @@ use Rattle.esterel.specs.Table.{passed, scan}
 use Rattle.esterel.specs.Checks.{checkProgram}
 use Rattle.esterel.specs.Instant.{Entry, Result, closed, starved, start, resume, admitted}
 use Rattle.esterel.specs.Outcome.{statementAt, emitted}
-use Rattle.table.specs.Program.{programOf, Readable}
+use Rattle.table.specs.Program.{programOf}
+use Rattle.analysis.specs.Passes.{Surveyable}
 use Rattle.instant.specs.Steps.{marked}
 use Rattle.instant.specs.declared.Ran.{Ran}
 use Rattle.instant.specs.declared.Ran.the-variants.{Closed, Starved}
@@ -25,10 +26,8 @@ firstAt t node = suc node - size (stmtAt t node)
 
 -- an accepted table with the sizes of its subtrees
 pub record Runnable (t sizes : List ℕ) : Type 0 where
-  pub readable : Readable t
+  pub surveyable : Surveyable t sizes
   pub verdict : checkProgram (scan t 0 []) ≡ passed (programOf t)
-  pub sized : (j : ℕ) → j < size (programOf t) → getD sizes j 0 ≡ size (stmtAt t j)
-  pub listed : size (programOf t) ≤ length sizes
 
 -- the buffers of a run at a node, and the answers taken before it
 pub record Room (t answers held emissions : List ℕ) (node taken : ℕ) : Type 0 where

@@ -2,7 +2,7 @@
 ghost use mathlib.Core.Path.{_≡_};
 ghost use mathlib.Core.Bool.{cond};
 ghost use mathlib.Core.List.{_++_, [], _∷_};
-ghost use Prim.Native.Nat.{_+_, _-_, _<_, _≤_, max};
+ghost use Prim.Native.Nat.{_+_, _-_, _<_, _≤_};
 ghost use lib.Dec.{eqb, ltb};
 ghost use lib.ListN.{drop, length, getD, take};
 ghost use lib.Seq.{sets};
@@ -10,7 +10,6 @@ ghost use Rattle.esterel.specs.Codes.{catchCode};
 ghost use Rattle.esterel.specs.Instant.{zeros, admitted};
 ghost use Rattle.esterel.specs.Limits.{maxNodes};
 ghost use Rattle.esterel.specs.Statement.{size, nodes};
-ghost use Rattle.table.specs.Kinds.{isTrap};
 ghost use Rattle.table.specs.Program.{programOf};
 ghost use Rattle.analysis.specs.Passes.{Surveyable};
 ghost use Rattle.instant.specs.Steps.{entriesOf, oneMore, TrapLeft, besides, isPresent, isSuspend, doneAfter, leafOf, LeafRan};
@@ -29,25 +28,6 @@ pub enum Ran {
         entries: usize,
     },
     Starved,
-}
-
-fn is_trap(kind: Kind) -> bool
-    ensures { λ r. ⌜ r ≡ isTrap kind ⌝ }
-{
-    match kind {
-        Kind::Nothing => false,
-        Kind::Pause => false,
-        Kind::Emit => false,
-        Kind::Exit => false,
-        Kind::Signal => false,
-        Kind::Present => false,
-        Kind::Suspend => false,
-        Kind::Loop => false,
-        Kind::Sequence => false,
-        Kind::Parallel => false,
-        Kind::Trap => true,
-        Kind::Unknown => false,
-    }
 }
 
 fn is_present(kind: Kind) -> bool
@@ -86,12 +66,6 @@ fn is_suspend(kind: Kind) -> bool
         Kind::Trap => false,
         Kind::Unknown => false,
     }
-}
-
-fn larger(a: usize, b: usize) -> usize
-    ensures { λ r. ⌜ r ≡ max a b ⌝ }
-{
-    if a <= b { b } else { a }
 }
 
 // The branch of a present that an answer takes: the second for 0.
@@ -184,7 +158,7 @@ fn join(code: usize, entries: usize, right: Ran) -> Ran
             taken,
             entries: more,
         } => Ran::Closed {
-            code: larger(code, last),
+            code: table::larger(code, last),
             taken,
             entries: entries + more + 1,
         },
@@ -263,7 +237,7 @@ fn start_at(
     let size = table::size_at(sizes, last);
     if children == 1 {
         let inner = start_at(table, sizes, answers, last, taken, held, emissions);
-        if is_trap(kind) {
+        if table::is_trap(kind) {
             return leave_trap(inner, held, node - size, node);
         }
         return one_more(inner);
@@ -374,7 +348,7 @@ fn resume_at(
             return one_more(inner);
         }
         let inner = resume_at(table, sizes, counts, answers, last, taken, held, emissions);
-        if is_trap(kind) {
+        if table::is_trap(kind) {
             return leave_trap(inner, held, node - size, node);
         }
         let Ran::Closed {

@@ -84,7 +84,7 @@ pub fn is_plain(kind: Kind) -> bool
     }
 }
 
-fn is_trap(kind: Kind) -> bool
+pub fn is_trap(kind: Kind) -> bool
     ensures { λ r. ⌜ r ≡ isTrap kind ⌝ }
 {
     match kind {
@@ -292,7 +292,7 @@ struct Faults {
     exits: Check,
 }
 
-fn larger(a: usize, b: usize) -> usize
+pub fn larger(a: usize, b: usize) -> usize
     ensures { λ r. ⌜ r ≡ max a b ⌝ }
 {
     if a <= b { b } else { a }

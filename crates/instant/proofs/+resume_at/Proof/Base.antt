@@ -8,7 +8,6 @@ use Rattle.instant.proofs.+resume_at.Lts-resume_at as resume-at-lts
 use Rattle.instant.proofs.done_after.Reads as done-after-reads
 use Rattle.instant.proofs.holds_between.Reads as holds-between-reads
 use Rattle.instant.proofs.is_suspend.Reads as is-suspend-reads
-use Rattle.instant.proofs.is_trap.Reads as is-trap-reads
 use Rattle.instant.proofs.join.Reads as join-reads
 use Rattle.instant.proofs.leave_trap.Reads as leave-trap-reads
 use Rattle.instant.proofs.one_more.Reads as one-more-reads
@@ -16,6 +15,7 @@ use Rattle.instant.proofs.start_at.Reads as start-at-reads
 use Rattle.table.proofs.arity.Reads as arity-reads
 use Rattle.table.proofs.is_loop.Reads as is-loop-reads
 use Rattle.table.proofs.is_sequence.Reads as is-sequence-reads
+use Rattle.table.proofs.is_trap.Reads as is-trap-reads
 use Rattle.table.proofs.kind_at.Reads as kind-at-reads
 use Rattle.table.proofs.size_at.Reads as size-at-reads
 

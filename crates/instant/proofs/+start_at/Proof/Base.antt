@@ -7,7 +7,6 @@ use Rattle.instant.proofs.start_at.Kinds as start-at-kinds
 use Rattle.instant.proofs.+start_at.Lts-start_at as start-at-lts
 use Rattle.instant.proofs.branch.Reads as branch-reads
 use Rattle.instant.proofs.is_present.Reads as is-present-reads
-use Rattle.instant.proofs.is_trap.Reads as is-trap-reads
 use Rattle.instant.proofs.join.Reads as join-reads
 use Rattle.instant.proofs.leave_trap.Reads as leave-trap-reads
 use Rattle.instant.proofs.one_more.Reads as one-more-reads
@@ -15,6 +14,7 @@ use Rattle.instant.proofs.start_leaf.Reads as start-leaf-reads
 use Rattle.table.proofs.arity.Reads as arity-reads
 use Rattle.table.proofs.field_at.Reads as field-at-reads
 use Rattle.table.proofs.is_sequence.Reads as is-sequence-reads
+use Rattle.table.proofs.is_trap.Reads as is-trap-reads
 use Rattle.table.proofs.kind_at.Reads as kind-at-reads
 use Rattle.table.proofs.size_at.Reads as size-at-reads
 
