@@ -1,13 +1,15 @@
 -- What a run over a program's last node makes of the call's buffers.
 use mathlib.Core.Path.{_≡_, refl, sym, ap, ap₂, subst, _∙_}
+use mathlib.Core.Bool.{Bool, true, false, not}
 use mathlib.Core.List.{List, _++_}
-use Prim.Native.Nat.{ℕ, zero, suc, _+_, _-_, _/_, _≤_}
+use Prim.Native.Nat.{ℕ, zero, suc, _+_, _-_, _/_, _≤_, _<_}
 use native.Mathlib.Omega.{arith}
 use lib.ListN.{length, getD, take, drop, length-drop, length-replicate, length-append}
-use lib.Seq.{sets, sets-eq, take-all, take-at}
+use lib.Seq.{sets, sets-eq, take-all, take-at, length-take-le}
 use Rattle.esterel.specs.Limits.{signals}
 use Rattle.esterel.specs.Statement.{Stmt, size, nodes}
-use Rattle.esterel.specs.Instant.{Entry, Result, zeros, start}
+use Rattle.esterel.specs.Table.{passed, refused}
+use Rattle.esterel.specs.Instant.{Entry, Result, zeros, start, resume, admitted}
 use Rattle.esterel.specs.Outcome.{emitted, taken, emissionBytes, outcome}
 use Rattle.esterel.specs.Theorems.{Closes, Closed}
 use Rattle.esterel.proofs.Nodes.{root, sits-own}
@@ -19,18 +21,18 @@ use Rattle.table.specs.Check.{answerOf as checkOf}
 use Rattle.table.specs.declared.Check.{Check}
 use Rattle.table.specs.declared.Check.the-variants.{Refused as RefusedCheck}
 use Rattle.table.proofs.View.{table-length}
-use Rattle.analysis.proofs.Analyses.{verdict-refused}
-use Rattle.instant.specs.Steps.{marked}
-use Rattle.instant.specs.Run.{stmtAt, firstAt, Clear, RanIs, ran, starves, Started}
+use Rattle.analysis.proofs.Analyses.{verdict-refused, not-is-true, not-is-false}
+use Rattle.instant.specs.Run.{stmtAt, firstAt, bytesAt, Clear, Holding, RanIs, ran, starves, Started, Resumed}
 use Rattle.instant.specs.declared.Ran.{Ran}
-use Rattle.instant.specs.declared.Ran.the-variants.{Starved}
 use Rattle.instant.specs.declared.Ran.the-variants.{Closed as ClosedRan}
 use Rattle.instant.specs.declared.Reaction.{Reaction}
 use Rattle.instant.specs.declared.Reaction.the-variants.{Refused}
 use Rattle.instant.specs.declared.Reaction.the-variants.{Closed as ClosedReaction}
-use Rattle.instant.specs.Calls.{closing, Reacts, Ready, startCall, verdictFor, refusalOf}
+use Rattle.instant.specs.Admission.{Counted}
+use Rattle.instant.specs.Calls.{Call, closing, handed, Reacts, Ready, startCall, resumeCall, verdictFor, refusalOf}
 use Rattle.instant.proofs.Emissions.{marks-are}
-use Rattle.instant.proofs.Nodes.{accepted, start-sized}
+use Rattle.instant.proofs.Entering.{counts-rise}
+use Rattle.instant.proofs.Nodes.{accepted, start-sized, resume-sized}
 
 -- the last node is the program's, and its first node is 0
 pub last-is : (t : List ℕ) (n : ℕ) → n ≡ size (programOf t) → stmtAt t (n - 1) ≡ programOf t
@@ -50,29 +52,42 @@ same-taken : (p : Stmt) (answers : List ℕ) (c k : ℕ) (u : List Entry) (h : L
 same-taken p answers c k u h le o =
     omega (arith, le, o .counted, ap length (o .lent) ∙ length-append (o .used) (drop k answers), length-drop k answers)
 
-module _ (t answers : List ℕ) where
-  pub closed-call : {x : Result} {held held′ marks marks′ state state′ emissions emissions′ : List ℕ} {code k entries n : ℕ} {r : Ran} → Closes (programOf t) answers x → Sized (size (programOf t)) x → RanIs t answers 0 held held′ marks marks′ x r → r ≡ ClosedRan code k entries → size (programOf t) ≤ length held → marks ≡ zeros signals → state′ ≡ take n held′ ++ drop n state → emissions′ ≡ take signals marks′ ++ drop signals emissions → n ≡ size (programOf t) → Reacts (closing (outcome (programOf t) x)) state emissions state′ emissions′ (ClosedReaction code k entries)
-  closed-call {held = held} {held′ = held′} {marks′ = marks′} {state = state} {emissions = emissions} {n = n} sure sized (ran c k u h le es em) e long z s m en =
-      let marked-bytes : marks′ ≡ emissionBytes (emitted (nodes (programOf t)) u) 0 signals = em ∙ ap (marked (emitted (nodes (programOf t)) u)) z ∙ marks-are (emitted (nodes (programOf t)) u) signals in
-      let long-bytes : length marks′ ≡ signals = ap length em ∙ length-marked (emitted (nodes (programOf t)) u) _ ∙ ap length z ∙ length-replicate {A = ℕ} signals 0 in
-      let counted = same-taken (programOf t) answers c k u h le sure in
-      record {
-        answer = cc (e, counted);
-        stateIs = s ∙ ap₂ (λ a b. a ++ drop b state) (ap (take n) es ∙ sets-front held h n (sized ∙ sym en) (omega arith)) (en ∙ sym sized);
-        emissionsAre = m ∙ ap₂ (λ a b. a ++ drop b emissions) (take-all signals marks′ (omega arith) ∙ marked-bytes) (sym long-bytes ∙ ap length marked-bytes);
-      }
-  closed-call sure sized starves e long z s m en = absurd (let x : _≡_ {A = ℕ} 0 1 = cc in omega arith)
+-- what a closed run hands over
+pub handed-over : (held marks state emissions : List ℕ) {r : Ran} {state′ emissions′ : List ℕ} {code k entries n : ℕ} → r ≡ ClosedRan code k entries → n ≤ length held → signals ≤ length marks → state′ ≡ take n held ++ drop n state → emissions′ ≡ take signals marks ++ drop signals emissions → Reacts (handed r (take n held) (take signals marks)) state emissions state′ emissions′ (ClosedReaction code k entries)
+handed-over held marks state emissions {n = n} e long wide s m =
+    rw e
+    (record {
+      answer = refl;
+      stateIs = s ∙ ap (λ i. take n held ++ drop i state) (sym (length-take-le n held long));
+      emissionsAre = m ∙ ap (λ i. take signals marks ++ drop i emissions) (sym (length-take-le signals marks wide));
+    })
 
-  pub starved-call : {x : Result} {held held′ marks marks′ state emissions : List ℕ} {r : Ran} → RanIs t answers 0 held held′ marks marks′ x r → r ≡ Starved → Reacts (closing (outcome (programOf t) x)) state emissions state emissions (Refused 13 0)
-  starved-call (ran c k u h le es em) e = absurd (let x : _≡_ {A = ℕ} 0 1 = cc in omega arith)
-  starved-call starves e = record { answer = refl; stateIs = refl; emissionsAre = refl }
+pub reacts-as : {call call′ : Call} {state emissions state′ emissions′ : List ℕ} {r : Reaction} → call ≡ call′ → Reacts call state emissions state′ emissions′ r → Reacts call′ state emissions state′ emissions′ r
+reacts-as {state = state} {emissions = emissions} {state′ = state′} {emissions′ = emissions′} {r = r} e = subst (λ c. Reacts c state emissions state′ emissions′ r) e
+
+-- a run over the last node hands over the rules' outcome
+module _ (t answers held held′ marks′ : List ℕ) {n : ℕ} (long : size (programOf t) ≤ length held) (en : n ≡ size (programOf t)) where
+  pub hands : {x : Result} {r : Ran} → Closes (programOf t) answers x → Sized (size (programOf t)) x → RanIs t answers 0 held held′ (zeros signals) marks′ x r → handed r (take n held′) (take signals marks′) ≡ closing (outcome (programOf t) x)
+  hands sure sized (ran c k u h le es em) =
+      let bytes : marks′ ≡ emissionBytes (emitted (nodes (programOf t)) u) 0 signals = em ∙ marks-are (emitted (nodes (programOf t)) u) signals in
+      let wide : length marks′ ≡ signals = ap length em ∙ length-marked (emitted (nodes (programOf t)) u) _ ∙ length-replicate {A = ℕ} signals 0 in
+      let left : take n held′ ≡ h = ap (take n) es ∙ sets-front held h n (sized ∙ sym en) (omega arith) in
+      let right : take signals marks′ ≡ emissionBytes (emitted (nodes (programOf t)) u) 0 signals = take-all signals marks′ (omega arith) ∙ bytes in
+      rw (left, right, same-taken (programOf t) answers c k u h le sure)
+  hands sure sized starves = refl
 
 -- a refusal by checks 1 to 11
-pub start-refused : (t : List ℕ) (state emissions answers : List ℕ) {c : Check} {r : Reaction} (number node : ℕ) → c ≡ checkOf (verdictFor t (length state) (length emissions)) → c ≡ RefusedCheck number node → r ≡ refusalOf c → Reacts (startCall (verdictFor t (length state) (length emissions)) answers) state emissions state emissions r
-unfolding startCall
-start-refused t state emissions answers number node e z y =
-    let v = verdict-refused (verdictFor t (length state) (length emissions)) _ number node e z in
-    rw v (record { answer = y ∙ ap refusalOf z; stateIs = refl; emissionsAre = refl })
+module _ (t state emissions answers : List ℕ) {c : Check} {r : Reaction} (number node : ℕ) (e : c ≡ checkOf (verdictFor t (length state) (length emissions))) (z : c ≡ RefusedCheck number node) (y : r ≡ refusalOf c) where
+  is-refused : verdictFor t (length state) (length emissions) ≡ refused number node
+  is-refused = verdict-refused (verdictFor t (length state) (length emissions)) _ number node e z
+
+  pub start-refused : Reacts (startCall (verdictFor t (length state) (length emissions)) answers) state emissions state emissions r
+  unfolding startCall
+  start-refused = rw is-refused (record { answer = y ∙ ap refusalOf z; stateIs = refl; emissionsAre = refl })
+
+  pub resume-refused : Reacts (resumeCall (verdictFor t (length state) (length emissions)) state answers) state emissions state emissions r
+  unfolding resumeCall
+  resume-refused = rw is-refused (record { answer = y ∙ ap refusalOf z; stateIs = refl; emissionsAre = refl })
 
 zero-at : (m j : ℕ) → getD (zeros m) j 0 ≡ 0
 zero-at zero j = refl
@@ -87,24 +102,58 @@ module _ {t sizes : List ℕ} {a b : ℕ} (o : Ready t a b sizes) where
   unfolding Clear
   root-clear n en m j lo hi = zero-at m j
 
-  module _ (answers state emissions : List ℕ) (ea : a ≡ length state) (eb : b ≡ length emissions) (n : ℕ) (en : n ≡ size (programOf t)) {held′ marks′ : List ℕ} (m : ℕ) {r : Ran} (room : size (programOf t) ≤ m) (w : Started t answers (zeros m) held′ (zeros signals) marks′ (n - 1) 0 r) where
-    abbrev Root : ℕ → Stmt → Type 0
-    Root i q = RanIs t answers i (zeros m) held′ (zeros signals) marks′ (start i q answers) r
+  module _ (answers state emissions : List ℕ) (ea : a ≡ length state) (eb : b ≡ length emissions) where
+    is-passed : verdictFor t (length state) (length emissions) ≡ passed (programOf t)
+    is-passed = ap₂ (verdictFor t) (sym ea) (sym eb) ∙ o .verdict
 
-    at-root : Root 0 (programOf t)
-    at-root = subst (λ i. Root i (programOf t)) (first-is t n en) (subst (λ q. Root (firstAt t (n - 1)) q) (last-is t n en) w)
+    pub not-admitted : {x : Bool} → x ≡ admitted (programOf t) (take (size (programOf t)) state) → not x ≡ true → Reacts (resumeCall (verdictFor t (length state) (length emissions)) state answers) state emissions state emissions (Refused 12 0)
+    unfolding resumeCall
+    not-admitted {x} ex e =
+        rw (is-passed, ← ex, not-is-true x e) (record { answer = refl; stateIs = refl; emissionsAre = refl })
 
-    sized : Sized (size (programOf t)) (start 0 (programOf t) answers)
-    sized =
-        let z : Sized (size (stmtAt t (n - 1))) (start (firstAt t (n - 1)) (stmtAt t (n - 1)) answers) = start-sized (o .runnable) (n - 1) (omega (arith, size-pos (programOf t))) answers in
-        subst (λ i. Sized (size (programOf t)) (start i (programOf t) answers)) (first-is t n en) (subst (λ q. Sized (size q) (start (firstAt t (n - 1)) q answers)) (last-is t n en) z)
+    module _ {n : ℕ} (en : n ≡ size (programOf t)) (held : List ℕ) (room : size (programOf t) ≤ length held) where
+      -- a fact about the statement at the last node is one about the program
+      at-root : (P : ℕ → Stmt → Type 0) → P (firstAt t (n - 1)) (stmtAt t (n - 1)) → P 0 (programOf t)
+      at-root P w = subst (λ i. P i (programOf t)) (first-is t n en) (subst (P (firstAt t (n - 1))) (last-is t n en) w)
 
-    same : startCall (verdictFor t (length state) (length emissions)) answers ≡ closing (outcome (programOf t) (start 0 (programOf t) answers))
-    unfolding startCall
-    same = ap₂ (λ x y. startCall (verdictFor t x y) answers) (sym ea) (sym eb) ∙ ap (λ v. startCall v answers) (o .verdict)
+      in-table : n - 1 < size (programOf t)
+      in-table = omega (arith, size-pos (programOf t))
 
-    pub start-closed : {code k entries : ℕ} {state′ emissions′ : List ℕ} → r ≡ ClosedRan code k entries → state′ ≡ take n held′ ++ drop n state → emissions′ ≡ take signals marks′ ++ drop signals emissions → Reacts (startCall (verdictFor t (length state) (length emissions)) answers) state emissions state′ emissions′ (ClosedReaction code k entries)
-    start-closed e s u = rw same (closed-call t answers (demand3 .starts (programOf t) (accepted (o .runnable)) answers) sized at-root e (rw (length-replicate {A = ℕ} m 0) room) refl s u en)
+      pub start-hands : {held′ marks′ : List ℕ} {r : Ran} → Started t answers held held′ (zeros signals) marks′ (n - 1) 0 r → handed r (take n held′) (take signals marks′) ≡ startCall (verdictFor t (length state) (length emissions)) answers
+      unfolding startCall
+      start-hands {held′} {marks′} {r} w =
+          rw is-passed
+          (hands t answers held held′ marks′ room en (demand3 .starts (programOf t) (accepted (o .runnable)) answers)
+          (at-root (λ i q. Sized (size q) (start i q answers)) (start-sized (o .runnable) (n - 1) in-table answers))
+          (at-root (λ i q. RanIs t answers i held held′ (zeros signals) marks′ (start i q answers) r) w))
 
-    pub start-starved : r ≡ Starved → Reacts (startCall (verdictFor t (length state) (length emissions)) answers) state emissions state emissions (Refused 13 0)
-    start-starved e = rw same (starved-call t answers at-root e)
+      -- an admitted state, whose bytes are those that are resumed
+      module _ {x : Bool} (ex : x ≡ admitted (programOf t) (take (size (programOf t)) state)) (e : not x ≡ false) (same : take n held ≡ take n state) where
+        fits : admitted (programOf t) (take (size (programOf t)) state) ≡ true
+        fits = sym ex ∙ not-is-false x e
+
+        own : take (size (programOf t)) held ≡ take (size (programOf t)) state
+        own = rw en at same
+
+        root-admitted : admitted (stmtAt t (n - 1)) (bytesAt t held (n - 1)) ≡ true
+        root-admitted = rw (first-is t n en, last-is t n en, own) fits
+
+        pub root-holding : (counts : List ℕ) → Counted state counts (size (programOf t)) → Holding t counts held (n - 1)
+        root-holding counts c =
+            record {
+              state = root-admitted;
+              listed = c .long;
+              counted = λ j lo hi. counts-rise (programOf t) state counts held (omega (arith, o .places)) c fits own j (omega (arith, size-pos (programOf t)));
+            }
+
+        pub resume-hands : {held′ marks′ : List ℕ} {r : Ran} → Resumed t answers held held′ (zeros signals) marks′ (n - 1) 0 r → handed r (take n held′) (take signals marks′) ≡ resumeCall (verdictFor t (length state) (length emissions)) state answers
+        unfolding resumeCall
+        resume-hands {held′} {marks′} {r} w =
+            rw (is-passed, fits, ← own)
+            (hands t answers held held′ marks′ room en (demand3 .resumes (programOf t) (accepted (o .runnable)) (take (size (programOf t)) held) answers (ap (admitted (programOf t)) own ∙ fits))
+            (at-root (λ i q. Sized (size q) (resume i q (take (size q) (drop i held)) answers)) (resume-sized (o .runnable) (n - 1) in-table (bytesAt t held (n - 1)) root-admitted answers))
+            (at-root (λ i q. RanIs t answers i held held′ (zeros signals) marks′ (resume i q (take (size q) (drop i held)) answers) r) w))
+
+-- the front of a copy
+pub front-same : (from old : List ℕ) {to : List ℕ} (n : ℕ) → n ≤ length from → to ≡ take n from ++ drop n old → take n to ≡ take n from
+front-same from old n long e = ap (take n) e ∙ take-at (take n from) (drop n old) n (length-take-le n from long)

@@ -13,4 +13,5 @@ pub mod Counting
 pub mod Fitting
 pub mod Checking
 pub mod Emissions
+pub mod Entering
 pub mod Closing

@@ -18,6 +18,9 @@ use Rattle.table.specs.Program.{programOf}
 use Rattle.analysis.specs.Passes.{onto}
 use Rattle.analysis.specs.Analysis.{checked}
 use Rattle.instant.specs.Run.{Runnable}
+use Rattle.instant.specs.declared.Ran.{Ran}
+use Rattle.instant.specs.declared.Ran.the-variants.{Starved}
+use Rattle.instant.specs.declared.Ran.the-variants.{Closed as ClosedRan}
 use Rattle.instant.specs.declared.Reaction.{Reaction}
 use Rattle.instant.specs.declared.Reaction.the-variants.{Closed, Refused}
 
@@ -49,6 +52,11 @@ unfoldable pub resumeCall : Verdict → (state answers : List ℕ) → Call
 resumeCall (passed p) state answers =
     cond (admitted p (take (size p) state)) (closing (outcome p (resume 0 p (take (size p) state) answers))) (refuses 12 0)
 resumeCall (refused number node) state answers = refuses number node
+
+-- what a run comes to that left these bytes; after a starved one nothing is handed over
+abbrev pub handed : Ran → (state emissions : List ℕ) → Call
+handed (ClosedRan code taken entries) state emissions = closes code taken entries state emissions
+handed Starved state emissions = refuses 13 0
 
 abbrev pub answerOf : Call → Reaction
 answerOf (refuses number node) = Refused number node

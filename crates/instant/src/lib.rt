@@ -8,14 +8,14 @@ ghost use lib.ListN.{drop, length, getD, take};
 ghost use lib.Seq.{sets};
 ghost use Rattle.esterel.specs.Codes.{catchCode};
 ghost use Rattle.esterel.specs.Instant.{zeros, admitted};
-ghost use Rattle.esterel.specs.Limits.{maxNodes};
+ghost use Rattle.esterel.specs.Limits.{maxNodes, signals};
 ghost use Rattle.esterel.specs.Statement.{size, nodes};
 ghost use Rattle.table.specs.Program.{programOf};
 ghost use Rattle.analysis.specs.Passes.{Surveyable};
 ghost use Rattle.instant.specs.Steps.{entriesOf, oneMore, TrapLeft, besides, isPresent, isSuspend, doneAfter, leafOf, LeafRan};
 ghost use Rattle.instant.specs.Run.{Runnable, Room, Clear, Started, Holding, Resumed};
 ghost use Rattle.instant.specs.Admission.{countHeld, Counted, isExclusive, isPause, byteFitsKind, nodeFits};
-ghost use Rattle.instant.specs.Calls.{roomFor, CallChecked, refusalOf, verdictFor, startCall, Reacts};
+ghost use Rattle.instant.specs.Calls.{roomFor, CallChecked, refusalOf, verdictFor, handed, startCall, resumeCall, Reacts};
 use table::Check;
 use table::Kind;
 
@@ -564,7 +564,39 @@ fn copy(from: &[u8], to: &mut [u8], n: usize)
     }
 }
 
-// One instant of a fresh program.
+// The end of a call. A closed run hands its bytes over; after a starved one the lent buffers are as they were.
+fn hand_over(
+    ran: Ran,
+    held: &[u8],
+    marks: &[u8],
+    n: usize,
+    state: &mut [u8],
+    emissions: &mut [u8],
+) -> Reaction
+    requires { ⌜ (n ≤ length (now held)) × (signals ≤ length (now marks)) × (n ≤ length (now state)) × (signals ≤ length (now emissions)) ⌝ }
+    ensures { λ r. ⌜ Reacts (handed ran (take n (now (held .entry))) (take signals (now (marks .entry)))) (now (state .entry)) (now (emissions .entry)) (now (state .exit)) (now (emissions .exit)) r ⌝ }
+{
+    let Ran::Closed {
+        code,
+        taken,
+        entries,
+    } = ran
+    else {
+        return Reaction::Refused {
+            number: 13,
+            node: 0,
+        };
+    };
+    copy(held, state, n);
+    copy(marks, emissions, esterel::SIGNALS);
+    Reaction::Closed {
+        code,
+        taken,
+        entries,
+    }
+}
+
+// The first instant of a program. It looks at no byte of the state.
 fn start(table: &[u8], answers: &[u8], state: &mut [u8], emissions: &mut [u8]) -> Reaction
     ensures { λ r. ⌜ Reacts (startCall (verdictFor (now (table .entry)) (length (now (state .entry))) (length (now (emissions .entry)))) (now (answers .entry))) (now (state .entry)) (now (emissions .entry)) (now (state .exit)) (now (emissions .exit)) r ⌝ }
 {
@@ -577,22 +609,39 @@ fn start(table: &[u8], answers: &[u8], state: &mut [u8], emissions: &mut [u8]) -
     let mut held = [0u8; esterel::MAX_NODES];
     let mut marks = [0u8; esterel::SIGNALS];
     let ran = start_at(table, &sizes, answers, n - 1, 0, &mut held, &mut marks);
-    let Ran::Closed {
-        code,
-        taken,
-        entries,
-    } = ran
-    else {
+    hand_over(ran, &held, &marks, n, state, emissions)
+}
+
+// A later instant of a program, from the pauses that the state holds.
+fn resume(table: &[u8], answers: &[u8], state: &mut [u8], emissions: &mut [u8]) -> Reaction
+    ensures { λ r. ⌜ Reacts (resumeCall (verdictFor (now (table .entry)) (length (now (state .entry))) (length (now (emissions .entry)))) (now (state .entry)) (now (answers .entry))) (now (state .entry)) (now (emissions .entry)) (now (state .exit)) (now (emissions .exit)) r ⌝ }
+{
+    let mut sizes = [0u16; esterel::MAX_NODES];
+    let check = check_call(table, state.len(), emissions.len(), &mut sizes);
+    let Check::Passed = check else {
+        return refused(check);
+    };
+    let n = table.len() / 2;
+    let mut counts = [0u16; esterel::MAX_NODES + 1];
+    count_held(state, &mut counts, n);
+    if !is_admitted(table, &sizes, &counts, state) {
         return Reaction::Refused {
-            number: 13,
+            number: 12,
             node: 0,
         };
-    };
-    copy(&held, state, n);
-    copy(&marks, emissions, esterel::SIGNALS);
-    Reaction::Closed {
-        code,
-        taken,
-        entries,
     }
+    let mut held = [0u8; esterel::MAX_NODES];
+    copy(state, &mut held, n);
+    let mut marks = [0u8; esterel::SIGNALS];
+    let ran = resume_at(
+        table,
+        &sizes,
+        &counts,
+        answers,
+        n - 1,
+        0,
+        &mut held,
+        &mut marks,
+    );
+    hand_over(ran, &held, &marks, n, state, emissions)
 }

@@ -1,7 +1,6 @@
 -- `instant::start` meets its contract: one law for each return.
 use borrow.Author.Needs.{needs}
 use native.Mathlib.Omega.{arith}
-use native.Mathlib.Omega.{arith}
 use mathlib.Core.Path.{refl}
 use Prim.Native.Nat.{_/_}
 use lib.ListN.{length}
@@ -9,7 +8,7 @@ use denote.Ref.{now}
 use Rattle.esterel.proofs.Sizes.{size-pos}
 use Rattle.esterel.specs.Limits.{maxNodes}
 use Rattle.table.specs.Program.{programOf}
-use Rattle.instant.proofs.Closing.{start-refused, nodes-are, root-clear, start-closed, start-starved}
+use Rattle.instant.proofs.Closing.{start-refused, nodes-are, root-clear, start-hands, reacts-as}
 use Rattle.instant.proofs.start.Statement.{statement}
 use Rattle.instant.proofs.start.Tie as tie
 
@@ -46,26 +45,14 @@ slice-aggregate-start-at-3 c = search needs
 start-at-requires : tie.Need-start-at-requires
 start-at-requires c κs = ((c .before .before .before .before .before .before .check-call .ensures .ready (c .before .before .before .enum-told .given .1)) .runnable, record { within = omega (arith, nodes-are (c .before .before .before .before .before .before .check-call .ensures .ready (c .before .before .before .enum-told .given .1)), size-pos (programOf (now (c .before .before .before .before .before .before .before .before .before .before .before .before .args .table)))); places = omega (arith, (c .before .before .before .before .before .before .check-call .ensures .ready (c .before .before .before .enum-told .given .1)) .few); marks = omega arith; lent = omega arith }, root-clear (c .before .before .before .before .before .before .check-call .ensures .ready (c .before .before .before .enum-told .given .1)) (length (now (c .before .before .before .before .before .before .before .before .before .before .before .before .args .table)) / 2) (omega (arith, nodes-are (c .before .before .before .before .before .before .check-call .ensures .ready (c .before .before .before .enum-told .given .1)))) maxNodes)
 
-enum-known-ran : tie.Need-enum-known-ran
-enum-known-ran c = search needs
+slice-aggregate-hand-over : tie.Need-slice-aggregate-hand-over
+slice-aggregate-hand-over c = search needs
 
-enum-told-3 : tie.Need-enum-told-3
-enum-told-3 c = search needs
+slice-aggregate-hand-over-2 : tie.Need-slice-aggregate-hand-over-2
+slice-aggregate-hand-over-2 c = search needs
 
-returns-2 : tie.Need-returns-2
-returns-2 c = start-starved (c .before .before .before .before .before .before .before .before .before .before .before .check-call .ensures .ready (c .before .before .before .before .before .before .before .before .enum-told .given .1)) (now (c .before .before .before .before .before .before .before .before .before .before .before .before .before .before .before .before .before .args .answers)) (now (c .before .before .before .before .before .before .before .before .before .before .before .before .before .before .before .before .before .args .state)) (now (c .before .before .before .before .before .before .before .before .before .before .before .before .before .before .before .before .before .args .emissions)) refl refl _ (omega (arith, nodes-are (c .before .before .before .before .before .before .before .before .before .before .before .check-call .ensures .ready (c .before .before .before .before .before .before .before .before .enum-told .given .1)))) maxNodes ((c .before .before .before .before .before .before .before .before .before .before .before .check-call .ensures .ready (c .before .before .before .before .before .before .before .before .enum-told .given .1)) .few) (c .before .before .before .before .start-at .ensures) (c .enum-told3 .given .1)
-
-slice-aggregate-copy : tie.Need-slice-aggregate-copy
-slice-aggregate-copy c = search needs
-
-copy-requires : tie.Need-copy-requires
-copy-requires c κs = (omega (arith, nodes-are (c .before .before .before .before .before .before .before .before .before .before .before .before .before .before .check-call .ensures .ready (c .before .before .before .before .before .before .before .before .before .before .before .enum-told .given .1)), (c .before .before .before .before .before .before .before .before .before .before .before .before .before .before .check-call .ensures .ready (c .before .before .before .before .before .before .before .before .before .before .before .enum-told .given .1)) .few, c .before .before .before .before .before .before .held2 .given), omega (arith, nodes-are (c .before .before .before .before .before .before .before .before .before .before .before .before .before .before .check-call .ensures .ready (c .before .before .before .before .before .before .before .before .before .before .before .enum-told .given .1)), (c .before .before .before .before .before .before .before .before .before .before .before .before .before .before .check-call .ensures .ready (c .before .before .before .before .before .before .before .before .before .before .before .enum-told .given .1)) .places))
-
-slice-aggregate-copy-2 : tie.Need-slice-aggregate-copy-2
-slice-aggregate-copy-2 c = search needs
-
-copy-requires-2 : tie.Need-copy-requires-2
-copy-requires-2 c κs = (omega (arith, c .before .before .before .before .before .before .before .before .before .before .marks2 .given), omega (arith, (c .before .before .before .before .before .before .before .before .before .before .before .before .before .before .before .before .before .before .before .check-call .ensures .ready (c .before .before .before .before .before .before .before .before .before .before .before .before .before .before .before .before .enum-told .given .1)) .marks))
+hand-over-requires : tie.Need-hand-over-requires
+hand-over-requires c κs = (omega (arith, nodes-are (c .before .before .before .before .before .before .before .before .before .before .before .before .before .check-call .ensures .ready (c .before .before .before .before .before .before .before .before .before .before .enum-told .given .1)), size-pos (programOf (now (c .before .before .before .before .before .before .before .before .before .before .before .before .before .before .before .before .before .before .before .args .table))), (c .before .before .before .before .before .before .before .before .before .before .before .before .before .check-call .ensures .ready (c .before .before .before .before .before .before .before .before .before .before .enum-told .given .1)) .few, c .before .before .before .before .before .held2 .given), omega (arith, c .before .before .before .before .marks2 .given), omega (arith, nodes-are (c .before .before .before .before .before .before .before .before .before .before .before .before .before .check-call .ensures .ready (c .before .before .before .before .before .before .before .before .before .before .enum-told .given .1)), size-pos (programOf (now (c .before .before .before .before .before .before .before .before .before .before .before .before .before .before .before .before .before .before .before .args .table))), (c .before .before .before .before .before .before .before .before .before .before .before .before .before .check-call .ensures .ready (c .before .before .before .before .before .before .before .before .before .before .enum-told .given .1)) .places), omega (arith, (c .before .before .before .before .before .before .before .before .before .before .before .before .before .check-call .ensures .ready (c .before .before .before .before .before .before .before .before .before .before .enum-told .given .1)) .marks))
 
 same-length : tie.Need-same-length
 same-length c = search needs
@@ -73,8 +60,8 @@ same-length c = search needs
 same-length-2 : tie.Need-same-length-2
 same-length-2 c = search needs
 
-returns-3 : tie.Need-returns-3
-returns-3 c = start-closed (c .before .before .before .before .before .before .before .before .before .before .before .before .before .before .before .before .before .before .before .before .before .before .check-call .ensures .ready (c .before .before .before .before .before .before .before .before .before .before .before .before .before .before .before .before .before .before .before .enum-told .given .1)) (now (c .before .before .before .before .before .before .before .before .before .before .before .before .before .before .before .before .before .before .before .before .before .before .before .before .before .before .before .before .args .answers)) (now (c .before .before .before .before .before .before .before .before .before .before .before .before .before .before .before .before .before .before .before .before .before .before .before .before .before .before .before .before .args .state)) (now (c .before .before .before .before .before .before .before .before .before .before .before .before .before .before .before .before .before .before .before .before .before .before .before .before .before .before .before .before .args .emissions)) refl refl _ (omega (arith, nodes-are (c .before .before .before .before .before .before .before .before .before .before .before .before .before .before .before .before .before .before .before .before .before .before .check-call .ensures .ready (c .before .before .before .before .before .before .before .before .before .before .before .before .before .before .before .before .before .before .before .enum-told .given .1)))) maxNodes ((c .before .before .before .before .before .before .before .before .before .before .before .before .before .before .before .before .before .before .before .before .before .before .check-call .ensures .ready (c .before .before .before .before .before .before .before .before .before .before .before .before .before .before .before .before .before .before .before .enum-told .given .1)) .few) (c .before .before .before .before .before .before .before .before .before .before .before .before .before .before .before .start-at .ensures) (c .before .before .before .before .before .before .before .before .before .before .before .ran .given .1) (c .before .before .before .before .before .before .before .copy .ensures) (c .before .before .copy2 .ensures)
+returns-2 : tie.Need-returns-2
+returns-2 c = reacts-as (start-hands (c .before .before .before .before .before .before .before .before .before .before .before .before .before .before .before .before .before .before .check-call .ensures .ready (c .before .before .before .before .before .before .before .before .before .before .before .before .before .before .before .enum-told .given .1)) (now (c .before .before .before .before .before .before .before .before .before .before .before .before .before .before .before .before .before .before .before .before .before .before .before .before .args .answers)) (now (c .before .before .before .before .before .before .before .before .before .before .before .before .before .before .before .before .before .before .before .before .before .before .before .before .args .state)) (now (c .before .before .before .before .before .before .before .before .before .before .before .before .before .before .before .before .before .before .before .before .before .before .before .before .args .emissions)) refl refl (omega (arith, nodes-are (c .before .before .before .before .before .before .before .before .before .before .before .before .before .before .before .before .before .before .check-call .ensures .ready (c .before .before .before .before .before .before .before .before .before .before .before .before .before .before .before .enum-told .given .1)))) _ (omega (arith, (c .before .before .before .before .before .before .before .before .before .before .before .before .before .before .before .before .before .before .check-call .ensures .ready (c .before .before .before .before .before .before .before .before .before .before .before .before .before .before .before .enum-told .given .1)) .few)) (c .before .before .before .before .before .before .before .before .before .before .before .start-at .ensures)) (c .before .before .before .before .hand-over .ensures)
 
 pub start-spec : {M : Type 1} → statement M
 start-spec =
@@ -91,13 +78,9 @@ start-spec =
     slice-aggregate-start-at-2
     slice-aggregate-start-at-3
     start-at-requires
-    enum-known-ran
-    enum-told-3
-    returns-2
-    slice-aggregate-copy
-    copy-requires
-    slice-aggregate-copy-2
-    copy-requires-2
+    slice-aggregate-hand-over
+    slice-aggregate-hand-over-2
+    hand-over-requires
     same-length
     same-length-2
-    returns-3)
+    returns-2)

@@ -1,0 +1,126 @@
+-- `instant::resume` meets its contract: one law for each return.
+use borrow.Author.Needs.{needs}
+use native.Mathlib.Omega.{arith}
+use mathlib.Core.Path.{refl, subst}
+use Prim.Native.Nat.{_/_}
+use lib.ListN.{length}
+use denote.Ref.{now}
+use Rattle.esterel.proofs.Sizes.{size-pos}
+use Rattle.table.specs.Program.{programOf}
+use Rattle.instant.specs.Admission.{Counted}
+use Rattle.instant.proofs.Closing.{front-same, resume-refused, nodes-are, not-admitted, root-holding, resume-hands, reacts-as}
+use Rattle.instant.proofs.resume.Statement.{statement}
+use Rattle.instant.proofs.resume.Tie as tie
+
+slice-aggregate-check-call : tie.Need-slice-aggregate-check-call
+slice-aggregate-check-call c = search needs
+
+check-call-requires : tie.Need-check-call-requires
+check-call-requires c κs = search needs
+
+enum-told : tie.Need-enum-told
+enum-told c = search needs
+
+enum-told-2 : tie.Need-enum-told-2
+enum-told-2 c = search needs
+
+refused-requires : tie.Need-refused-requires
+refused-requires c κs = search needs
+
+returns : tie.Need-returns
+returns c = resume-refused (now (c .before .before .before .before .before .before .before .before .before .before .args .table)) (now (c .before .before .before .before .before .before .before .before .before .before .args .state)) (now (c .before .before .before .before .before .before .before .before .before .before .args .emissions)) (now (c .before .before .before .before .before .before .before .before .before .before .args .answers)) _ _ (c .before .before .before .before .check-call .ensures .answer) (c .before .enum-told2 .given .1) (c .refused .ensures)
+
+slice-aggregate-count-held : tie.Need-slice-aggregate-count-held
+slice-aggregate-count-held c = search needs
+
+count-held-requires : tie.Need-count-held-requires
+count-held-requires c κs = (omega (arith, nodes-are (c .before .before .before .before .before .check-call .ensures .ready (c .before .before .enum-told .given .1)), size-pos (programOf (now (c .before .before .before .before .before .before .before .before .before .before .before .args .table))), (c .before .before .before .before .before .check-call .ensures .ready (c .before .before .enum-told .given .1)) .places), omega (arith, nodes-are (c .before .before .before .before .before .check-call .ensures .ready (c .before .before .enum-told .given .1)), size-pos (programOf (now (c .before .before .before .before .before .before .before .before .before .before .before .args .table))), (c .before .before .before .before .before .check-call .ensures .ready (c .before .before .enum-told .given .1)) .few), omega (arith, nodes-are (c .before .before .before .before .before .check-call .ensures .ready (c .before .before .enum-told .given .1)), size-pos (programOf (now (c .before .before .before .before .before .before .before .before .before .before .before .args .table))), (c .before .before .before .before .before .check-call .ensures .ready (c .before .before .enum-told .given .1)) .few))
+
+slice-aggregate-is-admitted : tie.Need-slice-aggregate-is-admitted
+slice-aggregate-is-admitted c = search needs
+
+slice-aggregate-is-admitted-2 : tie.Need-slice-aggregate-is-admitted-2
+slice-aggregate-is-admitted-2 c = search needs
+
+is-admitted-requires : tie.Need-is-admitted-requires
+is-admitted-requires c κs = ((c .before .before .before .before .before .before .before .before .before .before .check-call .ensures .ready (c .before .before .before .before .before .before .before .enum-told .given .1)) .runnable .surveyable, omega (arith, (c .before .before .before .before .before .before .before .before .before .before .check-call .ensures .ready (c .before .before .before .before .before .before .before .enum-told .given .1)) .places), (subst (Counted (now (c .before .before .before .before .before .before .before .before .before .before .before .before .before .before .before .before .args .state)) _) (omega (arith, nodes-are (c .before .before .before .before .before .before .before .before .before .before .check-call .ensures .ready (c .before .before .before .before .before .before .before .enum-told .given .1)))) (c .before .before .before .before .count-held .ensures)))
+
+same-length : tie.Need-same-length
+same-length c = search needs
+
+returns-2 : tie.Need-returns-2
+returns-2 c = not-admitted (c .before .before .before .before .before .before .before .before .before .before .before .before .check-call .ensures .ready (c .before .before .before .before .before .before .before .before .before .enum-told .given .1)) (now (c .before .before .before .before .before .before .before .before .before .before .before .before .before .before .before .before .before .before .args .answers)) (now (c .before .before .before .before .before .before .before .before .before .before .before .before .before .before .before .before .before .before .args .state)) (now (c .before .before .before .before .before .before .before .before .before .before .before .before .before .before .before .before .before .before .args .emissions)) refl refl (c .before .is-admitted .ensures) (c .if1 .taken)
+
+slice-aggregate-copy : tie.Need-slice-aggregate-copy
+slice-aggregate-copy c = search needs
+
+copy-requires : tie.Need-copy-requires
+copy-requires c κs = (omega (arith, nodes-are (c .before .before .before .before .before .before .before .before .before .before .before .before .before .before .check-call .ensures .ready (c .before .before .before .before .before .before .before .before .before .before .before .enum-told .given .1)), size-pos (programOf (now (c .before .before .before .before .before .before .before .before .before .before .before .before .before .before .before .before .before .before .before .before .args .table))), (c .before .before .before .before .before .before .before .before .before .before .before .before .before .before .check-call .ensures .ready (c .before .before .before .before .before .before .before .before .before .before .before .enum-told .given .1)) .places), omega (arith, nodes-are (c .before .before .before .before .before .before .before .before .before .before .before .before .before .before .check-call .ensures .ready (c .before .before .before .before .before .before .before .before .before .before .before .enum-told .given .1)), size-pos (programOf (now (c .before .before .before .before .before .before .before .before .before .before .before .before .before .before .before .before .before .before .before .before .args .table))), (c .before .before .before .before .before .before .before .before .before .before .before .before .before .before .check-call .ensures .ready (c .before .before .before .before .before .before .before .before .before .before .before .enum-told .given .1)) .few))
+
+slice-aggregate-resume-at : tie.Need-slice-aggregate-resume-at
+slice-aggregate-resume-at c = search needs
+
+slice-aggregate-resume-at-2 : tie.Need-slice-aggregate-resume-at-2
+slice-aggregate-resume-at-2 c = search needs
+
+sub-resume-at : tie.Need-sub-resume-at
+sub-resume-at c = omega (arith, nodes-are (c .before .before .before .before .before .before .before .before .before .before .before .before .before .before .before .before .before .before .check-call .ensures .ready (c .before .before .before .before .before .before .before .before .before .before .before .before .before .before .before .enum-told .given .1)), size-pos (programOf (now (c .before .before .before .before .before .before .before .before .before .before .before .before .before .before .before .before .before .before .before .before .before .before .before .before .args .table))))
+
+slice-aggregate-resume-at-3 : tie.Need-slice-aggregate-resume-at-3
+slice-aggregate-resume-at-3 c = search needs
+
+slice-aggregate-resume-at-4 : tie.Need-slice-aggregate-resume-at-4
+slice-aggregate-resume-at-4 c = search needs
+
+resume-at-requires : tie.Need-resume-at-requires
+resume-at-requires c κs = ((c .before .before .before .before .before .before .before .before .before .before .before .before .before .before .before .before .before .before .before .before .check-call .ensures .ready (c .before .before .before .before .before .before .before .before .before .before .before .before .before .before .before .before .before .enum-told .given .1)) .runnable, record { within = omega (arith, nodes-are (c .before .before .before .before .before .before .before .before .before .before .before .before .before .before .before .before .before .before .before .before .check-call .ensures .ready (c .before .before .before .before .before .before .before .before .before .before .before .before .before .before .before .before .before .enum-told .given .1)), size-pos (programOf (now (c .before .before .before .before .before .before .before .before .before .before .before .before .before .before .before .before .before .before .before .before .before .before .before .before .before .before .args .table)))); places = omega (arith, (c .before .before .before .before .before .before .before .before .before .before .before .before .before .before .before .before .before .before .before .before .check-call .ensures .ready (c .before .before .before .before .before .before .before .before .before .before .before .before .before .before .before .before .before .enum-told .given .1)) .few, c .before .before .before .before .held2 .given); marks = omega arith; lent = omega arith }, root-holding (c .before .before .before .before .before .before .before .before .before .before .before .before .before .before .before .before .before .before .before .before .check-call .ensures .ready (c .before .before .before .before .before .before .before .before .before .before .before .before .before .before .before .before .before .enum-told .given .1)) (now (c .before .before .before .before .before .before .before .before .before .before .before .before .before .before .before .before .before .before .before .before .before .before .before .before .before .before .args .answers)) (now (c .before .before .before .before .before .before .before .before .before .before .before .before .before .before .before .before .before .before .before .before .before .before .before .before .before .before .args .state)) (now (c .before .before .before .before .before .before .before .before .before .before .before .before .before .before .before .before .before .before .before .before .before .before .before .before .before .before .args .emissions)) refl refl (omega (arith, nodes-are (c .before .before .before .before .before .before .before .before .before .before .before .before .before .before .before .before .before .before .before .before .check-call .ensures .ready (c .before .before .before .before .before .before .before .before .before .before .before .before .before .before .before .before .before .enum-told .given .1)))) _ (omega (arith, (c .before .before .before .before .before .before .before .before .before .before .before .before .before .before .before .before .before .before .before .before .check-call .ensures .ready (c .before .before .before .before .before .before .before .before .before .before .before .before .before .before .before .before .before .enum-told .given .1)) .few, c .before .before .before .before .held2 .given)) (c .before .before .before .before .before .before .before .before .before .is-admitted .ensures) (c .before .before .before .before .before .before .before .before .if1 .left) (front-same (now (c .before .before .before .before .before .before .before .before .before .before .before .before .before .before .before .before .before .before .before .before .before .before .before .before .before .before .args .state)) _ (length (now (c .before .before .before .before .before .before .before .before .before .before .before .before .before .before .before .before .before .before .before .before .before .before .before .before .before .before .args .table)) / 2) (omega (arith, nodes-are (c .before .before .before .before .before .before .before .before .before .before .before .before .before .before .before .before .before .before .before .before .check-call .ensures .ready (c .before .before .before .before .before .before .before .before .before .before .before .before .before .before .before .before .before .enum-told .given .1)), size-pos (programOf (now (c .before .before .before .before .before .before .before .before .before .before .before .before .before .before .before .before .before .before .before .before .before .before .before .before .before .before .args .table))), (c .before .before .before .before .before .before .before .before .before .before .before .before .before .before .before .before .before .before .before .before .check-call .ensures .ready (c .before .before .before .before .before .before .before .before .before .before .before .before .before .before .before .before .before .enum-told .given .1)) .places)) (c .before .before .before .before .before .copy .ensures)) _ (subst (Counted (now (c .before .before .before .before .before .before .before .before .before .before .before .before .before .before .before .before .before .before .before .before .before .before .before .before .before .before .args .state)) _) (omega (arith, nodes-are (c .before .before .before .before .before .before .before .before .before .before .before .before .before .before .before .before .before .before .before .before .check-call .ensures .ready (c .before .before .before .before .before .before .before .before .before .before .before .before .before .before .before .before .before .enum-told .given .1)))) (c .before .before .before .before .before .before .before .before .before .before .before .before .before .before .count-held .ensures)))
+
+slice-aggregate-hand-over : tie.Need-slice-aggregate-hand-over
+slice-aggregate-hand-over c = search needs
+
+slice-aggregate-hand-over-2 : tie.Need-slice-aggregate-hand-over-2
+slice-aggregate-hand-over-2 c = search needs
+
+hand-over-requires : tie.Need-hand-over-requires
+hand-over-requires c κs = (omega (arith, nodes-are (c .before .before .before .before .before .before .before .before .before .before .before .before .before .before .before .before .before .before .before .before .before .before .before .before .before .before .before .check-call .ensures .ready (c .before .before .before .before .before .before .before .before .before .before .before .before .before .before .before .before .before .before .before .before .before .before .before .before .enum-told .given .1)), size-pos (programOf (now (c .before .before .before .before .before .before .before .before .before .before .before .before .before .before .before .before .before .before .before .before .before .before .before .before .before .before .before .before .before .before .before .before .before .args .table))), (c .before .before .before .before .before .before .before .before .before .before .before .before .before .before .before .before .before .before .before .before .before .before .before .before .before .before .before .check-call .ensures .ready (c .before .before .before .before .before .before .before .before .before .before .before .before .before .before .before .before .before .before .before .before .before .before .before .before .enum-told .given .1)) .few, c .before .before .before .before .before .held4 .given), omega (arith, c .before .before .before .before .marks2 .given), omega (arith, nodes-are (c .before .before .before .before .before .before .before .before .before .before .before .before .before .before .before .before .before .before .before .before .before .before .before .before .before .before .before .check-call .ensures .ready (c .before .before .before .before .before .before .before .before .before .before .before .before .before .before .before .before .before .before .before .before .before .before .before .before .enum-told .given .1)), size-pos (programOf (now (c .before .before .before .before .before .before .before .before .before .before .before .before .before .before .before .before .before .before .before .before .before .before .before .before .before .before .before .before .before .before .before .before .before .args .table))), (c .before .before .before .before .before .before .before .before .before .before .before .before .before .before .before .before .before .before .before .before .before .before .before .before .before .before .before .check-call .ensures .ready (c .before .before .before .before .before .before .before .before .before .before .before .before .before .before .before .before .before .before .before .before .before .before .before .before .enum-told .given .1)) .places), omega (arith, (c .before .before .before .before .before .before .before .before .before .before .before .before .before .before .before .before .before .before .before .before .before .before .before .before .before .before .before .check-call .ensures .ready (c .before .before .before .before .before .before .before .before .before .before .before .before .before .before .before .before .before .before .before .before .before .before .before .before .enum-told .given .1)) .marks))
+
+same-length-2 : tie.Need-same-length-2
+same-length-2 c = search needs
+
+same-length-3 : tie.Need-same-length-3
+same-length-3 c = search needs
+
+returns-3 : tie.Need-returns-3
+returns-3 c = reacts-as (resume-hands (c .before .before .before .before .before .before .before .before .before .before .before .before .before .before .before .before .before .before .before .before .before .before .before .before .before .before .before .before .before .before .before .before .check-call .ensures .ready (c .before .before .before .before .before .before .before .before .before .before .before .before .before .before .before .before .before .before .before .before .before .before .before .before .before .before .before .before .before .enum-told .given .1)) (now (c .before .before .before .before .before .before .before .before .before .before .before .before .before .before .before .before .before .before .before .before .before .before .before .before .before .before .before .before .before .before .before .before .before .before .before .before .before .before .args .answers)) (now (c .before .before .before .before .before .before .before .before .before .before .before .before .before .before .before .before .before .before .before .before .before .before .before .before .before .before .before .before .before .before .before .before .before .before .before .before .before .before .args .state)) (now (c .before .before .before .before .before .before .before .before .before .before .before .before .before .before .before .before .before .before .before .before .before .before .before .before .before .before .before .before .before .before .before .before .before .before .before .before .before .before .args .emissions)) refl refl (omega (arith, nodes-are (c .before .before .before .before .before .before .before .before .before .before .before .before .before .before .before .before .before .before .before .before .before .before .before .before .before .before .before .before .before .before .before .before .check-call .ensures .ready (c .before .before .before .before .before .before .before .before .before .before .before .before .before .before .before .before .before .before .before .before .before .before .before .before .before .before .before .before .before .enum-told .given .1)))) _ (omega (arith, (c .before .before .before .before .before .before .before .before .before .before .before .before .before .before .before .before .before .before .before .before .before .before .before .before .before .before .before .before .before .before .before .before .check-call .ensures .ready (c .before .before .before .before .before .before .before .before .before .before .before .before .before .before .before .before .before .before .before .before .before .before .before .before .before .before .before .before .before .enum-told .given .1)) .few, c .before .before .before .before .before .before .before .before .before .before .before .before .before .before .before .before .held2 .given)) (c .before .before .before .before .before .before .before .before .before .before .before .before .before .before .before .before .before .before .before .before .before .is-admitted .ensures) (c .before .before .before .before .before .before .before .before .before .before .before .before .before .before .before .before .before .before .before .before .if1 .left) (front-same (now (c .before .before .before .before .before .before .before .before .before .before .before .before .before .before .before .before .before .before .before .before .before .before .before .before .before .before .before .before .before .before .before .before .before .before .before .before .before .before .args .state)) _ (length (now (c .before .before .before .before .before .before .before .before .before .before .before .before .before .before .before .before .before .before .before .before .before .before .before .before .before .before .before .before .before .before .before .before .before .before .before .before .before .before .args .table)) / 2) (omega (arith, nodes-are (c .before .before .before .before .before .before .before .before .before .before .before .before .before .before .before .before .before .before .before .before .before .before .before .before .before .before .before .before .before .before .before .before .check-call .ensures .ready (c .before .before .before .before .before .before .before .before .before .before .before .before .before .before .before .before .before .before .before .before .before .before .before .before .before .before .before .before .before .enum-told .given .1)), size-pos (programOf (now (c .before .before .before .before .before .before .before .before .before .before .before .before .before .before .before .before .before .before .before .before .before .before .before .before .before .before .before .before .before .before .before .before .before .before .before .before .before .before .args .table))), (c .before .before .before .before .before .before .before .before .before .before .before .before .before .before .before .before .before .before .before .before .before .before .before .before .before .before .before .before .before .before .before .before .check-call .ensures .ready (c .before .before .before .before .before .before .before .before .before .before .before .before .before .before .before .before .before .before .before .before .before .before .before .before .before .before .before .before .before .enum-told .given .1)) .places)) (c .before .before .before .before .before .before .before .before .before .before .before .before .before .before .before .before .before .copy .ensures)) (c .before .before .before .before .before .before .before .before .before .before .before .resume-at .ensures)) (c .before .before .before .before .hand-over .ensures)
+
+pub resume-spec : {M : Type 1} → statement M
+resume-spec =
+    tie.close
+    (tie.spec
+    slice-aggregate-check-call
+    check-call-requires
+    enum-told
+    enum-told-2
+    refused-requires
+    returns
+    slice-aggregate-count-held
+    count-held-requires
+    slice-aggregate-is-admitted
+    slice-aggregate-is-admitted-2
+    is-admitted-requires
+    same-length
+    returns-2
+    slice-aggregate-copy
+    copy-requires
+    slice-aggregate-resume-at
+    slice-aggregate-resume-at-2
+    sub-resume-at
+    slice-aggregate-resume-at-3
+    slice-aggregate-resume-at-4
+    resume-at-requires
+    slice-aggregate-hand-over
+    slice-aggregate-hand-over-2
+    hand-over-requires
+    same-length-2
+    same-length-3
+    returns-3)
