@@ -1,5 +1,6 @@
 -- What a run over a program's last node makes of the call's buffers.
 use mathlib.Core.Path.{_≡_, refl, sym, ap, ap₂, subst, _∙_}
+use Rattle.codes.proofs.Bools.{left, right}
 use mathlib.Core.Bool.{Bool, true, false, not}
 use mathlib.Core.List.{List, _++_}
 use Prim.Native.Nat.{ℕ, zero, suc, _+_, _-_, _/_, _≤_, _<_}
@@ -9,13 +10,15 @@ use lib.Seq.{sets, sets-eq, take-all, take-at, length-take-le}
 use Rattle.esterel.specs.Limits.{signals}
 use Rattle.esterel.specs.Statement.{Stmt, size, nodes}
 use Rattle.esterel.specs.Table.{passed, refused}
-use Rattle.esterel.specs.Instant.{Entry, Result, zeros, start, resume, admitted}
+use Rattle.esterel.specs.Instant.{Entry, Result, zeros, holds, atPauses, oneBranch, start, resume, admitted}
 use Rattle.esterel.specs.Outcome.{emitted, taken, emissionBytes, outcome}
 use Rattle.esterel.specs.Theorems.{Closes, Closed}
+use Rattle.esterel.proofs.Admitted.{fits-of}
+use Rattle.esterel.proofs.Held.{fits-length}
 use Rattle.esterel.proofs.Nodes.{root, sits-own}
 use Rattle.esterel.proofs.Sizes.{size-pos}
 use Rattle.esterel.proofs.Theorems.{demand3}
-use Rattle.instant.proofs.Algebra.{Sized, length-marked}
+use Rattle.instant.proofs.Algebra.{length-marked}
 use Rattle.table.specs.Program.{programOf}
 use Rattle.table.specs.Check.{answerOf as checkOf}
 use Rattle.table.specs.declared.Check.{Check}
@@ -32,7 +35,7 @@ use Rattle.instant.specs.Admission.{Counted}
 use Rattle.instant.specs.Calls.{Call, closing, handed, Reacts, Ready, startCall, resumeCall, verdictFor, refusalOf}
 use Rattle.instant.proofs.Emissions.{marks-are}
 use Rattle.instant.proofs.Entering.{counts-rise}
-use Rattle.instant.proofs.Nodes.{accepted, start-sized, resume-sized}
+use Rattle.instant.proofs.Nodes.{accepted}
 
 -- the last node is the program's, and its first node is 0
 pub last-is : (t : List ℕ) (n : ℕ) → n ≡ size (programOf t) → stmtAt t (n - 1) ≡ programOf t
@@ -52,6 +55,14 @@ same-taken : (p : Stmt) (answers : List ℕ) (c k : ℕ) (u : List Entry) (h : L
 same-taken p answers c k u h le o =
     omega (arith, le, o .counted, ap length (o .lent) ∙ length-append (o .used) (drop k answers), length-drop k answers)
 
+-- the pauses that an instant leaves are as many bytes as the program has nodes
+pub held-length : {p : Stmt} {answers h rest : List ℕ} {k : ℕ} {u : List Entry} → Closed p answers k u h rest → length h ≡ size p
+held-length {p} {h = h} {k = zero} o = ap length (o .ended refl) ∙ length-replicate {A = ℕ} (size p) 0
+held-length {p} {h = h} {k = suc zero} o =
+    let rest = right (holds h) (o .paused refl) in
+    fits-length (fits-of p h (left (atPauses (nodes p) h) (oneBranch p h) rest) (right (atPauses (nodes p) h) rest))
+held-length {k = suc (suc k)} o = absurd (omega (arith, o .code))
+
 -- what a closed run hands over
 pub handed-over : (held marks state emissions : List ℕ) {r : Ran} {state′ emissions′ : List ℕ} {code k entries n : ℕ} → r ≡ ClosedRan code k entries → n ≤ length held → signals ≤ length marks → state′ ≡ take n held ++ drop n state → emissions′ ≡ take signals marks ++ drop signals emissions → Reacts (handed r (take n held) (take signals marks)) state emissions state′ emissions′ (ClosedReaction code k entries)
 handed-over held marks state emissions {n = n} e long wide s m =
@@ -67,14 +78,14 @@ reacts-as {state = state} {emissions = emissions} {state′ = state′} {emissio
 
 -- a run over the last node hands over the rules' outcome
 module _ (t answers held held′ marks′ : List ℕ) {n : ℕ} (long : size (programOf t) ≤ length held) (en : n ≡ size (programOf t)) where
-  pub hands : {x : Result} {r : Ran} → Closes (programOf t) answers x → Sized (size (programOf t)) x → RanIs t answers 0 held held′ (zeros signals) marks′ x r → handed r (take n held′) (take signals marks′) ≡ closing (outcome (programOf t) x)
-  hands sure sized (ran c k u h le es em) =
+  pub hands : {x : Result} {r : Ran} → Closes (programOf t) answers x → RanIs t answers 0 held held′ (zeros signals) marks′ x r → handed r (take n held′) (take signals marks′) ≡ closing (outcome (programOf t) x)
+  hands sure (ran c k u h le es em) =
       let bytes : marks′ ≡ emissionBytes (emitted (nodes (programOf t)) u) 0 signals = em ∙ marks-are (emitted (nodes (programOf t)) u) signals in
       let wide : length marks′ ≡ signals = ap length em ∙ length-marked (emitted (nodes (programOf t)) u) _ ∙ length-replicate {A = ℕ} signals 0 in
-      let left : take n held′ ≡ h = ap (take n) es ∙ sets-front held h n (sized ∙ sym en) (omega arith) in
+      let left : take n held′ ≡ h = ap (take n) es ∙ sets-front held h n (held-length sure ∙ sym en) (omega arith) in
       let right : take signals marks′ ≡ emissionBytes (emitted (nodes (programOf t)) u) 0 signals = take-all signals marks′ (omega arith) ∙ bytes in
       rw (left, right, same-taken (programOf t) answers c k u h le sure)
-  hands sure sized starves = refl
+  hands sure starves = refl
 
 -- a refusal by checks 1 to 11
 module _ (t state emissions answers : List ℕ) {c : Check} {r : Reaction} (number node : ℕ) (e : c ≡ checkOf (verdictFor t (length state) (length emissions))) (z : c ≡ RefusedCheck number node) (y : r ≡ refusalOf c) where
@@ -124,7 +135,6 @@ module _ {t sizes : List ℕ} {a b : ℕ} (o : Ready t a b sizes) where
       start-hands {held′} {marks′} {r} w =
           rw is-passed
           (hands t answers held held′ marks′ room en (demand3 .starts (programOf t) (accepted (o .runnable)) answers)
-          (at-root (λ i q. Sized (size q) (start i q answers)) (start-sized (o .runnable) (n - 1) in-table answers))
           (at-root (λ i q. RanIs t answers i held held′ (zeros signals) marks′ (start i q answers) r) w))
 
       -- an admitted state, whose bytes are those that are resumed
@@ -151,7 +161,6 @@ module _ {t sizes : List ℕ} {a b : ℕ} (o : Ready t a b sizes) where
         resume-hands {held′} {marks′} {r} w =
             rw (is-passed, fits, ← own)
             (hands t answers held held′ marks′ room en (demand3 .resumes (programOf t) (accepted (o .runnable)) (take (size (programOf t)) held) answers (ap (admitted (programOf t)) own ∙ fits))
-            (at-root (λ i q. Sized (size q) (resume i q (take (size q) (drop i held)) answers)) (resume-sized (o .runnable) (n - 1) in-table (bytesAt t held (n - 1)) root-admitted answers))
             (at-root (λ i q. RanIs t answers i held held′ (zeros signals) marks′ (resume i q (take (size q) (drop i held)) answers) r) w))
 
 -- the front of a copy

@@ -77,6 +77,16 @@ pub record Reacts (call : Call) (state emissions state′ emissions′ : List �
   pub stateIs : state′ ≡ stateAfter call state
   pub emissionsAre : emissions′ ≡ emissionsAfter call emissions
 
+-- the contracts of `start` and `resume`: the answer and the buffers' contents are those of the call over the table, the answers and
+-- the buffers' old contents
+abbrev pub Starting : (t answers state emissions state′ emissions′ : List ℕ) → Reaction → Type 0
+Starting t answers state emissions state′ emissions′ r =
+    Reacts (startCall (verdictFor t (length state) (length emissions)) answers) state emissions state′ emissions′ r
+
+abbrev pub Resuming : (t answers state emissions state′ emissions′ : List ℕ) → Reaction → Type 0
+Resuming t answers state emissions state′ emissions′ r =
+    Reacts (resumeCall (verdictFor t (length state) (length emissions)) state answers) state emissions state′ emissions′ r
+
 -- an accepted table, with the sizes of its subtrees, and buffers that suffice
 pub record Ready (t : List ℕ) (state emissions : ℕ) (sizes : List ℕ) : Type 0 where
   pub verdict : verdictFor t state emissions ≡ passed (programOf t)

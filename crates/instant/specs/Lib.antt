@@ -2,3 +2,4 @@ pub mod Admission
 pub mod Steps
 pub mod Run
 pub mod Calls
+pub mod Theorems

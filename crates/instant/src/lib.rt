@@ -15,7 +15,7 @@ ghost use Rattle.analysis.specs.Passes.{Surveyable};
 ghost use Rattle.instant.specs.Steps.{entriesOf, oneMore, TrapLeft, besides, isPresent, isSuspend, doneAfter, leafOf, LeafRan};
 ghost use Rattle.instant.specs.Run.{Runnable, Room, Clear, Started, Holding, Resumed};
 ghost use Rattle.instant.specs.Admission.{countHeld, Counted, isExclusive, isPause, byteFitsKind, nodeFits};
-ghost use Rattle.instant.specs.Calls.{roomFor, CallChecked, refusalOf, verdictFor, handed, startCall, resumeCall, Reacts};
+ghost use Rattle.instant.specs.Calls.{roomFor, CallChecked, refusalOf, handed, Reacts, Starting, Resuming};
 use table::Check;
 use table::Kind;
 
@@ -597,8 +597,8 @@ fn hand_over(
 }
 
 // The first instant of a program. It looks at no byte of the state.
-fn start(table: &[u8], answers: &[u8], state: &mut [u8], emissions: &mut [u8]) -> Reaction
-    ensures { λ r. ⌜ Reacts (startCall (verdictFor (now (table .entry)) (length (now (state .entry))) (length (now (emissions .entry)))) (now (answers .entry))) (now (state .entry)) (now (emissions .entry)) (now (state .exit)) (now (emissions .exit)) r ⌝ }
+pub fn start(table: &[u8], answers: &[u8], state: &mut [u8], emissions: &mut [u8]) -> Reaction
+    ensures { λ r. ⌜ Starting (now (table .entry)) (now (answers .entry)) (now (state .entry)) (now (emissions .entry)) (now (state .exit)) (now (emissions .exit)) r ⌝ }
 {
     let mut sizes = [0u16; esterel::MAX_NODES];
     let check = check_call(table, state.len(), emissions.len(), &mut sizes);
@@ -613,8 +613,8 @@ fn start(table: &[u8], answers: &[u8], state: &mut [u8], emissions: &mut [u8]) -
 }
 
 // A later instant of a program, from the pauses that the state holds.
-fn resume(table: &[u8], answers: &[u8], state: &mut [u8], emissions: &mut [u8]) -> Reaction
-    ensures { λ r. ⌜ Reacts (resumeCall (verdictFor (now (table .entry)) (length (now (state .entry))) (length (now (emissions .entry)))) (now (state .entry)) (now (answers .entry))) (now (state .entry)) (now (emissions .entry)) (now (state .exit)) (now (emissions .exit)) r ⌝ }
+pub fn resume(table: &[u8], answers: &[u8], state: &mut [u8], emissions: &mut [u8]) -> Reaction
+    ensures { λ r. ⌜ Resuming (now (table .entry)) (now (answers .entry)) (now (state .entry)) (now (emissions .entry)) (now (state .exit)) (now (emissions .exit)) r ⌝ }
 {
     let mut sizes = [0u16; esterel::MAX_NODES];
     let check = check_call(table, state.len(), emissions.len(), &mut sizes);
