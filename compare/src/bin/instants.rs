@@ -20,12 +20,13 @@
 //! Before the call byte i of the emission buffer is (f + i) modulo 256; to
 //! write it out would double the file.
 //!
-//! EXPECTED has one line a case, with the whole buffers after the call in
-//! hexadecimal, or `-` for a buffer of length 0:
+//! EXPECTED has one line a case: the answer, the whole state buffer after the
+//! call in hexadecimal (`-` if it has no byte), and the whole emission buffer:
+//! `=` if it is as it was, else each byte that is not 0 after its place.
 //!
 //! ```text
-//! closed CODE TAKEN ENTRIES STATEHEX EMISSIONSHEX
-//! refused NUMBER NODE STATEHEX EMISSIONSHEX
+//! closed CODE TAKEN ENTRIES STATEHEX PLACE:BYTE PLACE:BYTE ..
+//! refused NUMBER NODE STATEHEX =
 //! ```
 //!
 //! First come the cases of the vector file, with the outcomes of that file,
@@ -70,7 +71,7 @@ impl Files {
     fn add(&mut self, case: &Case, outcome: &Outcome) {
         self.cases += 1;
         self.input.extend(case.encode());
-        self.expected.push_str(&outcome.line());
+        self.expected.push_str(&outcome.line(case));
     }
 
     fn run(&mut self, case: Case) {
@@ -145,8 +146,8 @@ fn add_vector(
             "vector line {} disagrees\ntable {}\nvector: {}ours:   {}",
             line + 1,
             hex::encode(&vector.table),
-            expected.line(),
-            ours.line()
+            expected.line(case),
+            ours.line(case)
         ));
     }
     files.add(case, &expected);

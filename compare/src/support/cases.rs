@@ -95,26 +95,31 @@ impl Case {
 
 impl Outcome {
     /// The outcome as a line of the expected output.
-    pub fn line(&self) -> String {
-        let state = buffer(&self.state);
-        let emissions = buffer(&self.emissions);
-        match self.answer {
+    pub fn line(&self, case: &Case) -> String {
+        let answer = match self.answer {
             Ok(Closed {
                 code,
                 taken,
                 entries,
-            }) => format!("closed {code} {taken} {entries} {state} {emissions}\n"),
-            Err(Refusal { number, node }) => {
-                format!("refused {number} {node} {state} {emissions}\n")
-            }
-        }
+            }) => format!("closed {code} {taken} {entries}"),
+            Err(Refusal { number, node }) => format!("refused {number} {node}"),
+        };
+        let state = if self.state.is_empty() {
+            "-".to_string()
+        } else {
+            hex::encode(&self.state)
+        };
+        let emissions = if self.emissions == case.emissions() {
+            " =".to_string()
+        } else {
+            others(&self.emissions)
+        };
+        format!("{answer} {state}{emissions}\n")
     }
 }
 
-fn buffer(bytes: &[u8]) -> String {
-    if bytes.is_empty() {
-        "-".to_string()
-    } else {
-        hex::encode(bytes)
-    }
+/// The bytes that are not 0, each with its place.
+fn others(bytes: &[u8]) -> String {
+    let held = bytes.iter().enumerate().filter(|(_, byte)| **byte != 0);
+    held.map(|(at, byte)| format!(" {at}:{byte:02x}")).collect()
 }
