@@ -1,0 +1,78 @@
+// A small lock sequencer, run for four instants. What each instant answers and leaves is proved from the contracts of
+// `start` and `resume`, and tried when the program runs.
+//
+//   trap
+//     suspend 5
+//       loop
+//         pause; emit 7; present 3 then exit else nothing
+ghost use mathlib.Core.Path.{_≡_};
+ghost use mathlib.Core.Bool.{true};
+ghost use Prim.Native.Nat.{_<_};
+ghost use lib.ListN.{length, getD};
+ghost use Rattle.instant.specs.declared.Reaction.the-variants.{Closed};
+use instant::Reaction;
+
+fn is_closed(reaction: Reaction, code: usize, taken: usize, entries: usize) -> bool
+    ensures { λ r. ⌜ (reaction ≡ Closed code taken entries → r ≡ true) ⌝ }
+{
+    match reaction {
+        Reaction::Closed {
+            code: c,
+            taken: t,
+            entries: e,
+        } => (c == code) & (t == taken) & (e == entries),
+        Reaction::Refused { number: _, node: _ } => false,
+    }
+}
+
+// The pauses held are these, and the byte of signal 7 is this.
+fn expect_left(state: &[u8], held: &[u8], emissions: &[u8], mark: u8)
+    requires { ⌜ (now state ≡ now held) × (7 < length (now emissions)) × (getD (now emissions) 7 0 ≡ mark) ⌝ }
+{
+    check::expect(check::same(state, held));
+    check::expect(emissions[7] == mark);
+}
+
+fn main() {
+    let table = [
+        2u8,
+        0,
+        3,
+        7,
+        9,
+        0,
+        4,
+        0,
+        1,
+        0,
+        6,
+        3,
+        9,
+        0,
+        8,
+        0,
+        7,
+        5,
+        11,
+        0,
+    ];
+    let at_pause = [1u8, 0, 0, 0, 0, 0, 0, 0, 0, 0];
+    let mut state = [9u8; 10];
+    let mut emissions = [9u8; 256];
+    // The first instant reaches the pause.
+    let first = instant::start(&table, &[], &mut state, &mut emissions);
+    check::expect(is_closed(first, 1, 0, 6));
+    expect_left(&state, &at_pause, &emissions, 0);
+    // 5 is present: the program is suspended, and its pause stays.
+    let second = instant::resume(&table, &[1], &mut state, &mut emissions);
+    check::expect(is_closed(second, 1, 1, 2));
+    expect_left(&state, &at_pause, &emissions, 0);
+    // 3 is absent: the body emits 7, ends, and is begun again up to its pause.
+    let third = instant::resume(&table, &[0, 0], &mut state, &mut emissions);
+    check::expect(is_closed(third, 1, 2, 12));
+    expect_left(&state, &at_pause, &emissions, 1);
+    // 3 is present: the exit ends the loop, and the trap catches it.
+    let fourth = instant::resume(&table, &[0, 1], &mut state, &mut emissions);
+    check::expect(is_closed(fourth, 0, 2, 9));
+    expect_left(&state, &[0; 10], &emissions, 1);
+}
