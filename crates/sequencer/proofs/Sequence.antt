@@ -18,27 +18,28 @@ use Rattle.instant.specs.declared.Reaction.{Reaction}
 use Rattle.instant.specs.declared.Reaction.the-variants.{Closed}
 
 abbrev pub table : List ℕ
-table = 2 ∷ 0 ∷ 3 ∷ 7 ∷ 9 ∷ 0 ∷ 4 ∷ 0 ∷ 1 ∷ 0 ∷ 6 ∷ 3 ∷ 9 ∷ 0 ∷ 8 ∷ 0 ∷ 7 ∷ 5 ∷ 11 ∷ 0 ∷ []
+table = 2 ∷ 0 ∷ 3 ∷ 7 ∷ 9 ∷ 0 ∷ 4 ∷ 0 ∷ 1 ∷ 0 ∷ 6 ∷ 3 ∷ 9 ∷ 0 ∷ 8 ∷ 0 ∷ 7 ∷ 5 ∷ 2 ∷ 0 ∷ 3 ∷ 9 ∷ 9 ∷ 0 ∷ 8 ∷ 0 ∷ 10 ∷ 0 ∷ 11 ∷ 0 ∷ []
 
-abbrev pub atPause : List ℕ
-atPause = 1 ∷ zeros 9
+-- both pauses are held
+abbrev pub atPauses : List ℕ
+atPauses = 1 ∷ (zeros 8 ++ (1 ∷ zeros 5))
 
 abbrev pub marks : List ℕ → List ℕ
 marks signals = emissionBytes signals 0 256
 
-pub first : startCall (verdictFor table 10 256) [] ≡ closes 1 0 6 atPause (marks [])
+pub first : startCall (verdictFor table 15 256) [] ≡ closes 1 0 10 atPauses (marks [])
 unfolding startCall checked
 first = refl
 
-pub suspended : resumeCall (verdictFor table 10 256) atPause (1 ∷ []) ≡ closes 1 1 2 atPause (marks [])
+pub suspended : resumeCall (verdictFor table 15 256) atPauses (1 ∷ []) ≡ closes 1 1 9 atPauses (marks (9 ∷ []))
 unfolding resumeCall checked
 suspended = refl
 
-pub again : resumeCall (verdictFor table 10 256) atPause (0 ∷ 0 ∷ []) ≡ closes 1 2 12 atPause (marks (7 ∷ []))
+pub again : resumeCall (verdictFor table 15 256) atPauses (0 ∷ 0 ∷ []) ≡ closes 1 2 19 atPauses (marks (7 ∷ 9 ∷ []))
 unfolding resumeCall checked
 again = refl
 
-pub caught : resumeCall (verdictFor table 10 256) atPause (0 ∷ 1 ∷ []) ≡ closes 0 2 9 (zeros 10) (marks (7 ∷ []))
+pub caught : resumeCall (verdictFor table 15 256) atPauses (0 ∷ 1 ∷ []) ≡ closes 0 2 16 (zeros 15) (marks (7 ∷ 9 ∷ []))
 unfolding resumeCall checked
 caught = refl
 
@@ -61,19 +62,19 @@ left {state = state} {emissions = emissions} c k e held signals long wide is o =
     let w = rw is at o in
     record { answer = w .answer; stateIs = w .stateIs ∙ whole held state long; emissionsAre = w .emissionsAre ∙ whole (marks signals) emissions wide }
 
-pub start-left : (state emissions : List ℕ) {state′ emissions′ : List ℕ} {r : Reaction} → length state ≡ 10 → length emissions ≡ 256 → Starting table [] state emissions state′ emissions′ r → Left 1 0 6 atPause [] state′ emissions′ r
-start-left state emissions long wide o = left 1 0 6 atPause [] long wide (rw (long, wide) first) o
+pub start-left : (state emissions : List ℕ) {state′ emissions′ : List ℕ} {r : Reaction} → length state ≡ 15 → length emissions ≡ 256 → Starting table [] state emissions state′ emissions′ r → Left 1 0 10 atPauses [] state′ emissions′ r
+start-left state emissions long wide o = left 1 0 10 atPauses [] long wide (rw (long, wide) first) o
 
 -- a resumption at the pause
-pub resume-left : {c k e : ℕ} {signals state emissions state′ emissions′ : List ℕ} {q r : Reaction} (answers : List ℕ) (c′ k′ e′ : ℕ) (held signals′ : List ℕ) → Left c k e atPause signals state emissions q → length held ≡ 10 → resumeCall (verdictFor table 10 256) atPause answers ≡ closes c′ k′ e′ held (marks signals′) → Resuming table answers state emissions state′ emissions′ r → Left c′ k′ e′ held signals′ state′ emissions′ r
+pub resume-left : {c k e : ℕ} {signals state emissions state′ emissions′ : List ℕ} {q r : Reaction} (answers : List ℕ) (c′ k′ e′ : ℕ) (held signals′ : List ℕ) → Left c k e atPauses signals state emissions q → length held ≡ 15 → resumeCall (verdictFor table 15 256) atPauses answers ≡ closes c′ k′ e′ held (marks signals′) → Resuming table answers state emissions state′ emissions′ r → Left c′ k′ e′ held signals′ state′ emissions′ r
 resume-left {state = state} {emissions = emissions} answers c′ k′ e′ held signals′ w long is o =
     let wide : length emissions ≡ 256 = ap length (w .emissionsAre) in
     left c′ k′ e′ held signals′ (ap length (w .stateIs) ∙ sym long) wide (ap₂ (λ m s. resumeCall (verdictFor table (length s) m) s answers) wide (w .stateIs) ∙ is) o
 
--- the byte of signal 7
-pub mark-at : {c k e : ℕ} {held signals state emissions : List ℕ} {r : Reaction} → Left c k e held signals state emissions r → (7 < length emissions) × (getD emissions 7 0 ≡ bit (member 7 signals))
-mark-at {signals = signals} w =
-    rw (w .emissionsAre) (let wide : length (marks signals) ≡ 256 = refl in omega arith, refl)
+-- the bytes of signals 7 and 9
+pub marks-at : {c k e : ℕ} {held signals state emissions : List ℕ} {r : Reaction} → Left c k e held signals state emissions r → (9 < length emissions) × (getD emissions 7 0 ≡ bit (member 7 signals)) × (getD emissions 9 0 ≡ bit (member 9 signals))
+marks-at {signals = signals} w =
+    rw (w .emissionsAre) (let wide : length (marks signals) ≡ 256 = refl in omega arith, refl, refl)
 
 -- the same answer has the same figures
 pub same-figures : {c k e code taken entries : ℕ} {r : Reaction} → r ≡ Closed c k e → r ≡ Closed code taken entries → ((eqb c code && eqb k taken) && eqb e entries) ≡ true

@@ -5,6 +5,9 @@
 //     suspend 5
 //       loop
 //         pause; emit 7; present 3 then exit else nothing
+//   ||
+//     loop
+//       pause; emit 9
 ghost use mathlib.Core.Path.{_≡_};
 ghost use mathlib.Core.Bool.{true};
 ghost use Prim.Native.Nat.{_<_};
@@ -25,12 +28,13 @@ fn is_closed(reaction: Reaction, code: usize, taken: usize, entries: usize) -> b
     }
 }
 
-// The pauses held are these, and the byte of signal 7 is this.
-fn expect_left(state: &[u8], held: &[u8], emissions: &[u8], mark: u8)
-    requires { ⌜ (now state ≡ now held) × (7 < length (now emissions)) × (getD (now emissions) 7 0 ≡ mark) ⌝ }
+// The pauses held are these, and the bytes of signals 7 and 9.
+fn expect_left(state: &[u8], held: &[u8], emissions: &[u8], seven: u8, nine: u8)
+    requires { ⌜ (now state ≡ now held) × (9 < length (now emissions)) × (getD (now emissions) 7 0 ≡ seven) × (getD (now emissions) 9 0 ≡ nine) ⌝ }
 {
     check::expect(check::same(state, held));
-    check::expect(emissions[7] == mark);
+    check::expect(emissions[7] == seven);
+    check::expect(emissions[9] == nine);
 }
 
 fn main() {
@@ -53,26 +57,36 @@ fn main() {
         0,
         7,
         5,
+        2,
+        0,
+        3,
+        9,
+        9,
+        0,
+        8,
+        0,
+        10,
+        0,
         11,
         0,
     ];
-    let at_pause = [1u8, 0, 0, 0, 0, 0, 0, 0, 0, 0];
-    let mut state = [9u8; 10];
+    let both = [1u8, 0, 0, 0, 0, 0, 0, 0, 0, 1, 0, 0, 0, 0, 0];
+    let mut state = [9u8; 15];
     let mut emissions = [9u8; 256];
-    // The first instant reaches the pause.
+    // The first instant reaches both pauses; a suspend asks nothing when it is started.
     let first = instant::start(&table, &[], &mut state, &mut emissions);
-    check::expect(is_closed(first, 1, 0, 6));
-    expect_left(&state, &at_pause, &emissions, 0);
-    // 5 is present: the program is suspended, and its pause stays.
+    check::expect(is_closed(first, 1, 0, 10));
+    expect_left(&state, &both, &emissions, 0, 0);
+    // 5 is present: the first branch is suspended and its pause stays, while the second goes on.
     let second = instant::resume(&table, &[1], &mut state, &mut emissions);
-    check::expect(is_closed(second, 1, 1, 2));
-    expect_left(&state, &at_pause, &emissions, 0);
+    check::expect(is_closed(second, 1, 1, 9));
+    expect_left(&state, &both, &emissions, 0, 1);
     // 3 is absent: the body emits 7, ends, and is begun again up to its pause.
     let third = instant::resume(&table, &[0, 0], &mut state, &mut emissions);
-    check::expect(is_closed(third, 1, 2, 12));
-    expect_left(&state, &at_pause, &emissions, 1);
-    // 3 is present: the exit ends the loop, and the trap catches it.
+    check::expect(is_closed(third, 1, 2, 19));
+    expect_left(&state, &both, &emissions, 1, 1);
+    // 3 is present: the first branch exits, the second still emits 9, and the trap that catches drops its new pause.
     let fourth = instant::resume(&table, &[0, 1], &mut state, &mut emissions);
-    check::expect(is_closed(fourth, 0, 2, 9));
-    expect_left(&state, &[0; 10], &emissions, 1);
+    check::expect(is_closed(fourth, 0, 2, 16));
+    expect_left(&state, &[0; 15], &emissions, 1, 1);
 }
