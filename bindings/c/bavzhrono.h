@@ -1,0 +1,164 @@
+/*
+ * Bavzhrono: the checker and the runner of single instants for tables of pure Esterel, for C (C99)
+ * and C++. Link with libabi.a (x86-64), which needs nothing but the C library.
+ *
+ * The table
+ *
+ * A table has two bytes a node, kind then field, children before parents. Nodes are numbered from
+ * 0, and the last is the whole program. Below, n is the number of nodes, half the table's length.
+ *
+ *     kind  statement  children          field
+ *        1  nothing    0                 0
+ *        2  pause      0                 0
+ *        3  emit       0                 signal, 0 to 255
+ *        4  exit       0                 level: 0 is the innermost trap around it, 1 the next out
+ *        5  signal     1                 signal
+ *        6  present    2: then, else     signal
+ *        7  suspend    1                 signal
+ *        8  loop       1                 0
+ *        9  sequence   2: first, second  0
+ *       10  parallel   2: left, right    0
+ *       11  trap       1                 0
+ *
+ * Codes and sets
+ *
+ * Completion code 0 is ended, 1 is paused, 2 + level is an exit. A set of codes is a 64-bit number
+ * with bit k for code k.
+ *
+ * What comes back
+ *
+ * Each function returns 0, or the number of the first check that failed. The first three entries
+ * of `answer` are always written: with the function's values after 0, with (node, 0, 0) after a
+ * refusal, where node is the lowest one that the check fits, and 0 for the checks that name none.
+ * A refusal changes no other buffer. Only an `answer` of fewer than 3 entries is not written to:
+ * it is refused with 3 before anything else, and nothing at all is changed.
+ *
+ *     number  refused if                                                        names a node
+ *          1  the table has more than 2,048 bytes (1,024 nodes)                 no
+ *          2  the table is empty or of odd length                               no
+ *          3  a lent buffer is too short                                        no
+ *          4  a kind byte is unknown                                            yes
+ *          5  a field that must be 0 is not                                     yes
+ *          6  fewer unused statements stand before a node than it has children  yes
+ *          7  more than one statement is left at the end                        no
+ *          8  a node's depth is above 256                                       yes
+ *          9  more than 32 traps stand around each other                        yes, a trap
+ *         10  an exit's level is not below the number of traps around it        yes, an exit
+ *         11  a loop's body can end in the instant in which it is started       yes, the loop
+ *         12  on resuming, the state is not admitted                            no
+ *         13  in an instant, an answer is needed after all lent ones are taken  no
+ *
+ * 4 to 6 are decided node by node: the first faulty node counts, with its lowest number. Each of
+ * 8 to 11 covers the whole table before the next begins. 12 is for bavzhrono_resume, 13 for it
+ * and bavzhrono_start.
+ *
+ * Buffers
+ *
+ * Lengths count elements and not bytes. The table and the answers are only read. Another buffer
+ * may be longer than needed: what lies past the needed length is neither looked at nor changed.
+ * A pointer to uint64_t is aligned to 8 bytes; one to bytes needs no alignment.
+ * A buffer of length 0 is not touched, and its pointer may be anything, NULL too. Any other
+ * pointer must be to as many elements as its length says.
+ * No buffer that is written may overlap another of the same call.
+ * No pointer is kept after the call.
+ *
+ * Threads and stack
+ *
+ * The functions keep no state of their own and allocate nothing: any number of threads may call
+ * them at once, each with buffers of its own to be written.
+ * stack: up to about @STACK@ KiB
+ */
+#ifndef BAVZHRONO_H
+#define BAVZHRONO_H
+
+#include <stddef.h>
+#include <stdint.h>
+
+/* The most nodes of a table, of two bytes each: enough for every buffer of n entries. */
+#define BAVZHRONO_MAX_NODES 1024
+/* The number of signals, and the length of the emissions. */
+#define BAVZHRONO_SIGNALS 256
+/* A text of so many bytes holds the listing of any table. */
+#define BAVZHRONO_MAX_TEXT 67584
+/* The entries of an answer. */
+#define BAVZHRONO_ANSWER 3
+
+#ifdef __cplusplus
+extern "C" {
+#endif
+
+/*
+ * The sets and the mark of each node; checks 1 to 11.
+ *
+ * In:  the table.
+ * Out: for each node i, entry i of each of the four buffers (n entries needed in each):
+ *      start_sets  K: the codes that the statement can have in the instant that starts it
+ *      any_sets    A: by the same rules, but with 0 too for a pause, which ends when resumed
+ *      contexts    S: the codes after which it may be started again in the same instant
+ *      marks       1 if the node's A meets its S, which says that the statement may be
+ *                  schizophrenic (end or exit and be started again in one instant), else 0
+ *      answer      (n, loop depth d, 0). d is the greatest number of loops around any node, the
+ *                  node itself included. An instant of the program has at most n(1 + d) entries
+ *                  and takes at most n(1 + d) answers.
+ */
+uint32_t bavzhrono_analyse(const uint8_t *table, size_t table_length,
+                           uint64_t *start_sets, size_t start_sets_length,
+                           uint64_t *any_sets, size_t any_sets_length,
+                           uint64_t *contexts, size_t contexts_length,
+                           uint8_t *marks, size_t marks_length,
+                           uint64_t *answer, size_t answer_length);
+
+/*
+ * One instant, in which the program is started; checks 1 to 11 and 13.
+ *
+ * In:  the table, and the answers to the presence tests in the order met: 0 absent, any other
+ *      byte present. A started present takes one. Answers left over are not looked at.
+ * Out: state      n bytes needed: 1 at each held pause and 0 elsewhere, all 0 after code 0. The
+ *                 old bytes are not looked at.
+ *      emissions  256 bytes needed: byte s is 1 if an emit of signal s was entered, else 0.
+ *      answer     (code, answers taken, entries). The code is 0 if the program ended and 1 if it
+ *                 paused. Entries is the number of times that a statement was started or resumed.
+ */
+uint32_t bavzhrono_start(const uint8_t *table, size_t table_length,
+                         const uint8_t *answers, size_t answers_length,
+                         uint8_t *state, size_t state_length,
+                         uint8_t *emissions, size_t emissions_length,
+                         uint64_t *answer, size_t answer_length);
+
+/*
+ * One instant, in which the program is resumed from the pauses that the state holds; checks 1 to
+ * 13.
+ *
+ * In:  as for bavzhrono_start, and the state. A started present and a resumed suspend take one
+ *      answer each. A state is admitted if at least one byte is 1, each 1 stands at a pause, none
+ *      is above 1, and no sequence or present holds pauses in both children.
+ * Out: as for bavzhrono_start. The state is that after the instant.
+ */
+uint32_t bavzhrono_resume(const uint8_t *table, size_t table_length,
+                          const uint8_t *answers, size_t answers_length,
+                          uint8_t *state, size_t state_length,
+                          uint8_t *emissions, size_t emissions_length,
+                          uint64_t *answer, size_t answer_length);
+
+/*
+ * The listing of a table, as text.
+ *
+ * In:  the table.
+ * Out: text    for a table that passes checks 1, 2 and 4 to 11, a line `ok n d n(1 + d)`, then
+ *              one line a node: number, kind, field, K, A, S (hexadecimal), mark. For another
+ *              table the line `refused NUMBER NODE`. Each line ends in a line feed; no zero byte
+ *              follows. BAVZHRONO_MAX_TEXT bytes suffice for any table.
+ *      answer  (length of the text, 0, 0).
+ *
+ * Returns 0 for both texts, and 3 if the text does not fit in the buffer (or, as all functions
+ * do, if the answer is too short).
+ */
+uint32_t bavzhrono_render(const uint8_t *table, size_t table_length,
+                          uint8_t *text, size_t text_length,
+                          uint64_t *answer, size_t answer_length);
+
+#ifdef __cplusplus
+}
+#endif
+
+#endif

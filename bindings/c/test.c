@@ -1,0 +1,434 @@
+/*
+ * Tests of bavzhrono.h, as C and as C++. One line a test; the exit status says whether all passed.
+ *
+ * The expected values are those that document 01 prints (Table W and its edges) or that its rules
+ * give by hand; the sets of W3 are those of the implementation in compare/.
+ */
+#include "bavzhrono.h"
+#include "bavzhrono.h" /* twice, for the include guard */
+
+#include <stdio.h>
+#include <string.h>
+
+/* What each buffer is filled with before a call, and how many entries lie past the largest need. */
+#define FILL 0xA5
+#define SPARE 8
+#define NODE_ROOM (BAVZHRONO_MAX_NODES + SPARE)
+
+/* All buffers that a call can write to. */
+typedef struct {
+    uint64_t start_sets[NODE_ROOM];
+    uint64_t any_sets[NODE_ROOM];
+    uint64_t contexts[NODE_ROOM];
+    uint8_t marks[NODE_ROOM];
+    uint8_t state[NODE_ROOM];
+    uint8_t emissions[BAVZHRONO_SIGNALS + SPARE];
+    uint8_t text[BAVZHRONO_MAX_TEXT + SPARE];
+    uint64_t answer[BAVZHRONO_ANSWER + SPARE];
+} buffers;
+
+/* The lengths that are lent. */
+typedef struct {
+    size_t start_sets, any_sets, contexts, marks, state, emissions, text, answer;
+} lengths;
+
+typedef struct {
+    uint64_t start_set, any_set, context;
+    uint8_t mark;
+} node_sets;
+
+typedef uint32_t instant_call(const uint8_t *, size_t, const uint8_t *, size_t, uint8_t *, size_t,
+                              uint8_t *, size_t, uint64_t *, size_t);
+
+static const uint8_t w1[] = {2, 0, 3, 7, 9, 0, 8, 0};
+static const uint8_t w2[] = {1, 0, 8, 0};
+static const uint8_t w3[] = {4, 1, 4, 0, 10, 0, 11, 0, 4, 1, 9, 0, 11, 0, 2, 0, 9, 0, 11, 0, 8, 0};
+static const uint8_t w4[] = {4, 0, 11, 0, 8, 0};
+static const uint8_t w5[] = {4, 0};
+static const uint8_t w6[] = {1, 0, 2, 0, 6, 5, 8, 0};
+static const uint8_t w7[] = {1, 0, 2, 0, 10, 0};
+static const uint8_t w8[] = {2, 0, 1, 0, 6, 5, 1, 0, 2, 0, 6, 5, 9, 0, 8, 0};
+static const char w1_listing[] =
+    "ok 4 1 8\n0 2 0 2 3 1 1\n1 3 7 1 1 0 0\n2 9 0 2 3 1 1\n3 8 0 2 2 0 0\n";
+
+/* A call writes to `actual`, a test says in `expected` what it must write. */
+static buffers actual, expected;
+static int failures = 0;
+
+static void prepare(void)
+{
+    memset(&actual, FILL, sizeof actual);
+    memset(&expected, FILL, sizeof expected);
+}
+
+static void expect_answer(uint64_t first, uint64_t second, uint64_t third)
+{
+    expected.answer[0] = first;
+    expected.answer[1] = second;
+    expected.answer[2] = third;
+}
+
+/* Compares the number returned, and every byte of every buffer. */
+static void check(const char *call, const char *name, uint32_t number, uint32_t expected_number)
+{
+    int passed = number == expected_number && memcmp(&actual, &expected, sizeof actual) == 0;
+    printf("%s: %s: %s\n", passed ? "ok" : "FAIL", call, name);
+    failures += !passed;
+}
+
+/* No more than the call needs. */
+static lengths needed(size_t nodes, size_t text)
+{
+    lengths lent = {nodes, nodes, nodes, nodes, nodes, BAVZHRONO_SIGNALS, text, BAVZHRONO_ANSWER};
+    return lent;
+}
+
+/* All there is. */
+static lengths spare(void)
+{
+    lengths lent = needed(NODE_ROOM, BAVZHRONO_MAX_TEXT + SPARE);
+    lent.emissions += SPARE;
+    lent.answer += SPARE;
+    return lent;
+}
+
+static uint32_t analyse(const uint8_t *table, size_t length, lengths lent)
+{
+    return bavzhrono_analyse(table, length, actual.start_sets, lent.start_sets, actual.any_sets,
+                             lent.any_sets, actual.contexts, lent.contexts, actual.marks,
+                             lent.marks, actual.answer, lent.answer);
+}
+
+static uint32_t instant(instant_call *call, const uint8_t *table, size_t length,
+                        const uint8_t *answers, size_t answers_length, lengths lent)
+{
+    return call(table, length, answers, answers_length, actual.state, lent.state,
+                actual.emissions, lent.emissions, actual.answer, lent.answer);
+}
+
+static uint32_t render(const uint8_t *table, size_t length, lengths lent)
+{
+    return bavzhrono_render(table, length, actual.text, lent.text, actual.answer, lent.answer);
+}
+
+/* Accepted tables: the sets of each node. */
+
+static void test_sets(const char *name, const uint8_t *table, const node_sets *sets, size_t nodes,
+                      uint64_t loop_depth)
+{
+    lengths lent[2] = {needed(nodes, 0), spare()};
+    for (int more = 0; more < 2; more++) {
+        prepare();
+        for (size_t node = 0; node < nodes; node++) {
+            expected.start_sets[node] = sets[node].start_set;
+            expected.any_sets[node] = sets[node].any_set;
+            expected.contexts[node] = sets[node].context;
+            expected.marks[node] = sets[node].mark;
+        }
+        expect_answer(nodes, loop_depth, 0);
+        check(more ? "analyse, more lent" : "analyse", name,
+              analyse(table, 2 * nodes, lent[more]), 0);
+    }
+}
+
+static void test_sets_of_table_w(void)
+{
+    static const node_sets w1_sets[] = {{2, 3, 1, 1}, {1, 1, 0, 0}, {2, 3, 1, 1}, {2, 2, 0, 0}};
+    static const node_sets w3_sets[] = {
+        {8, 8, 0x1d, 1}, {4, 4, 0x1d, 1}, {8, 8, 0x15, 0}, {4, 4, 9, 0}, {8, 8, 0, 0}, {4, 4, 8, 0},
+        {1, 1, 4, 0},    {2, 3, 5, 1},    {2, 3, 5, 1},    {2, 3, 1, 1}, {2, 2, 0, 0}};
+    static const node_sets w7_sets[] = {{1, 1, 0, 0}, {2, 3, 0, 0}, {2, 3, 0, 0}};
+    test_sets("W1", w1, w1_sets, sizeof w1 / 2, 1);
+    test_sets("W3, last K is {1}", w3, w3_sets, sizeof w3 / 2, 1);
+    test_sets("W7, last K is {1}", w7, w7_sets, sizeof w7 / 2, 0);
+}
+
+/* Writers of tables hand back the length of what they wrote. */
+static size_t put(uint8_t *table, uint8_t kind, uint8_t field)
+{
+    table[0] = kind;
+    table[1] = field;
+    return 2;
+}
+
+/* A leaf with a statement of one child around it so many times. */
+static size_t around(uint8_t *table, uint8_t leaf, uint8_t field, uint8_t kind, size_t times)
+{
+    size_t length = put(table, leaf, field);
+    while (times-- > 0)
+        length += put(table + length, kind, 0);
+    return length;
+}
+
+/* A sequence of sequences and so on, down to 2 to the power of `height` pauses. */
+static size_t sequences(uint8_t *table, size_t height)
+{
+    if (height == 0)
+        return put(table, 2, 0);
+    size_t length = sequences(table, height - 1);
+    length += sequences(table + length, height - 1);
+    return length + put(table + length, 9, 0);
+}
+
+/* 2,048 bytes: a loop around sequences of 512 pauses. */
+static size_t full_table(uint8_t *table)
+{
+    size_t length = sequences(table, 9);
+    return length + put(table + length, 8, 0);
+}
+
+static void test_sets_of_edges(void)
+{
+    static uint8_t table[2 * BAVZHRONO_MAX_NODES];
+    static node_sets sets[BAVZHRONO_MAX_NODES];
+    static const node_sets paused = {2, 3, 0, 0}, body = {2, 3, 1, 1}, loop = {2, 2, 0, 0};
+
+    for (size_t node = 0; node < BAVZHRONO_MAX_NODES; node++)
+        sets[node] = paused;
+    around(table, 2, 0, 5, 255);
+    test_sets("depth 256", table, sets, 256, 0);
+
+    sets[BAVZHRONO_MAX_NODES - 2] = body;
+    sets[BAVZHRONO_MAX_NODES - 1] = loop;
+    full_table(table);
+    test_sets("2,048 bytes", table, sets, BAVZHRONO_MAX_NODES, 1);
+
+    /* Code 33 comes down by one at each trap, and the outermost catches it. */
+    for (size_t node = 0; node <= 32; node++) {
+        uint64_t set = node < 32 ? (uint64_t)1 << (33 - node) : 1;
+        node_sets exited = {set, set, 0, 0};
+        sets[node] = exited;
+    }
+    around(table, 4, 31, 11, 32);
+    test_sets("level 31 under 32 traps", table, sets, 33, 0);
+}
+
+/* Refused tables: by number and node in three functions, as a line of text in the fourth. */
+
+static void test_refused(const char *name, const uint8_t *table, size_t length, uint32_t number,
+                         unsigned node)
+{
+    char line[32];
+    int line_length = sprintf(line, "refused %u %u\n", (unsigned)number, node);
+
+    prepare();
+    expect_answer(node, 0, 0);
+    check("analyse", name, analyse(table, length, spare()), number);
+    prepare();
+    expect_answer(node, 0, 0);
+    check("start", name, instant(bavzhrono_start, table, length, NULL, 0, spare()), number);
+    prepare();
+    expect_answer(node, 0, 0);
+    check("resume", name, instant(bavzhrono_resume, table, length, NULL, 0, spare()), number);
+    prepare();
+    memcpy(expected.text, line, (size_t)line_length);
+    expect_answer((uint64_t)line_length, 0, 0);
+    check("render", name, render(table, length, needed(0, (size_t)line_length)), 0);
+}
+
+static void test_refused_by_check(void)
+{
+    static const uint8_t unknown[] = {2, 0, 12, 0}, field[] = {2, 0, 8, 1}, alone[] = {9, 0};
+    static const uint8_t two[] = {2, 0, 2, 0};
+    static uint8_t table[2 * BAVZHRONO_MAX_NODES + 2];
+    size_t full = full_table(table);
+
+    test_refused("1, 2,050 bytes", table, full + put(table + full, 8, 0), 1, 0);
+    test_refused("2, no byte", NULL, 0, 2, 0);
+    test_refused("2, odd length", w1, sizeof w1 - 1, 2, 0);
+    test_refused("4, kind 12", unknown, sizeof unknown, 4, 1);
+    test_refused("5, a loop with field 1", field, sizeof field, 5, 1);
+    test_refused("6, 9 0 alone", alone, sizeof alone, 6, 0);
+    test_refused("7, 2 0 2 0", two, sizeof two, 7, 0);
+    test_refused("8, depth 257", table, around(table, 2, 0, 5, 256), 8, 0);
+    test_refused("9, 33 traps", table, around(table, 2, 0, 11, 33), 9, 1);
+    test_refused("10, level 32 under 32 traps", table, around(table, 4, 32, 11, 32), 10, 0);
+    test_refused("11, W2", w2, sizeof w2, 11, 1);
+    test_refused("11, W4", w4, sizeof w4, 11, 2);
+    test_refused("10, W5", w5, sizeof w5, 10, 0);
+    test_refused("11, W6", w6, sizeof w6, 11, 3);
+    test_refused("11, W8", w8, sizeof w8, 11, 7);
+}
+
+/* Short buffers: refused with 3, and nothing but the answer is written. */
+
+static void test_short_sets(void)
+{
+    static const char *const names[] = {"short start sets", "short any-instant sets",
+                                        "short contexts", "short marks"};
+    static const uint8_t unknown[] = {12, 0};
+    for (int which = 0; which < 4; which++) {
+        lengths lent = needed(sizeof w1 / 2, 0);
+        size_t *shortened[] = {&lent.start_sets, &lent.any_sets, &lent.contexts, &lent.marks};
+        *shortened[which] -= 1;
+        prepare();
+        expect_answer(0, 0, 0);
+        check("analyse", names[which], analyse(w1, sizeof w1, lent), 3);
+    }
+    prepare();
+    expect_answer(0, 0, 0);
+    check("analyse", "3 before 4", analyse(unknown, sizeof unknown, needed(0, 0)), 3);
+}
+
+static void test_short_instant(const char *name, instant_call *call)
+{
+    lengths short_state = needed(sizeof w1 / 2 - 1, 0);
+    lengths short_emissions = needed(sizeof w1 / 2, 0);
+    short_emissions.emissions -= 1;
+
+    prepare();
+    expect_answer(0, 0, 0);
+    check(name, "short state", instant(call, w1, sizeof w1, NULL, 0, short_state), 3);
+    prepare();
+    expect_answer(0, 0, 0);
+    check(name, "short emissions", instant(call, w1, sizeof w1, NULL, 0, short_emissions), 3);
+}
+
+/* The empty table would be refused with 2, but an answer that is too short comes before it. */
+static void test_short_answer(void)
+{
+    lengths lent = spare();
+    for (lent.answer = 0; lent.answer < BAVZHRONO_ANSWER; lent.answer++) {
+        char name[32];
+        sprintf(name, "answer of %u", (unsigned)lent.answer);
+        prepare();
+        check("analyse", name, analyse(NULL, 0, lent), 3);
+        check("start", name, instant(bavzhrono_start, NULL, 0, NULL, 0, lent), 3);
+        check("resume", name, instant(bavzhrono_resume, NULL, 0, NULL, 0, lent), 3);
+        check("render", name, render(NULL, 0, lent), 3);
+    }
+    prepare();
+    check("render", "answer NULL",
+          bavzhrono_render(w1, sizeof w1, actual.text, sizeof actual.text, NULL, 0), 3);
+}
+
+/* Instants. States and answers are written as digits, a byte each. */
+
+typedef struct {
+    const char *name;
+    instant_call *call;
+    const uint8_t *table;
+    size_t nodes;
+    const char *before, *answers; /* an empty `before` leaves the state filled */
+    uint32_t refused;             /* 0, or the refusal, and then the rest does not matter */
+    uint64_t code, taken, entries;
+    const char *after;
+    int emitted; /* the one signal emitted, or NONE */
+} instant_test;
+
+#define NONE (-1)
+#define STARTED bavzhrono_start
+#define RESUMED bavzhrono_resume
+
+static size_t read_digits(uint8_t *bytes, const char *digits)
+{
+    size_t length = strlen(digits);
+    for (size_t i = 0; i < length; i++)
+        bytes[i] = (uint8_t)(digits[i] - '0');
+    return length;
+}
+
+static void expect_closed(const instant_test *test)
+{
+    read_digits(expected.state, test->after);
+    memset(expected.emissions, 0, BAVZHRONO_SIGNALS);
+    if (test->emitted != NONE)
+        expected.emissions[test->emitted] = 1;
+    expect_answer(test->code, test->taken, test->entries);
+}
+
+static void run_instant(const instant_test *test, lengths lent, const char *how)
+{
+    char call[32];
+    uint8_t answers[SPARE];
+    size_t answers_length = read_digits(answers, test->answers);
+    prepare();
+    read_digits(actual.state, test->before);
+    read_digits(expected.state, test->before);
+    if (test->refused == 0)
+        expect_closed(test);
+    else
+        expect_answer(0, 0, 0);
+    sprintf(call, "%s%s", test->call == STARTED ? "start" : "resume", how);
+    /* Without answers there need be no pointer either. */
+    check(call, test->name,
+          instant(test->call, test->table, 2 * test->nodes, answers_length == 0 ? NULL : answers,
+                  answers_length, lent),
+          test->refused);
+}
+
+static const uint8_t emit_255[] = {3, 255};
+static const uint8_t present[] = {3, 5, 2, 0, 6, 1}; /* present 1 then emit 5 else pause */
+static const uint8_t suspend[] = {2, 0, 7, 1};       /* suspend pause when 1 */
+static const uint8_t pauses[] = {2, 0, 2, 0, 9, 0};  /* pause; pause */
+
+static const instant_test instant_tests[] = {
+    {"W9, W1 started", STARTED, w1, 4, "", "", 0, 1, 0, 3, "1000", NONE},
+    {"W9, W1 resumed", RESUMED, w1, 4, "1000", "", 0, 1, 0, 6, "1000", 7},
+    {"an emit of signal 255", STARTED, emit_255, 1, "", "", 0, 0, 0, 1, "0", 255},
+    {"a present that is", STARTED, present, 3, "", "9", 0, 0, 1, 2, "000", 5},
+    {"a present that is not", STARTED, present, 3, "", "0", 0, 1, 1, 2, "010", NONE},
+    {"answers left over", STARTED, present, 3, "", "011", 0, 1, 1, 2, "010", NONE},
+    {"no answer for a present", STARTED, present, 3, "", "", 13, 0, 0, 0, "", NONE},
+    {"a held branch takes no answer", RESUMED, present, 3, "010", "", 0, 0, 0, 2, "000", NONE},
+    {"a suspend takes no answer", STARTED, suspend, 2, "", "", 0, 1, 0, 2, "10", NONE},
+    {"a suspend when present", RESUMED, suspend, 2, "10", "1", 0, 1, 1, 1, "10", NONE},
+    {"a suspend when absent", RESUMED, suspend, 2, "10", "0", 0, 0, 1, 2, "00", NONE},
+    {"no answer for a suspend", RESUMED, suspend, 2, "10", "", 13, 0, 0, 0, "", NONE},
+    {"the second pause", RESUMED, pauses, 3, "100", "", 0, 1, 0, 3, "010", NONE},
+    {"nothing held", RESUMED, w1, 4, "0000", "", 12, 0, 0, 0, "", NONE},
+    {"an emit held", RESUMED, w1, 4, "1100", "", 12, 0, 0, 0, "", NONE},
+    {"a byte above 1", RESUMED, w1, 4, "2000", "", 12, 0, 0, 0, "", NONE},
+    {"both children of a sequence held", RESUMED, pauses, 3, "110", "", 12, 0, 0, 0, "", NONE},
+};
+
+static void test_instants(void)
+{
+    for (size_t i = 0; i < sizeof instant_tests / sizeof instant_tests[0]; i++) {
+        run_instant(&instant_tests[i], needed(instant_tests[i].nodes, 0), "");
+        run_instant(&instant_tests[i], spare(), ", more lent");
+    }
+}
+
+/* The text of W1, as document 01 prints it. */
+static void test_render(void)
+{
+    size_t length = strlen(w1_listing);
+    lengths lent[2] = {needed(0, length), spare()};
+    for (int more = 0; more < 2; more++) {
+        prepare();
+        memcpy(expected.text, w1_listing, length);
+        expect_answer(length, 0, 0);
+        check(more ? "render, more lent" : "render", "W1", render(w1, sizeof w1, lent[more]), 0);
+    }
+}
+
+static void test_short_text(void)
+{
+    size_t line_length = strlen("refused 11 1\n");
+    prepare();
+    expect_answer(0, 0, 0);
+    check("render", "short text", render(w1, sizeof w1, needed(0, strlen(w1_listing) - 1)), 3);
+    prepare();
+    expect_answer(0, 0, 0);
+    check("render", "short line", render(w2, sizeof w2, needed(0, line_length - 1)), 3);
+    prepare();
+    expect_answer(0, 0, 0);
+    check("render", "no text",
+          bavzhrono_render(w1, sizeof w1, NULL, 0, actual.answer, BAVZHRONO_ANSWER), 3);
+}
+
+int main(void)
+{
+    test_sets_of_table_w();
+    test_sets_of_edges();
+    test_refused_by_check();
+    test_short_sets();
+    test_short_instant("start", bavzhrono_start);
+    test_short_instant("resume", bavzhrono_resume);
+    test_short_answer();
+    test_instants();
+    test_render();
+    test_short_text();
+    return failures != 0;
+}
