@@ -1,0 +1,76 @@
+//! Tables of pure Esterel: the proved checker and the proved runner of single instants.
+//!
+//! A table has two bytes a node, kind then field, children before parents. Nodes are numbered
+//! from 0, and the last is the whole program. Below, n is the number of nodes, half the table's
+//! length.
+//!
+//! | Kind | Statement | Children | Field |
+//! |---|---|---|---|
+//! | 1 | nothing | 0 | 0 |
+//! | 2 | pause | 0 | 0 |
+//! | 3 | emit | 0 | signal, 0 to 255 |
+//! | 4 | exit | 0 | level: 0 is the innermost trap around it, 1 the next out |
+//! | 5 | signal | 1 | signal |
+//! | 6 | present | 2: then, else | signal |
+//! | 7 | suspend | 1 | signal |
+//! | 8 | loop | 1 | 0 |
+//! | 9 | sequence | 2: first, second | 0 |
+//! | 10 | parallel | 2: left, right | 0 |
+//! | 11 | trap | 1 | 0 |
+//!
+//! [`analyse`], [`start`], [`resume`] and [`render`] write to buffers that the caller lends, and
+//! allocate nothing. A buffer may be longer than needed: what lies past the needed length is
+//! neither looked at nor changed. A refused call changes no buffer. [`Sets::of`] and [`listing`]
+//! bring their own buffers. The calls keep no state, and any number of threads may make them at
+//! once. How much stack they need is said in the header for C, `bindings/c/bavzhrono.h`.
+//!
+//! A loop of pause and emit 7, analysed and run for two instants:
+//!
+//! ```
+//! use bavzhrono::{resume, start, Closed, CodeSet, Completion, Sets, SIGNALS};
+//!
+//! let table = [2, 0, 3, 7, 9, 0, 8, 0];
+//!
+//! let sets = Sets::of(&table)?;
+//! assert_eq!(sets.analysis.bound(), 8);
+//! assert_eq!(sets.start_sets.last(), Some(&CodeSet(1 << 1)));
+//!
+//! let mut state = [0; 4];
+//! let mut emissions = [0; SIGNALS];
+//! let first = start(&table, &[], &mut state, &mut emissions)?;
+//! assert_eq!(first, Closed { code: Completion::Paused, taken: 0, entries: 3 });
+//! assert_eq!(state, [1, 0, 0, 0]);
+//! assert_eq!(emissions[7], 0);
+//!
+//! let second = resume(&table, &[], &mut state, &mut emissions)?;
+//! assert_eq!(second, Closed { code: Completion::Paused, taken: 0, entries: 6 });
+//! assert_eq!(state, [1, 0, 0, 0]);
+//! assert_eq!(emissions[7], 1);
+//! # Ok::<(), bavzhrono::Refusal>(())
+//! ```
+
+#![deny(missing_docs)]
+#![deny(unsafe_code)]
+
+mod analysis;
+mod codes;
+mod instant;
+mod listing;
+mod refusal;
+#[allow(unsafe_code)]
+mod sys;
+
+pub use analysis::{analyse, Analysis, Mark, Sets};
+pub use codes::{CodeSet, Codes};
+pub use instant::{resume, start, Closed, Completion};
+pub use listing::{listing, render};
+pub use refusal::Refusal;
+
+/// The most nodes of a table, of two bytes each.
+pub const MAX_NODES: usize = 1024;
+
+/// The number of signals, and the length of the emissions.
+pub const SIGNALS: usize = 256;
+
+/// A text of so many bytes holds the listing of any table.
+pub const MAX_TEXT: usize = 67_584;

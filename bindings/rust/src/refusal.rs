@@ -1,0 +1,58 @@
+use std::error::Error;
+use std::fmt;
+
+/// A refusal: the first check that failed, and the lowest node that it fits.
+///
+/// ```
+/// let refusal = bavzhrono::Sets::of(&[1, 0, 8, 0]).unwrap_err();
+/// assert_eq!((refusal.number, refusal.node), (11, 1));
+/// assert_eq!(
+///     refusal.to_string(),
+///     "refused 11 at node 1: a loop's body can end in the instant in which it is started"
+/// );
+/// ```
+#[derive(Clone, Copy, Debug, PartialEq, Eq, Hash)]
+pub struct Refusal {
+    /// The number of the check, 1 to 13.
+    pub number: u32,
+    /// The lowest node that the check fits; 0 for checks 1, 2, 3, 7, 12 and 13, which name none.
+    pub node: usize,
+}
+
+impl Refusal {
+    /// What the check refuses, in one line.
+    pub fn explanation(&self) -> &'static str {
+        match self.number {
+            1 => "the table has more than 2,048 bytes (1,024 nodes)",
+            2 => "the table is empty or of odd length",
+            3 => "a lent buffer is too short",
+            4 => "a kind byte is unknown",
+            5 => "a field that must be 0 is not",
+            6 => "fewer unused statements stand before a node than it has children",
+            7 => "more than one statement is left at the end",
+            8 => "a node's depth is above 256",
+            9 => "more than 32 traps stand around each other",
+            10 => "an exit's level is not below the number of traps around it",
+            11 => "a loop's body can end in the instant in which it is started",
+            12 => "on resuming, the state is not admitted",
+            13 => "in an instant, an answer is needed after all lent ones are taken",
+            _ => "there is no check of this number",
+        }
+    }
+
+    fn names_a_node(&self) -> bool {
+        matches!(self.number, 4..=6 | 8..=11)
+    }
+}
+
+impl fmt::Display for Refusal {
+    fn fmt(&self, f: &mut fmt::Formatter<'_>) -> fmt::Result {
+        write!(f, "refused {}", self.number)?;
+        if self.names_a_node() {
+            write!(f, " at node {}", self.node)?;
+        }
+        write!(f, ": {}", self.explanation())
+    }
+}
+
+impl Error for Refusal {}

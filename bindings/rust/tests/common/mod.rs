@@ -1,0 +1,114 @@
+//! Tables of document 01, and filled buffers to lend.
+
+#![allow(dead_code)] // each test file uses a part of this
+
+use bavzhrono::{analyse, render, resume, start};
+use bavzhrono::{Analysis, Closed, CodeSet, Completion, Mark, Refusal, MAX_TEXT, SIGNALS};
+
+pub const W1: &[u8] = &[2, 0, 3, 7, 9, 0, 8, 0];
+pub const W2: &[u8] = &[1, 0, 8, 0];
+pub const W3: &[u8] = &[
+    4, 1, 4, 0, 10, 0, 11, 0, 4, 1, 9, 0, 11, 0, 2, 0, 9, 0, 11, 0, 8, 0,
+];
+pub const W4: &[u8] = &[4, 0, 11, 0, 8, 0];
+pub const W5: &[u8] = &[4, 0];
+pub const W6: &[u8] = &[1, 0, 2, 0, 6, 5, 8, 0];
+pub const W7: &[u8] = &[1, 0, 2, 0, 10, 0];
+pub const W8: &[u8] = &[2, 0, 1, 0, 6, 5, 1, 0, 2, 0, 6, 5, 9, 0, 8, 0];
+
+pub const W1_LISTING: &str =
+    "ok 4 1 8\n0 2 0 2 3 1 1\n1 3 7 1 1 0 0\n2 9 0 2 3 1 1\n3 8 0 2 2 0 0\n";
+
+/// What stands in every lent byte before a call.
+pub const FILL: u8 = 0xa5;
+pub const FILL_SET: CodeSet = CodeSet(u64::from_ne_bytes([FILL; 8]));
+
+/// One buffer for each that a call can write to.
+#[derive(Clone, Debug, PartialEq)]
+pub struct Buffers {
+    pub start_sets: Vec<CodeSet>,
+    pub any_sets: Vec<CodeSet>,
+    pub contexts: Vec<CodeSet>,
+    pub marks: Vec<Mark>,
+    pub state: Vec<u8>,
+    pub emissions: Vec<u8>,
+    pub text: Vec<u8>,
+}
+
+impl Buffers {
+    /// Filled buffers of the lengths that a table needs, and so many entries more in each.
+    pub fn for_table(table: &[u8], more: usize) -> Buffers {
+        let nodes = table.len() / 2 + more;
+        Buffers {
+            start_sets: vec![FILL_SET; nodes],
+            any_sets: vec![FILL_SET; nodes],
+            contexts: vec![FILL_SET; nodes],
+            marks: vec![Mark(FILL); nodes],
+            state: vec![FILL; nodes],
+            emissions: vec![FILL; SIGNALS + more],
+            text: vec![FILL; MAX_TEXT + more],
+        }
+    }
+
+    pub fn analyse(&mut self, table: &[u8]) -> Result<Analysis, Refusal> {
+        analyse(
+            table,
+            &mut self.start_sets,
+            &mut self.any_sets,
+            &mut self.contexts,
+            &mut self.marks,
+        )
+    }
+
+    pub fn start(&mut self, table: &[u8], answers: &[u8]) -> Result<Closed, Refusal> {
+        start(table, answers, &mut self.state, &mut self.emissions)
+    }
+
+    pub fn resume(&mut self, table: &[u8], answers: &[u8]) -> Result<Closed, Refusal> {
+        resume(table, answers, &mut self.state, &mut self.emissions)
+    }
+
+    pub fn render(&mut self, table: &[u8]) -> Result<usize, Refusal> {
+        render(table, &mut self.text)
+    }
+}
+
+pub fn refused<T>(number: u32, node: usize) -> Result<T, Refusal> {
+    Err(Refusal { number, node })
+}
+
+pub fn closed(code: Completion, taken: usize, entries: usize) -> Result<Closed, Refusal> {
+    Ok(Closed {
+        code,
+        taken,
+        entries,
+    })
+}
+
+/// All three calls refuse the table at the node and change nothing, and its listing says so.
+pub fn assert_refused(table: &[u8], number: u32, node: usize) {
+    let mut lent = Buffers::for_table(table, 1);
+    let before = lent.clone();
+    assert_eq!(lent.analyse(table), refused(number, node));
+    assert_eq!(lent.start(table, &[]), refused(number, node));
+    assert_eq!(lent.resume(table, &[]), refused(number, node));
+    assert_eq!(lent, before);
+    assert_eq!(
+        bavzhrono::listing(table),
+        format!("refused {number} {node}\n")
+    );
+}
+
+/// The leaf with the given node after it so many times.
+pub fn around(leaf: [u8; 2], node: [u8; 2], times: usize) -> Vec<u8> {
+    [leaf.to_vec(), node.repeat(times)].concat()
+}
+
+/// 2,048 bytes: a loop around sequences of sequences, down to 512 pauses.
+pub fn full_table() -> Vec<u8> {
+    let mut table = vec![2, 0];
+    for _ in 0..9 {
+        table = [&table[..], &table[..], &[9, 0]].concat();
+    }
+    [&table[..], &[8, 0]].concat()
+}
