@@ -29,21 +29,9 @@ test_c() {
     report "$name" $?
 }
 
-# Each line `test NAME ... ok` of cargo, under the name of its file.
-test_lines() {
-    awk '/^ *Running / { file = $(NF - 1); sub(/.*\//, "", file); sub(/\.rs$/, ": ", file) }
-        /^ *Doc-tests / { file = "doc: " }
-        sub(/ \.\.\. ok$/, "") && sub(/^test /, "") { print "ok: " file $0 }
-        sub(/ \.\.\. FAILED$/, "") && sub(/^test /, "") { print "FAIL: " file $0 }
-        { print }'
-}
-
 test_rust() {
-    CARGO_TARGET_DIR=$out/cargo BAVZHRONO_LIB_DIR=$lib \
-        cargo test --offline --locked -j1 --no-fail-fast --manifest-path rust/Cargo.toml > "$out/cargo.log" 2>&1
-    status=$?
-    test_lines < "$out/cargo.log" > "$out/rust.log"
-    report rust $status
+    BAVZHRONO_LIB_DIR=$lib "$root/tools/cargo_test.sh" rust "$out/cargo" > "$out/rust.log" 2>&1
+    report rust $?
 }
 
 test_c c c gcc -std=c99

@@ -1,22 +1,54 @@
 #!/bin/sh
-# The gate. Every crate is proved from nothing, every must-fail edit is refused and every program writes what it must (rt ci);
-# the listing program lists the worked examples. The last line counts all of it.
+# The gate, in parts. Each part ends with a line that counts its tests, and the last line of all adds them up.
 set -u
-rt fmt --check || { echo "0 passed, 1 failed"; exit 1; }
+cd "$(dirname "$0")/.."
 log=$(mktemp)
 trap 'rm -f "$log"' EXIT
-rt ci 2>&1 | tee "$log" | grep -v '^0 passed\|^[0-9]* passed, [0-9]* failed$'
-last=$(tail -n 1 "$log")
-passed=$(printf '%s' "$last" | sed -n 's/^\([0-9]*\) passed, \([0-9]*\) failed$/\1/p')
-failed=$(printf '%s' "$last" | sed -n 's/^\([0-9]*\) passed, \([0-9]*\) failed$/\2/p')
-[ -n "$passed" ] || { printf '%s\n' "$last"; echo "0 passed, 1 failed"; exit 1; }
-for table in examples/*.table; do
-    if target/bin/list < "$table" | cmp -s - "${table%.table}.listing"; then
-        passed=$((passed + 1))
-    else
-        echo "examples: $table is not listed as ${table%.table}.listing has it"
-        failed=$((failed + 1))
-    fi
-done
+passed=0 failed=0
+
+# part NAME COMMAND..: runs the command and adds its counts. One that ends without counts, or with a failure that it did not
+# count, is a failure itself.
+part() {
+    name=$1
+    shift
+    "$@" > "$log" 2>&1
+    status=$?
+    sed "s/^\([0-9]* passed, [0-9]* failed\)$/$name: \1/" "$log"
+    counts=$(tail -n 1 "$log" | sed -n 's/^\([^0-9]*: \)\{0,1\}\([0-9]*\) passed, \([0-9]*\) failed$/\2 \3/p')
+    [ -n "$counts" ] || counts="0 1"
+    [ "$status" -eq 0 ] || [ "${counts#* }" -gt 0 ] || counts="${counts% *} 1"
+    passed=$((passed + ${counts% *}))
+    failed=$((failed + ${counts#* }))
+}
+
+# The listing program on the worked examples.
+list_examples() {
+    right=0 wrong=0
+    for table in examples/*.table; do
+        if target/bin/list < "$table" | cmp -s - "${table%.table}.listing"; then
+            right=$((right + 1))
+        else
+            echo "FAIL: $table is not listed as ${table%.table}.listing has it"
+            wrong=$((wrong + 1))
+        fi
+    done
+    echo "$right passed, $wrong failed"
+}
+
+# The other implementation's own tests.
+test_compare() {
+    tools/cargo_test.sh compare "$PWD/target/compare" > target/compare.log
+    broken=$?
+    cat target/compare.log
+    echo "$(grep -c '^ok: ' target/compare.log) passed, $(grep -c '^FAIL: ' target/compare.log) failed"
+    return "$broken"
+}
+
+rt fmt --check || { echo "0 passed, 1 failed"; exit 1; }
+part "rt ci" rt ci
+part examples list_examples
+rt staticlib abi > "$log" 2>&1 || cat "$log"
+part bindings bindings/test.sh
+part compare test_compare
 echo "$passed passed, $failed failed"
 [ "$failed" -eq 0 ]
