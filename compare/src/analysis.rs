@@ -17,12 +17,13 @@ pub fn analyse(
             && contexts.len() >= size
             && marks.len() >= size
     })?;
-    let size = program.tree.size();
-    let any = sets::any_sets(&program.tree);
-    let context = sets::contexts(&program.tree, &program.start_sets, &program.around.traps);
+    let tree = &program.tree;
+    let size = tree.size();
+    let any_sets = &mut any_sets[..size];
+    let contexts = &mut contexts[..size];
     start_sets[..size].copy_from_slice(&program.start_sets);
-    any_sets[..size].copy_from_slice(&any);
-    contexts[..size].copy_from_slice(&context);
-    marks[..size].copy_from_slice(&sets::marks(&any, &context));
+    sets::fill_any_sets(tree, any_sets);
+    sets::fill_contexts(tree, &program.start_sets, &program.around.traps, contexts);
+    sets::fill_marks(any_sets, contexts, &mut marks[..size]);
     Ok((size, program.loop_depth()))
 }

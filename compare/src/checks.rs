@@ -47,7 +47,8 @@ pub fn accept(
     check_traps(&tree, &around)?;
     check_levels(&tree, &around)?;
     // Only now do all codes fit in 64 bits.
-    let start_sets = sets::start_sets(&tree);
+    let mut start_sets = vec![0; size];
+    sets::fill_start_sets(&tree, &mut start_sets);
     check_loops(&tree, &start_sets)?;
     Ok(Program {
         tree,

@@ -24,6 +24,16 @@ pub struct Closed {
     pub entries: usize,
 }
 
+impl Closed {
+    pub fn new(code: Code, taken: usize, entries: usize) -> Closed {
+        Closed {
+            code,
+            taken,
+            entries,
+        }
+    }
+}
+
 #[derive(Clone, Copy, Debug, PartialEq, Eq)]
 pub enum How {
     Started,
@@ -127,11 +137,7 @@ fn run(
     };
     state[..size].copy_from_slice(&runner.held);
     emissions[..SIGNALS].copy_from_slice(&runner.emissions);
-    let closed = Closed {
-        code,
-        taken: runner.taken,
-        entries: runner.entries,
-    };
+    let closed = Closed::new(code, runner.taken, runner.entries);
     Ok((closed, runner.trail))
 }
 

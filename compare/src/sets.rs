@@ -8,20 +8,19 @@ pub const PAUSED: u64 = 1 << 1;
 /// The code of an exit to the innermost trap.
 const CAUGHT: u64 = 1 << 2;
 
-/// The start set K of every node.
-pub fn start_sets(tree: &Tree) -> Vec<u64> {
-    upward(tree, PAUSED)
+/// Writes the start set K of every node.
+pub fn fill_start_sets(tree: &Tree, start_sets: &mut [u64]) {
+    fill_upward(tree, PAUSED, start_sets);
 }
 
-/// The any-instant set A of every node: a pause that is resumed ends.
-pub fn any_sets(tree: &Tree) -> Vec<u64> {
-    upward(tree, ENDED | PAUSED)
+/// Writes the any-instant set A of every node: a pause that is resumed ends.
+pub fn fill_any_sets(tree: &Tree, any_sets: &mut [u64]) {
+    fill_upward(tree, ENDED | PAUSED, any_sets);
 }
 
-fn upward(tree: &Tree, pause: u64) -> Vec<u64> {
-    let mut sets: Vec<u64> = Vec::with_capacity(tree.size());
-    for &statement in &tree.statements {
-        let set = match statement {
+fn fill_upward(tree: &Tree, pause: u64, sets: &mut [u64]) {
+    for (node, &statement) in tree.statements.iter().enumerate() {
+        sets[node] = match statement {
             Statement::Nothing | Statement::Emit { .. } => ENDED,
             Statement::Pause => pause,
             Statement::Exit { level } => CAUGHT << level,
@@ -32,9 +31,7 @@ fn upward(tree: &Tree, pause: u64) -> Vec<u64> {
             Statement::Parallel { left, right } => parallel(sets[left], sets[right]),
             Statement::Trap { body } => trap(sets[body]),
         };
-        sets.push(set);
     }
-    sets
 }
 
 /// The codes of a sequence: the second starts only where the first ends.
@@ -67,10 +64,10 @@ pub fn trap(body: u64) -> u64 {
     ended | (body & PAUSED) | further_out
 }
 
-/// The context set S of every node, from the program down. `traps` has the
-/// number of traps around each node, itself not counted.
-pub fn contexts(tree: &Tree, start_sets: &[u64], traps: &[usize]) -> Vec<u64> {
-    let mut contexts = vec![0; tree.size()];
+/// Writes the context set S of every node, from the program down. `traps` has
+/// the number of traps around each node, itself not counted.
+pub fn fill_contexts(tree: &Tree, start_sets: &[u64], traps: &[usize], contexts: &mut [u64]) {
+    contexts[tree.root()] = 0;
     for (node, &statement) in tree.statements.iter().enumerate().rev() {
         let outer = contexts[node];
         match statement {
@@ -95,7 +92,6 @@ pub fn contexts(tree: &Tree, start_sets: &[u64], traps: &[usize]) -> Vec<u64> {
             Statement::Trap { body } => contexts[body] = context_under_trap(outer),
         }
     }
-    contexts
 }
 
 fn context_of_first(outer: u64, second: u64) -> u64 {
@@ -129,11 +125,9 @@ fn context_under_parallel(outer: u64, traps: usize) -> u64 {
     up_to_outermost & !PAUSED
 }
 
-/// A mark is 1 where the any-instant set meets the context.
-pub fn marks(any_sets: &[u64], contexts: &[u64]) -> Vec<u8> {
-    any_sets
-        .iter()
-        .zip(contexts)
-        .map(|(any, context)| u8::from(any & context != 0))
-        .collect()
+/// Writes the marks: 1 where the any-instant set meets the context, else 0.
+pub fn fill_marks(any_sets: &[u64], contexts: &[u64], marks: &mut [u8]) {
+    for (mark, (any_set, context)) in marks.iter_mut().zip(any_sets.iter().zip(contexts)) {
+        *mark = u8::from(any_set & context != 0);
+    }
 }

@@ -27,18 +27,10 @@ fn emitted(emissions: &[u8]) -> Vec<usize> {
     (0..256).filter(|&signal| emissions[signal] == 1).collect()
 }
 
-fn closed(code: u32, taken: usize, entries: usize) -> Closed {
-    Closed {
-        code,
-        taken,
-        entries,
-    }
-}
-
 #[test]
 fn an_emit_under_its_own_signal_counts() {
     let answer = started(&[3, 7, 5, 7], &[]);
-    assert_eq!(answer, Ok((closed(0, 0, 2), vec![0, 0], vec![7])));
+    assert_eq!(answer, Ok((Closed::new(0, 0, 2), vec![0, 0], vec![7])));
 }
 
 #[test]
@@ -52,7 +44,7 @@ fn a_branch_without_a_held_pause_counts_as_ended() {
         code,
     };
     let trail = vec![entry(3, 0), entry(2, 0), entry(0, 0)];
-    assert_eq!(answer, Ok((closed(0, 0, 3), trail)));
+    assert_eq!(answer, Ok((Closed::new(0, 0, 3), trail)));
     assert_eq!(state, [0; 4]);
 }
 
@@ -86,19 +78,19 @@ fn the_trail_of_w9() {
 fn the_right_branch_runs_after_an_exit_of_the_left() {
     let table = [4, 0, 3, 5, 10, 0, 11, 0];
     let answer = started(&table, &[]);
-    assert_eq!(answer, Ok((closed(0, 0, 4), vec![0; 4], vec![5])));
+    assert_eq!(answer, Ok((Closed::new(0, 0, 4), vec![0; 4], vec![5])));
 }
 
 #[test]
 fn a_trap_that_catches_drops_what_is_held_beneath() {
     let table = [2, 0, 4, 0, 10, 0, 11, 0];
     let answer = started(&table, &[]);
-    assert_eq!(answer, Ok((closed(0, 0, 4), vec![0; 4], vec![])));
+    assert_eq!(answer, Ok((Closed::new(0, 0, 4), vec![0; 4], vec![])));
     // The exit leaves the inner trap too; beside the outer one a pause stays.
     let table = [2, 0, 4, 1, 10, 0, 11, 0, 11, 0, 2, 0, 10, 0];
     let answer = started(&table, &[]);
     let held = vec![0, 0, 0, 0, 0, 1, 0];
-    assert_eq!(answer, Ok((closed(1, 0, 7), held, vec![])));
+    assert_eq!(answer, Ok((Closed::new(1, 0, 7), held, vec![])));
 }
 
 #[test]
@@ -107,15 +99,15 @@ fn a_suspend_is_tested_only_when_resumed() {
     let held = vec![1, 0, 0, 0];
     assert_eq!(
         started(&table, &[]),
-        Ok((closed(1, 0, 3), held.clone(), vec![]))
+        Ok((Closed::new(1, 0, 3), held.clone(), vec![]))
     );
     assert_eq!(
         resumed(&table, &[200], &held),
-        Ok((closed(1, 1, 1), held.clone(), vec![]))
+        Ok((Closed::new(1, 1, 1), held.clone(), vec![]))
     );
     assert_eq!(
         resumed(&table, &[0, 1], &held),
-        Ok((closed(0, 1, 4), vec![0; 4], vec![9]))
+        Ok((Closed::new(0, 1, 4), vec![0; 4], vec![9]))
     );
 }
 
@@ -126,7 +118,7 @@ fn a_present_takes_an_answer_only_when_started() {
     assert_eq!(held, [0, 0, 0, 1, 0, 0, 0]);
     assert_eq!(
         resumed(&table, &[], &held),
-        Ok((closed(0, 0, 4), vec![0; 7], vec![2]))
+        Ok((Closed::new(0, 0, 4), vec![0; 7], vec![2]))
     );
     let (_, held, _) = started(&table, &[2]).unwrap();
     assert_eq!(held, [1, 0, 0, 0, 0, 0, 0]);
@@ -159,7 +151,7 @@ fn starved_instants_change_no_buffer() {
         assert_eq!(emissions, [9; 300]);
     }
     let answer = start(&table, &[1, 0, 1], &mut state, &mut emissions);
-    assert_eq!(answer, Ok(closed(1, 2, 7)));
+    assert_eq!(answer, Ok(Closed::new(1, 2, 7)));
     assert_eq!(state, [0, 1, 0, 0, 0, 0, 1, 0, 0, 9, 9]);
     assert_eq!(emissions[256..], [9; 44]);
     assert_eq!(emitted(&emissions[..256]), [5]);
@@ -183,7 +175,7 @@ fn bytes_past_the_state_are_not_looked_at() {
     let mut state = [1, 77, 1];
     let mut emissions = [3; 257];
     let answer = resume(&[2, 0], &[], &mut state, &mut emissions);
-    assert_eq!(answer, Ok(closed(0, 0, 1)));
+    assert_eq!(answer, Ok(Closed::new(0, 0, 1)));
     assert_eq!(state, [0, 77, 1]);
     assert_eq!(emissions[256], 3);
 }

@@ -41,26 +41,12 @@ fn w9_started_and_resumed() {
     let mut state = [9; 4];
     let mut emissions = [9; 256];
     let closed = start(W1, &[], &mut state, &mut emissions).unwrap();
-    assert_eq!(
-        closed,
-        Closed {
-            code: 1,
-            taken: 0,
-            entries: 3
-        }
-    );
+    assert_eq!(closed, Closed::new(1, 0, 3));
     assert_eq!(state, [1, 0, 0, 0]);
     assert_eq!(emissions, [0; 256]);
 
     let closed = resume(W1, &[], &mut state, &mut emissions).unwrap();
-    assert_eq!(
-        closed,
-        Closed {
-            code: 1,
-            taken: 0,
-            entries: 6
-        }
-    );
+    assert_eq!(closed, Closed::new(1, 0, 6));
     assert_eq!(state, [1, 0, 0, 0]);
     let mut seven = [0; 256];
     seven[7] = 1;

@@ -12,10 +12,9 @@ use std::path::Path;
 use std::process::ExitCode;
 
 use compare::listing;
+use compare::support::damage::bad_table;
 use compare::support::edges::edges;
-use compare::support::programs::{
-    accepted, damaged, ladder, pauses_to_nothing, set_random_levels, wrapped, SHAPES,
-};
+use compare::support::programs::{accepted, ladder, SHAPES};
 use compare::support::random::Random;
 use compare::support::vectors::read_listings;
 use compare::support::{arguments, hex, SEED};
@@ -134,38 +133,4 @@ fn size(random: &mut Random, round: usize) -> usize {
         3..=9 => random.between(31, 100),
         _ => random.between(1, 30),
     }
-}
-
-/// A table for each check in turn, then damage of all kinds. Where a limit is
-/// tried, some tables stay within it.
-fn bad_table(random: &mut Random, number: usize) -> Vec<u8> {
-    match number {
-        0 => random.bytes(2049),
-        1 => random.bytes(2100),
-        2..=9 => {
-            let length = random.between(1, 40);
-            random.bytes(length)
-        }
-        10..=21 => wrapped(&small(random, number), 11, random.between(25, 36)),
-        22..=27 => wrapped(&small(random, number), 5, random.between(244, 257)),
-        28..=45 => {
-            let mut table = small(random, number);
-            set_random_levels(random, &mut table);
-            table
-        }
-        46..=63 => {
-            let mut table = small(random, number);
-            pauses_to_nothing(random, &mut table);
-            table
-        }
-        _ => {
-            let table = small(random, number);
-            damaged(random, &table)
-        }
-    }
-}
-
-fn small(random: &mut Random, number: usize) -> Vec<u8> {
-    let nodes = random.between(2, 60);
-    accepted(random, &SHAPES[number % SHAPES.len()], nodes)
 }

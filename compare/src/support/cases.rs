@@ -4,6 +4,9 @@ use super::hex;
 use super::random::Random;
 use crate::{resume, start, Closed, Refusal};
 
+/// Enough answers for a first try of any drawn program.
+const PLENTY: usize = 5000;
+
 #[derive(Clone, Copy, Debug, PartialEq, Eq)]
 pub enum Call {
     Start,
@@ -46,6 +49,34 @@ impl Case {
     pub fn answered(mut self, answers: &[u8]) -> Case {
         self.answers = answers.to_vec();
         self
+    }
+
+    /// The case with exactly as many random answers as it takes, or with two
+    /// if it is refused.
+    pub fn with_exact_answers(self, random: &mut Random) -> Case {
+        let answers = random_answers(random, PLENTY);
+        let tried = self.clone().answered(&answers).run();
+        match tried.answer {
+            Ok(closed) => self.answered(&answers[..closed.taken]),
+            Err(_) => self.answered(&answers[..2]),
+        }
+    }
+
+    /// The case with starved, overlong and exact answers.
+    pub fn with_all_counts(self, random: &mut Random) -> Vec<Case> {
+        let mut cases = Vec::new();
+        let exact = self.with_exact_answers(random);
+        if let Some(fewer) = exact.answers.len().checked_sub(1) {
+            cases.push(exact.clone().answered(&exact.answers[..fewer]));
+            cases.push(exact.clone().answered(&[]));
+        }
+        if random.one_in(3) {
+            let mut longer = exact.answers.clone();
+            longer.extend(random_answers(random, 3));
+            cases.push(exact.clone().answered(&longer));
+        }
+        cases.push(exact);
+        cases
     }
 
     /// The emission buffer before the call.
@@ -116,6 +147,13 @@ impl Outcome {
         };
         format!("{answer} {state}{emissions}\n")
     }
+}
+
+/// Absent half of the time; present in different bytes.
+fn random_answers(random: &mut Random, count: usize) -> Vec<u8> {
+    (0..count)
+        .map(|_| *random.pick(&[0, 0, 0, 1, 2, 255]))
+        .collect()
 }
 
 /// The bytes that are not 0, each with its place.

@@ -1,10 +1,14 @@
-//! What the tests and the generators share: hexadecimal, random numbers,
-//! vector files, tables and instants to try.
+//! What the tests, the generators and the comparisons share: hexadecimal,
+//! random numbers, vector files, tables and instants to try.
 
 pub mod arguments;
+pub mod calls;
 pub mod cases;
+pub mod damage;
 pub mod edges;
+pub mod families;
 pub mod hex;
+pub mod numbers;
 pub mod programs;
 pub mod random;
 pub mod states;

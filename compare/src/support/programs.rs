@@ -1,4 +1,4 @@
-//! Random tables: accepted programs of many shapes, and damaged ones.
+//! Random accepted programs of many shapes.
 
 use super::random::Random;
 use crate::sets;
@@ -285,70 +285,21 @@ pub fn ladder_answers(steps: usize) -> Vec<u8> {
     answers
 }
 
-/// The table with so many more nodes of one child around it.
-pub fn wrapped(table: &[u8], kind: u8, times: usize) -> Vec<u8> {
-    [table, &[kind, 0].repeat(times)].concat()
-}
-
-/// Spoils a table in one of many ways. Some results are still accepted.
-pub fn damaged(random: &mut Random, table: &[u8]) -> Vec<u8> {
-    let mut bytes = table.to_vec();
-    let node = random.below(bytes.len() / 2);
-    match random.below(18) {
-        0 => flip_bit(random, &mut bytes),
-        1 => {
-            for _ in 0..random.between(2, 6) {
-                flip_bit(random, &mut bytes);
-            }
-        }
-        2 => bytes.truncate(random.below(bytes.len())),
-        3 => bytes.truncate(2 * node),
-        4 => {
-            bytes.drain(..2 * node);
-        }
-        5 => {
-            let count = random.between(1, 9);
-            bytes.extend(random.bytes(count));
-        }
-        6 => {
-            let leaf = random.between(1, 3) as u8;
-            bytes.extend([leaf, 0]);
-        }
-        7 => {
-            let inner = *random.pick(&[6, 8, 9, 10, 11]);
-            bytes.extend([inner, 0]);
-        }
-        8 => bytes[2 * node] = *random.pick(&[0, 12, 13, 128, 255]),
-        9 => bytes[2 * node + 1] = random.between(1, 255) as u8,
-        10 | 11 => set_random_levels(random, &mut bytes),
-        12..=14 => pauses_to_nothing(random, &mut bytes),
-        15 | 16 => bytes[2 * node] = random.between(1, 11) as u8,
-        _ => {
-            bytes.remove(random.below(bytes.len()));
-        }
+/// So many equal leaves under nodes of two children, as flat as can be.
+pub fn balanced(leaf: &[u8], leaves: usize, node: &[u8]) -> Vec<u8> {
+    if leaves == 1 {
+        return leaf.to_vec();
     }
-    bytes
+    let left = balanced(leaf, leaves / 2, node);
+    let right = balanced(leaf, leaves - leaves / 2, node);
+    [&left[..], &right, node].concat()
 }
 
-fn flip_bit(random: &mut Random, bytes: &mut [u8]) {
-    let at = random.below(bytes.len());
-    bytes[at] ^= 1 << random.below(8);
-}
-
-/// Gives some of the exits a level that their traps may not reach.
-pub fn set_random_levels(random: &mut Random, bytes: &mut [u8]) {
-    for node in bytes.chunks_exact_mut(2) {
-        if node[0] == 4 && random.one_in(2) {
-            node[1] = *random.pick(&[0, 1, 2, 5, 31, 32, 63, 255]);
-        }
-    }
-}
-
-/// Lets some loop bodies end at once.
-pub fn pauses_to_nothing(random: &mut Random, bytes: &mut [u8]) {
-    for node in bytes.chunks_exact_mut(2) {
-        if node[0] == 2 && random.one_in(2) {
-            node[0] = 1;
-        }
-    }
+/// A program with about the longest listing: exits from 32 traps, in a loop,
+/// so that nearly all sets reach code 33.
+pub fn longest_listing() -> Vec<u8> {
+    let mut table = balanced(&[4, 31], 494, &[10, 0]);
+    table.extend([11, 0].repeat(32));
+    table.extend([2, 0, 10, 0, 8, 0]);
+    table
 }
