@@ -1,0 +1,141 @@
+//! The calls that are measured, with the buffers they are lent.
+
+use std::hint::black_box;
+
+use compare::instant::SIGNALS;
+use compare::support::calls::{Calls, COMPARE, FIGURES};
+
+use crate::programs::{Shape, SHAPES};
+
+pub const SIZES: [usize; 4] = [16, 64, 256, 1024];
+
+#[derive(Clone, Copy, PartialEq, Eq)]
+pub enum Call {
+    Analyse,
+    Start,
+    Resume,
+}
+
+impl Call {
+    pub const ALL: [Call; 3] = [Call::Analyse, Call::Start, Call::Resume];
+
+    pub fn name(self) -> &'static str {
+        match self {
+            Call::Analyse => "analyse",
+            Call::Start => "start",
+            Call::Resume => "resume",
+        }
+    }
+
+    /// What the cost of a call is shared among.
+    pub fn units(self) -> &'static str {
+        match self {
+            Call::Analyse => "nodes",
+            Call::Start | Call::Resume => "entries",
+        }
+    }
+
+    pub fn each(self) -> &'static str {
+        match self {
+            Call::Analyse => "a node",
+            Call::Start | Call::Resume => "an entry",
+        }
+    }
+}
+
+/// A call on a program. The buffers are lent to every repetition anew.
+#[derive(Clone, PartialEq, Eq)]
+pub struct Case {
+    pub call: Call,
+    pub shape: &'static str,
+    pub nodes: usize,
+    table: Vec<u8>,
+    answers: Vec<u8>,
+    start_sets: Vec<u64>,
+    any_sets: Vec<u64>,
+    contexts: Vec<u64>,
+    marks: Vec<u8>,
+    state: Vec<u8>,
+    emissions: Vec<u8>,
+    answer: Vec<u64>,
+}
+
+pub fn all() -> impl Iterator<Item = Case> {
+    let shapes = Call::ALL
+        .into_iter()
+        .flat_map(|call| SHAPES.iter().map(move |shape| (call, shape)));
+    shapes.flat_map(|(call, shape)| SIZES.map(|nodes| Case::new(call, shape, nodes)))
+}
+
+impl Case {
+    fn new(call: Call, shape: &Shape, nodes: usize) -> Case {
+        let mut case = Case {
+            call: Call::Start,
+            shape: shape.name,
+            nodes,
+            table: shape.program(nodes),
+            // Enough for all, and all absent.
+            answers: vec![0; 4 * nodes],
+            start_sets: vec![0; nodes],
+            any_sets: vec![0; nodes],
+            contexts: vec![0; nodes],
+            marks: vec![0; nodes],
+            state: vec![0; nodes],
+            emissions: vec![0; SIGNALS],
+            answer: vec![0; FIGURES],
+        };
+        // A resumption is measured from the state that the start leaves.
+        assert_eq!(case.run(&COMPARE), 0, "{} is refused", case.name());
+        case.call = call;
+        case
+    }
+
+    pub fn name(&self) -> String {
+        format!("{}/{}/{}", self.call.name(), self.shape, self.nodes)
+    }
+
+    /// Makes the call once, and hands back the number returned.
+    pub fn run(&mut self, calls: &Calls) -> u32 {
+        let table = black_box(&self.table[..]);
+        let instant = match self.call {
+            Call::Analyse => {
+                return (calls.analyse)(
+                    table,
+                    &mut self.start_sets,
+                    &mut self.any_sets,
+                    &mut self.contexts,
+                    &mut self.marks,
+                    &mut self.answer,
+                )
+            }
+            Call::Start => calls.start,
+            Call::Resume => calls.resume,
+        };
+        instant(
+            table,
+            &self.answers,
+            &mut self.state,
+            &mut self.emissions,
+            &mut self.answer,
+        )
+    }
+
+    /// Sees that both sides do the same, and that a repetition does it again.
+    pub fn check(&self, ours: &Calls) {
+        let mut once = self.clone();
+        assert_eq!(once.run(&COMPARE), 0, "{}", self.name());
+        let mut again = once.clone();
+        assert_eq!(again.run(ours), 0, "{}", self.name());
+        assert!(again == once, "{}: the two sides differ", self.name());
+    }
+
+    /// The nodes of an analysis or the entries of an instant.
+    pub fn units(&self) -> usize {
+        let mut case = self.clone();
+        case.run(&COMPARE);
+        match self.call {
+            Call::Analyse => case.answer[0] as usize,
+            Call::Start | Call::Resume => case.answer[2] as usize,
+        }
+    }
+}

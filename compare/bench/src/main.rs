@@ -1,0 +1,85 @@
+//! Measures the proved code's calls beside compare's, on the same inputs.
+//!
+//! Usage:
+//!
+//! ```text
+//! bench [--quick] [--markdown FILE]    both sides, all cases
+//! bench --list                         each case with its nodes or entries
+//! bench --one CASE SIDE TIMES          one case on one side, ours or compare
+//! ```
+//!
+//! The last is for tools that count instructions; see `instructions.sh`.
+
+use std::process::ExitCode;
+
+use cases::Case;
+use compare::support::calls::{Calls, COMPARE};
+use compare::support::numbers;
+use ours::OURS;
+use report::Line;
+
+mod cases;
+mod measure;
+mod programs;
+mod report;
+
+fn main() -> ExitCode {
+    match run(std::env::args().skip(1)) {
+        Ok(()) => ExitCode::SUCCESS,
+        Err(message) => {
+            eprintln!("bench: {message}");
+            ExitCode::FAILURE
+        }
+    }
+}
+
+fn run(mut arguments: impl Iterator<Item = String>) -> Result<(), String> {
+    let mut effort = measure::WHOLE;
+    let mut markdown = None;
+    while let Some(argument) = arguments.next() {
+        match argument.as_str() {
+            "--list" => {
+                list();
+                return Ok(());
+            }
+            "--one" => return one(arguments),
+            "--quick" => effort = measure::QUICK,
+            "--markdown" => markdown = Some(arguments.next().ok_or("--markdown needs a file")?),
+            _ => return Err(format!("unknown argument {argument}")),
+        }
+    }
+    let cases: Vec<Case> = cases::all().collect();
+    cases.iter().for_each(|case| case.check(&OURS));
+    let times = measure::measure(&cases, &OURS, &effort);
+    let lines: Vec<Line> = cases.iter().zip(times).map(Line::new).collect();
+    let tables = report::tables(&lines);
+    for table in &tables {
+        println!("{}", table.plain());
+    }
+    match markdown {
+        Some(file) => report::write_markdown(&file, &tables),
+        None => Ok(()),
+    }
+}
+
+fn list() {
+    for case in cases::all() {
+        println!("{} {}", case.name(), case.units());
+    }
+}
+
+fn one(mut arguments: impl Iterator<Item = String>) -> Result<(), String> {
+    let name = arguments.next().ok_or("--one needs a case")?;
+    let side = arguments.next().ok_or("--one needs a side")?;
+    let times = numbers::read("--one", arguments.next())?;
+    let calls: Calls = match side.as_str() {
+        "ours" => OURS,
+        "compare" => COMPARE,
+        _ => return Err(format!("unknown side {side}")),
+    };
+    let mut case = cases::all()
+        .find(|case| case.name() == name)
+        .ok_or(format!("unknown case {name}"))?;
+    measure::repeat(&mut case, &calls, times);
+    Ok(())
+}

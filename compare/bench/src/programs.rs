@@ -1,0 +1,132 @@
+//! Programs of an exact number of nodes, in several shapes.
+//!
+//! Started, each enters at least half of its nodes and pauses. Resumed with all
+//! signals absent, each ends its pauses, starts the bodies of its loops again
+//! and pauses where it paused before, so that the call can be repeated.
+
+use compare::support::programs::balanced;
+
+pub struct Shape {
+    pub name: &'static str,
+    /// A program of so many nodes, at least 16.
+    part: fn(usize) -> Vec<u8>,
+    /// A larger program is made of parts side by side.
+    most_nodes: usize,
+}
+
+pub const SHAPES: [Shape; 5] = [
+    Shape {
+        name: "deep",
+        part: deep,
+        most_nodes: 256,
+    },
+    Shape {
+        name: "wide",
+        part: wide,
+        most_nodes: 1024,
+    },
+    Shape {
+        name: "traps",
+        part: traps,
+        most_nodes: 100,
+    },
+    Shape {
+        name: "left",
+        part: left_sequences,
+        most_nodes: 256,
+    },
+    Shape {
+        name: "right",
+        part: right_sequences,
+        most_nodes: 256,
+    },
+];
+
+impl Shape {
+    pub fn program(&self, nodes: usize) -> Vec<u8> {
+        if nodes <= self.most_nodes {
+            return (self.part)(nodes);
+        }
+        let left = (nodes - 1) / 2;
+        let right = nodes - 1 - left;
+        [&self.program(left)[..], &self.program(right), PARALLEL].concat()
+    }
+}
+
+const PAUSE: &[u8] = &[2, 0];
+const EMIT: &[u8] = &[3, 1];
+const SIGNAL: &[u8] = &[5, 2];
+const PRESENT: &[u8] = &[6, 3];
+const SUSPEND: &[u8] = &[7, 4];
+const LOOP: &[u8] = &[8, 0];
+const SEQUENCE: &[u8] = &[9, 0];
+const PARALLEL: &[u8] = &[10, 0];
+const TRAP: &[u8] = &[11, 0];
+
+/// Signals and suspends by turns, as deep as there are nodes.
+fn deep(nodes: usize) -> Vec<u8> {
+    let mut table = [PAUSE, EMIT, SEQUENCE, EMIT, SEQUENCE].concat();
+    while table.len() / 2 + 1 < nodes {
+        let is_even = table.len() / 2 % 2 == 0;
+        table.extend(if is_even { SUSPEND } else { SIGNAL });
+    }
+    table.extend(LOOP);
+    table
+}
+
+/// A balanced tree of parallels; at its leaves loops of an emit and a pause.
+fn wide(nodes: usize) -> Vec<u8> {
+    let leaf = [EMIT, PAUSE, SEQUENCE, LOOP].concat();
+    filled_up(balanced(&leaf, (nodes + 1) / 5, PARALLEL), nodes)
+}
+
+/// Traps around each other, in each a choice between an exit and the next. A
+/// pause beside them keeps the loop from ending at once.
+fn traps(nodes: usize) -> Vec<u8> {
+    let count = (nodes - 4) / 3;
+    let mut exits = Vec::new();
+    let mut choices = PAUSE.to_vec();
+    for around in 1..=count {
+        // The exit of the outermost trap comes first. Each goes half way out.
+        exits.extend([4, (around / 2) as u8]);
+        choices.extend([PRESENT, TRAP].concat());
+    }
+    let body = [&exits[..], &choices, PAUSE, PARALLEL, LOOP].concat();
+    filled_up(body, nodes)
+}
+
+/// ((a; b); c); d and so on.
+fn left_sequences(nodes: usize) -> Vec<u8> {
+    let mut table = Vec::new();
+    for (at, leaf) in leaves(nodes / 2).iter().enumerate() {
+        table.extend_from_slice(leaf);
+        if at > 0 {
+            table.extend(SEQUENCE);
+        }
+    }
+    table.extend(LOOP);
+    filled_up(table, nodes)
+}
+
+/// a; (b; (c; d)) and so on.
+fn right_sequences(nodes: usize) -> Vec<u8> {
+    let leaves = leaves(nodes / 2);
+    let sequences = SEQUENCE.repeat(leaves.len() - 1);
+    let table = [&leaves.concat()[..], &sequences, LOOP].concat();
+    filled_up(table, nodes)
+}
+
+/// Emits with a pause in the middle.
+fn leaves(count: usize) -> Vec<&'static [u8]> {
+    let mut leaves = vec![EMIT; count];
+    leaves[count / 2] = PAUSE;
+    leaves
+}
+
+/// With signals around it, up to the number of nodes.
+fn filled_up(mut table: Vec<u8>, nodes: usize) -> Vec<u8> {
+    while table.len() / 2 < nodes {
+        table.extend(SIGNAL);
+    }
+    table
+}

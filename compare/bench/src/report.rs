@@ -1,0 +1,132 @@
+//! The figures as tables, for the screen and for Markdown.
+
+use std::fs;
+
+use crate::cases::{Call, Case};
+use crate::measure::Times;
+
+/// One case with its times.
+pub struct Line {
+    call: Call,
+    shape: &'static str,
+    nodes: usize,
+    units: usize,
+    times: Times,
+}
+
+impl Line {
+    pub fn new((case, times): (&Case, Times)) -> Line {
+        Line {
+            call: case.call,
+            shape: case.shape,
+            nodes: case.nodes,
+            units: case.units(),
+            times,
+        }
+    }
+
+    fn ratio(&self) -> f64 {
+        self.times.ours / self.times.theirs
+    }
+}
+
+pub struct Table {
+    title: String,
+    rows: Vec<Vec<String>>,
+}
+
+/// A table for each call, then the growth from 256 to 1,024 nodes.
+pub fn tables(lines: &[Line]) -> Vec<Table> {
+    let mut tables: Vec<Table> = Call::ALL.map(|call| times(lines, call)).into();
+    tables.push(growth(lines));
+    tables
+}
+
+fn times(lines: &[Line], call: Call) -> Table {
+    let mut rows = vec![vec![
+        "shape".to_string(),
+        "nodes".to_string(),
+        call.units().to_string(),
+        "ours, ns".to_string(),
+        "compare, ns".to_string(),
+        "ours/compare".to_string(),
+        format!("ours, ns {}", call.each()),
+        format!("compare, ns {}", call.each()),
+    ]];
+    let of_call: Vec<&Line> = lines.iter().filter(|line| line.call == call).collect();
+    for line in &of_call {
+        let units = line.units as f64;
+        rows.push(vec![
+            line.shape.to_string(),
+            line.nodes.to_string(),
+            line.units.to_string(),
+            format!("{:.0}", line.times.ours),
+            format!("{:.0}", line.times.theirs),
+            format!("{:.2}", line.ratio()),
+            format!("{:.1}", line.times.ours / units),
+            format!("{:.1}", line.times.theirs / units),
+        ]);
+    }
+    let logarithms: f64 = of_call.iter().map(|line| line.ratio().ln()).sum();
+    let mean = (logarithms / of_call.len() as f64).exp();
+    Table {
+        title: format!("{} (geometric mean of the ratios: {mean:.2})", call.name()),
+        rows,
+    }
+}
+
+fn growth(lines: &[Line]) -> Table {
+    let mut rows = vec![["call", "shape", "ours", "compare"]
+        .map(String::from)
+        .into()];
+    for large in lines.iter().filter(|line| line.nodes == 1024) {
+        let small = lines
+            .iter()
+            .find(|line| line.call == large.call && line.shape == large.shape && line.nodes == 256)
+            .expect("every shape in every size");
+        rows.push(vec![
+            large.call.name().to_string(),
+            large.shape.to_string(),
+            format!("{:.2}", large.times.ours / small.times.ours),
+            format!("{:.2}", large.times.theirs / small.times.theirs),
+        ]);
+    }
+    Table {
+        title: "growth of the cost from 256 to 1,024 nodes (4 is linear)".to_string(),
+        rows,
+    }
+}
+
+impl Table {
+    /// Columns aligned to the right.
+    pub fn plain(&self) -> String {
+        let columns = self.rows[0].len();
+        let widths: Vec<usize> = (0..columns)
+            .map(|at| self.rows.iter().map(|row| row[at].len()).max().unwrap_or(0))
+            .collect();
+        let mut text = format!("{}\n", self.title);
+        for row in &self.rows {
+            for (cell, width) in row.iter().zip(&widths) {
+                text += &format!("  {cell:>width$}");
+            }
+            text.push('\n');
+        }
+        text
+    }
+
+    fn markdown(&self) -> String {
+        let mut text = format!("**{}**\n\n", self.title);
+        for (at, row) in self.rows.iter().enumerate() {
+            text += &format!("| {} |\n", row.join(" | "));
+            if at == 0 {
+                text += &format!("|{}\n", "---:|".repeat(row.len()));
+            }
+        }
+        text
+    }
+}
+
+pub fn write_markdown(file: &str, tables: &[Table]) -> Result<(), String> {
+    let texts: Vec<String> = tables.iter().map(Table::markdown).collect();
+    fs::write(file, texts.join("\n")).map_err(|error| format!("cannot write {file}: {error}"))
+}

@@ -1,0 +1,143 @@
+//! Every table of few nodes over a small alphabet; for an accepted one every
+//! state of bytes 0 and 1, and every list of answers that it can take.
+
+use compare::support::cases::Call;
+use compare::support::random::Random;
+
+use crate::tally::{Difference, Tally};
+use crate::trials::{Analysis, Instant, Rendering};
+
+/// All kinds, with the number of their children; an emit of the first and of
+/// the last signal; exits to the first three traps.
+const STATEMENTS: [([u8; 2], usize); 14] = [
+    ([1, 0], 0),
+    ([2, 0], 0),
+    ([3, 0], 0),
+    ([3, 255], 0),
+    ([4, 0], 0),
+    ([4, 1], 0),
+    ([4, 2], 0),
+    ([5, 3], 1),
+    ([6, 3], 2),
+    ([7, 3], 1),
+    ([8, 0], 1),
+    ([9, 0], 2),
+    ([10, 0], 2),
+    ([11, 0], 1),
+];
+
+/// An unknown kind, and a field that is not 0.
+const FAULTS: [[u8; 2]; 2] = [[12, 0], [9, 1]];
+
+pub const ALL: &str = "1,118,481 tables: all of up to 5 nodes over 16 letters";
+const MOST_NODES: usize = 5;
+
+pub const WHOLE: &str = "224,728 tables: all of 6 nodes over 14 letters that are one statement";
+const WHOLE_NODES: usize = 6;
+
+/// Long enough for the listing of so few nodes.
+const TEXT: usize = 160;
+
+/// Bytes that say present.
+const PRESENT: [u8; 3] = [1, 2, 255];
+
+pub fn all(tally: &mut Tally, _random: &mut Random) -> Result<(), Difference> {
+    all_from(&mut Vec::new(), &mut |table| every_call(tally, table))
+}
+
+pub fn whole(tally: &mut Tally, _random: &mut Random) -> Result<(), Difference> {
+    whole_from(&mut Vec::new(), 0, &mut |table| every_call(tally, table))
+}
+
+type Visit<'a> = &'a mut dyn FnMut(&[u8]) -> Result<(), Difference>;
+
+/// The table itself, and all that begin with it.
+fn all_from(table: &mut Vec<u8>, visit: Visit) -> Result<(), Difference> {
+    visit(table)?;
+    if table.len() == 2 * MOST_NODES {
+        return Ok(());
+    }
+    let statements = STATEMENTS.iter().map(|(letter, _)| letter);
+    for letter in statements.chain(&FAULTS) {
+        table.extend(letter);
+        all_from(table, visit)?;
+        table.truncate(table.len() - 2);
+    }
+    Ok(())
+}
+
+/// All tables that begin with this one, of which so many statements are unused,
+/// and in which one is left at the end.
+fn whole_from(table: &mut Vec<u8>, unused: usize, visit: Visit) -> Result<(), Difference> {
+    let missing = WHOLE_NODES - table.len() / 2;
+    if missing == 0 {
+        return visit(table);
+    }
+    for (letter, children) in STATEMENTS {
+        // Each node still to come can make one of two.
+        if children <= unused && unused + 1 - children <= missing {
+            table.extend(letter);
+            whole_from(table, unused + 1 - children, visit)?;
+            table.truncate(table.len() - 2);
+        }
+    }
+    Ok(())
+}
+
+fn every_call(tally: &mut Tally, table: &[u8]) -> Result<(), Difference> {
+    let size = table.len() / 2;
+    let is_accepted = tally.compare(&Analysis::new(table))? == 0;
+    tally.compare(&Rendering::new(table, TEXT))?;
+    every_answer_list(tally, Call::Start, table, &vec![9; size])?;
+    // A refused table is refused from any state.
+    let states = if is_accepted { 1 << size } else { 1 };
+    for subset in 0..states {
+        let state: Vec<u8> = (0..size).map(|node| subset >> node & 1).collect();
+        every_answer_list(tally, Call::Resume, table, &state)?;
+    }
+    Ok(())
+}
+
+/// Where an answer is missing, both answers are tried.
+fn every_answer_list(
+    tally: &mut Tally,
+    call: Call,
+    table: &[u8],
+    state: &[u8],
+) -> Result<(), Difference> {
+    let mut lists = vec![Vec::new()];
+    while let Some(answers) = lists.pop() {
+        let returned = tally.compare(&Instant::new(call, table, &answers, state))?;
+        if returned == 13 {
+            let present = PRESENT[answers.len() % PRESENT.len()];
+            lists.push([&answers[..], &[0]].concat());
+            lists.push([&answers[..], &[present]].concat());
+        }
+    }
+    Ok(())
+}
+
+#[cfg(test)]
+mod tests {
+    use super::*;
+
+    #[test]
+    fn the_names_give_the_numbers_of_tables() {
+        let mut tables = 0;
+        let mut count = |_: &[u8]| {
+            tables += 1;
+            Ok(())
+        };
+        all_from(&mut Vec::new(), &mut count).expect("nothing is compared");
+        assert_eq!(tables, 1_118_481);
+
+        let mut tables = 0;
+        let mut count = |table: &[u8]| {
+            tables += 1;
+            assert!(compare::table::read(table).is_ok());
+            Ok(())
+        };
+        whole_from(&mut Vec::new(), 0, &mut count).expect("nothing is compared");
+        assert_eq!(tables, 224_728);
+    }
+}

@@ -1,0 +1,70 @@
+//! Buffers too short, exact, and longer than needed.
+
+use compare::listing;
+use compare::support::damage::damaged;
+use compare::support::families;
+use compare::support::programs::{accepted, SHAPES};
+use compare::support::random::Random;
+
+use crate::guarded::Guarded;
+use crate::tally::{Difference, Tally};
+use crate::trials::{Analysis, Instant, Rendering};
+
+/// In a text of this length any listing fits.
+const ANY_LISTING: usize = 67_584;
+
+const TABLES: usize = 5000;
+
+pub fn run(tally: &mut Tally, random: &mut Random) -> Result<(), Difference> {
+    for number in 0..TABLES {
+        let nodes = *random.pick(&[1, 4, 12, 60]);
+        let mut table = accepted(random, &SHAPES[number % SHAPES.len()], nodes);
+        if random.one_in(3) {
+            table = damaged(random, &table);
+        }
+        analyses(tally, random, &table)?;
+        renderings(tally, &table)?;
+    }
+    for (at, case) in families::lengths(random, 1800).iter().enumerate() {
+        let mut trial = Instant::of(case);
+        tally.compare(&trial)?;
+        trial.answer = Guarded::untouched(at % 8);
+        tally.compare(&trial)?;
+    }
+    Ok(())
+}
+
+/// One buffer of another length than needed, or all of them.
+fn analyses(tally: &mut Tally, random: &mut Random, table: &[u8]) -> Result<(), Difference> {
+    let size = table.len() / 2;
+    let others = [0, size.saturating_sub(1), size, size + 1, size + 9];
+    for buffer in 0..4 {
+        for other in others {
+            let mut lengths = [size; 4];
+            lengths[buffer] = other;
+            tally.compare(&Analysis::with_lengths(table, lengths))?;
+        }
+    }
+    for answer_length in 0..6 {
+        let lengths = std::array::from_fn(|_| *random.pick(&others));
+        let mut trial = Analysis::with_lengths(table, lengths);
+        trial.answer = Guarded::untouched(answer_length);
+        tally.compare(&trial)?;
+    }
+    Ok(())
+}
+
+fn renderings(tally: &mut Tally, table: &[u8]) -> Result<(), Difference> {
+    let exact = listing(table).len();
+    for text_length in [0, 1, exact - 1, exact, exact + 1, exact + 9, ANY_LISTING] {
+        tally.compare(&Rendering::new(table, text_length))?;
+    }
+    for answer_length in 0..6 {
+        for text_length in [exact - 1, exact + 1] {
+            let mut trial = Rendering::new(table, text_length);
+            trial.answer = Guarded::untouched(answer_length);
+            tally.compare(&trial)?;
+        }
+    }
+    Ok(())
+}

@@ -1,0 +1,89 @@
+//! The groups of calls that are tried.
+
+use compare::support::cases::Case;
+use compare::support::random::Random;
+
+use crate::tally::{Difference, Tally};
+use crate::trials::Instant;
+
+mod exhaustive;
+mod instants;
+mod lengths;
+mod tables;
+
+pub struct Group {
+    pub name: &'static str,
+    pub run: fn(&mut Tally, &mut Random) -> Result<(), Difference>,
+    /// Whether other random numbers give other calls.
+    pub random: bool,
+}
+
+pub const GROUPS: [Group; 12] = [
+    Group {
+        name: "Table W and the edges of document 01",
+        run: tables::edges,
+        random: false,
+    },
+    Group {
+        name: exhaustive::ALL,
+        run: exhaustive::all,
+        random: false,
+    },
+    Group {
+        name: exhaustive::WHOLE,
+        run: exhaustive::whole,
+        random: false,
+    },
+    Group {
+        name: "analysis and listing of accepted programs up to 1,024 nodes",
+        run: tables::accepted_programs,
+        random: true,
+    },
+    Group {
+        name: "analysis and listing of damaged tables",
+        run: tables::damaged,
+        random: true,
+    },
+    Group {
+        name: "instants of damaged tables",
+        run: instants::damaged,
+        random: true,
+    },
+    Group {
+        name: "all admitted states of small programs",
+        run: instants::small,
+        random: true,
+    },
+    Group {
+        name: "instants of programs up to 1,024 nodes",
+        run: instants::larger,
+        random: true,
+    },
+    Group {
+        name: "instants with the most entries",
+        run: instants::ladders,
+        random: true,
+    },
+    Group {
+        name: "states that are not admitted",
+        run: instants::inadmissible,
+        random: true,
+    },
+    Group {
+        name: "starved, exact and overlong answers",
+        run: instants::answer_counts,
+        random: true,
+    },
+    Group {
+        name: "lengths of buffers",
+        run: lengths::run,
+        random: true,
+    },
+];
+
+fn compare_all(tally: &mut Tally, cases: &[Case]) -> Result<(), Difference> {
+    for case in cases {
+        tally.compare(&Instant::of(case))?;
+    }
+    Ok(())
+}

@@ -1,0 +1,70 @@
+//! Lent buffers between margins that no call may touch.
+
+const MARGIN: usize = 8;
+
+/// A buffer, in the middle of its cells.
+#[derive(Clone, PartialEq, Eq)]
+pub struct Guarded<T> {
+    cells: Vec<T>,
+}
+
+pub trait Cell: Copy {
+    /// What stands in a cell that has not been written. No call writes such a
+    /// value, so that a cell written by mistake is seen.
+    fn untouched(at: usize) -> Self;
+
+    fn hex(self) -> String;
+}
+
+/// Calls write flags and the characters of a listing.
+impl Cell for u8 {
+    fn untouched(at: usize) -> u8 {
+        0x80 | at as u8
+    }
+
+    fn hex(self) -> String {
+        format!("{self:02x}")
+    }
+}
+
+/// Calls write small numbers and sets of codes up to 33.
+impl Cell for u64 {
+    fn untouched(at: usize) -> u64 {
+        u64::MAX - at as u64
+    }
+
+    fn hex(self) -> String {
+        format!("{self:016x} ")
+    }
+}
+
+impl<T: Cell> Guarded<T> {
+    pub fn with(content: &[T]) -> Guarded<T> {
+        Guarded::around(content.iter().copied())
+    }
+
+    pub fn untouched(length: usize) -> Guarded<T> {
+        Guarded::around((0..length).map(T::untouched))
+    }
+
+    fn around(content: impl ExactSizeIterator<Item = T>) -> Guarded<T> {
+        let mut cells = Vec::with_capacity(content.len() + 2 * MARGIN);
+        cells.extend((0..MARGIN).map(T::untouched));
+        cells.extend(content);
+        cells.extend((0..MARGIN).map(T::untouched));
+        Guarded { cells }
+    }
+
+    pub fn lent(&mut self) -> &mut [T] {
+        let end = self.cells.len() - MARGIN;
+        &mut self.cells[MARGIN..end]
+    }
+
+    /// All cells in hexadecimal, with a bar where a margin begins or ends.
+    pub fn hex(&self) -> String {
+        let text = |cells: &[T]| -> String { cells.iter().map(|cell| cell.hex()).collect() };
+        let (before, rest) = self.cells.split_at(MARGIN);
+        let (lent, after) = rest.split_at(rest.len() - MARGIN);
+        format!("{}|{}|{}", text(before), text(lent), text(after))
+    }
+}

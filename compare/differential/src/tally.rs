@@ -1,0 +1,65 @@
+//! The comparison of one call, and the count of comparisons.
+
+use std::fmt::{self, Display, Formatter};
+
+use compare::support::calls::{Calls, COMPARE};
+
+use crate::trials::Trial;
+
+/// Compares an implementation with `compare` and counts how often it did.
+pub struct Tally {
+    ours: Calls,
+    pub comparisons: u64,
+}
+
+/// A call on which the two sides differ, written down in full.
+#[derive(Debug)]
+pub struct Difference(String);
+
+impl Display for Difference {
+    fn fmt(&self, formatter: &mut Formatter) -> fmt::Result {
+        formatter.write_str(&self.0)
+    }
+}
+
+impl Tally {
+    pub fn new(ours: Calls) -> Tally {
+        Tally {
+            ours,
+            comparisons: 0,
+        }
+    }
+
+    /// Makes the call on both sides. If all agrees, hands back the number that
+    /// both returned.
+    pub fn compare(&mut self, trial: &impl Trial) -> Result<u32, Difference> {
+        let mut ours = trial.clone();
+        let mut theirs = trial.clone();
+        let our_number = ours.call(&self.ours);
+        let their_number = theirs.call(&COMPARE);
+        self.comparisons += 1;
+        if our_number == their_number && ours == theirs {
+            return Ok(our_number);
+        }
+        let mut report = format!(
+            "difference in {}: ours returns {our_number}, compare {their_number}\n",
+            trial.name()
+        );
+        let sides = ours.buffers().into_iter().zip(theirs.buffers());
+        for ((name, before), ((_, ours), (_, theirs))) in trial.buffers().into_iter().zip(sides) {
+            report += &describe(name, &before, &ours, &theirs);
+        }
+        Err(Difference(report))
+    }
+}
+
+/// A buffer before the call, and after it where it was written.
+fn describe(name: &str, before: &str, ours: &str, theirs: &str) -> String {
+    if ours == before && theirs == before {
+        return format!("  {name}: {before}\n");
+    }
+    let verdict = if ours == theirs { "agrees" } else { "differs" };
+    format!(
+        "  {name}, {verdict}\n    before:  {before}\n    ours:    {ours}\n    compare: {theirs}\n"
+    )
+}

@@ -1,0 +1,172 @@
+//! A call with all that it is lent, ready to be made on either side.
+
+use compare::instant::SIGNALS;
+use compare::support::calls::{Calls, FIGURES};
+use compare::support::cases::{Call, Case};
+
+use crate::guarded::Guarded;
+
+pub trait Trial: Clone + PartialEq {
+    fn name(&self) -> &'static str;
+
+    /// Makes the call on the buffers, and hands back the number returned.
+    fn call(&mut self, calls: &Calls) -> u32;
+
+    /// Each buffer by its name, in hexadecimal.
+    fn buffers(&self) -> Vec<(&'static str, String)>;
+}
+
+#[derive(Clone, PartialEq)]
+pub struct Analysis {
+    pub table: Guarded<u8>,
+    pub start_sets: Guarded<u64>,
+    pub any_sets: Guarded<u64>,
+    pub contexts: Guarded<u64>,
+    pub marks: Guarded<u8>,
+    pub answer: Guarded<u64>,
+}
+
+impl Analysis {
+    /// With buffers of exactly the lengths needed.
+    pub fn new(table: &[u8]) -> Analysis {
+        Analysis::with_lengths(table, [table.len() / 2; 4])
+    }
+
+    /// The lengths of K, A, S and marks.
+    pub fn with_lengths(table: &[u8], lengths: [usize; 4]) -> Analysis {
+        Analysis {
+            table: Guarded::with(table),
+            start_sets: Guarded::untouched(lengths[0]),
+            any_sets: Guarded::untouched(lengths[1]),
+            contexts: Guarded::untouched(lengths[2]),
+            marks: Guarded::untouched(lengths[3]),
+            answer: Guarded::untouched(FIGURES),
+        }
+    }
+}
+
+impl Trial for Analysis {
+    fn name(&self) -> &'static str {
+        "analyse"
+    }
+
+    fn call(&mut self, calls: &Calls) -> u32 {
+        (calls.analyse)(
+            self.table.lent(),
+            self.start_sets.lent(),
+            self.any_sets.lent(),
+            self.contexts.lent(),
+            self.marks.lent(),
+            self.answer.lent(),
+        )
+    }
+
+    fn buffers(&self) -> Vec<(&'static str, String)> {
+        vec![
+            ("table", self.table.hex()),
+            ("start sets", self.start_sets.hex()),
+            ("any-instant sets", self.any_sets.hex()),
+            ("contexts", self.contexts.hex()),
+            ("marks", self.marks.hex()),
+            ("answer", self.answer.hex()),
+        ]
+    }
+}
+
+#[derive(Clone, PartialEq)]
+pub struct Instant {
+    call: Call,
+    pub table: Guarded<u8>,
+    pub answers: Guarded<u8>,
+    pub state: Guarded<u8>,
+    pub emissions: Guarded<u8>,
+    pub answer: Guarded<u64>,
+}
+
+impl Instant {
+    /// With an emission buffer of exactly the length needed.
+    pub fn new(call: Call, table: &[u8], answers: &[u8], state: &[u8]) -> Instant {
+        Instant {
+            call,
+            table: Guarded::with(table),
+            answers: Guarded::with(answers),
+            state: Guarded::with(state),
+            emissions: Guarded::untouched(SIGNALS),
+            answer: Guarded::untouched(FIGURES),
+        }
+    }
+
+    pub fn of(case: &Case) -> Instant {
+        let mut trial = Instant::new(case.call, &case.table, &case.answers, &case.state);
+        trial.emissions = Guarded::with(&case.emissions());
+        trial
+    }
+}
+
+impl Trial for Instant {
+    fn name(&self) -> &'static str {
+        match self.call {
+            Call::Start => "start",
+            Call::Resume => "resume",
+        }
+    }
+
+    fn call(&mut self, calls: &Calls) -> u32 {
+        let call = match self.call {
+            Call::Start => calls.start,
+            Call::Resume => calls.resume,
+        };
+        call(
+            self.table.lent(),
+            self.answers.lent(),
+            self.state.lent(),
+            self.emissions.lent(),
+            self.answer.lent(),
+        )
+    }
+
+    fn buffers(&self) -> Vec<(&'static str, String)> {
+        vec![
+            ("table", self.table.hex()),
+            ("answers", self.answers.hex()),
+            ("state", self.state.hex()),
+            ("emissions", self.emissions.hex()),
+            ("answer", self.answer.hex()),
+        ]
+    }
+}
+
+#[derive(Clone, PartialEq)]
+pub struct Rendering {
+    pub table: Guarded<u8>,
+    pub text: Guarded<u8>,
+    pub answer: Guarded<u64>,
+}
+
+impl Rendering {
+    pub fn new(table: &[u8], text_length: usize) -> Rendering {
+        Rendering {
+            table: Guarded::with(table),
+            text: Guarded::untouched(text_length),
+            answer: Guarded::untouched(FIGURES),
+        }
+    }
+}
+
+impl Trial for Rendering {
+    fn name(&self) -> &'static str {
+        "render"
+    }
+
+    fn call(&mut self, calls: &Calls) -> u32 {
+        (calls.render)(self.table.lent(), self.text.lent(), self.answer.lent())
+    }
+
+    fn buffers(&self) -> Vec<(&'static str, String)> {
+        vec![
+            ("table", self.table.hex()),
+            ("text", self.text.hex()),
+            ("answer", self.answer.hex()),
+        ]
+    }
+}
