@@ -1,6 +1,6 @@
 -- `start_at` in its own terms: what each of its calls asks, and one law for each of its returns.
 use mathlib.Core.Path.{_≡_, refl, sym, ap, ap₂, _∙_}
-use mathlib.Core.Bool.{Bool, true, false, not, _&&_, cond}
+use mathlib.Core.Bool.{Bool, true, false, _&&_, cond, false≢true}
 use mathlib.Core.List.{List, [], _∷_}
 use Prim.Native.Nat.{ℕ, zero, suc, _+_, _-_, _*_, _<_, _≤_}
 use native.Mathlib.Numerals.{add-one}
@@ -8,23 +8,22 @@ use native.Mathlib.Omega.{arith}
 use lib.Dec.{eqb}
 use lib.ListN.{length, getD, drop, drop-of-length-le}
 use lib.Seq.{sets, drop-cons}
-use borrow.Author.Tests.{eqb-true, eqb-false, not-true, not-false, ne-eqb}
-use Rattle.codes.proofs.Bools.{left, right}
-use Rattle.esterel.specs.Statement.{Leaf, nothing, pause, emit, exit, Binary, present, sequence, parallel, Stmt, leaf, two, kind, field, size}
+use borrow.Author.Tests.{ne-eqb}
+use Rattle.esterel.specs.Statement.{Leaf, nothing, pause, emit, exit, Unary, Binary, present, sequence, parallel, Stmt, leaf, one, two, kind, field, size}
 use Rattle.esterel.specs.Instant.{Result, zeros, start}
-use Rattle.table.specs.Kinds.{kindOf, arityOf, isTrap, isSequence}
+use Rattle.table.specs.Kinds.{kindOf, arityOf, isTrap}
 use Rattle.table.specs.Program.{programOf}
 use Rattle.table.specs.declared.Kind.{Kind}
 use Rattle.table.proofs.Surveying.{few-nodes}
 use Rattle.table.proofs.View.{field-byte}
-use Rattle.instant.specs.Steps.{entriesOf, oneMore, catches, TrapLeft, besides, isPresent, leafOf, LeafRan}
+use Rattle.instant.specs.Steps.{entriesOf, takenAfter, oneMore, catchRan, catches, Left, both, isPresent, doneAfter, leafOf, LeafRan}
 use Rattle.instant.specs.Run.{stmtAt, firstAt, Runnable, Room, Clear, RanIs, starves, Started}
 use Rattle.instant.specs.declared.Ran.{Ran}
 use Rattle.instant.specs.declared.Ran.the-variants.{Closed, Starved}
 use Rattle.instant.proofs.Algebra.{Sized, entries-le, taken-le, held-length, em-length, held-behind}
-use Rattle.instant.proofs.Nodes.{spans, start-sized, start-few, Both}
+use Rattle.instant.proofs.Nodes.{spans, start-sized, start-few, Over, Both}
 use Rattle.instant.proofs.Views.{kind-is, leaf-of, has-last, one-of, two-of}
-use Rattle.instant.proofs.Starts.{start-as, sized-as, leaf-start, other-start, trap-start, then-start, else-start, stopped-start, starved-start, joined-start}
+use Rattle.instant.proofs.Starts.{start-as, sized-as, leaf-start, one-start, then-start, else-start, done-start, joined-start}
 
 leaf-is : (l : Leaf) → leafOf (kindOf (kind (leaf l))) (field (leaf l)) ≡ l
 unfolding kindOf
@@ -39,13 +38,17 @@ present-is (present g) p q e = (g, refl)
 present-is sequence p q e = (0, cc)
 present-is parallel p q e = (0, cc)
 
--- whether a sequence stops after its first child
-module _ (b : Bool) (c : ℕ) where
-  pub stops : (b && not (eqb c 0)) ≡ true → (b ≡ true) × (c ≡ 0 → ⊥)
-  stops e = (left b (not (eqb c 0)) e, eqb-false c 0 (not-true (eqb c 0) (right b e)))
+-- a first child after which a node goes on has closed
+pub closed-of : (k : Kind) (second : Bool) (x : Ran) → doneAfter k x second ≡ false → (c j l : ℕ) × (x ≡ Closed c j l)
+closed-of k second (Closed c j l) e = (c, j, l, refl)
+closed-of k second Starved e = absurd (false≢true (sym e))
 
-  pub goes-on : (b && not (eqb c 0)) ≡ false → b ≡ true → c ≡ 0
-  goes-on e z = eqb-true c 0 (not-false (eqb c 0) (rw z at e))
+-- a node with one child is left: in the statement's terms
+pub left-as : {t mid held′ : List ℕ} {node s : ℕ} {u : Unary} {p : Stmt} {k : Kind} {x r : Ran} → Over t node s u p → kindOf (kind (one u p)) ≡ k → Left k x (node - s) node mid held′ r → (r ≡ oneMore (cond (isTrap (kindOf (kind (one u p)))) (catchRan x) x)) × (held′ ≡ cond (isTrap (kindOf (kind (one u p))) && catches x) (sets mid (firstAt t node) (zeros (size p))) mid)
+left-as {t} {mid} {held′} {node} {s} {u} {p} {k} {x} v e l =
+    let at : node - s ≡ firstAt t node = omega (arith, v .ends, v .sized) in
+    let many : node - (node - s) ≡ size p = omega (arith, v .ends, v .sized) in
+    rw e (l .answer, l .state ∙ ap₂ (λ a b. cond (isTrap k && catches x) (sets mid a (zeros b)) mid) at many)
 
 -- the entries of a start are few
 pub few-entries : {t sizes answers h h′ e e′ : List ℕ} {r : Ran} (j k : ℕ) → Runnable t sizes → j < size (programOf t) → Started t answers h h′ e e′ j k r → entriesOf r ≤ 1024
@@ -71,11 +74,11 @@ module _ {t sizes answers held em : List ℕ} {node taken : ℕ} (ok : Runnable 
 
   -- the kind that the code has read, and the children that it counts
   module _ {k : Kind} {n : ℕ} (ek : k ≡ kindOf (getD t (2 * node) 0)) (en : n ≡ arityOf k) where
-    pub leaf-returns : {held′ em′ : List ℕ} {r : Ran} {fl : ℕ} → n ≡ 0 → fl ≡ getD t (2 * node + 1) 0 → LeafRan (leafOf k fl) node taken held held′ em em′ r → Started t answers held held′ em em′ node taken r
-    leaf-returns z ef o =
+    pub leaf-returns : {held′ em′ : List ℕ} {r : Ran} → n ≡ 0 → LeafRan (leafOf k (getD t (2 * node + 1) 0)) node taken held held′ em em′ r → Started t answers held held′ em em′ node taken r
+    leaf-returns z o =
         let (l, e) = leaf-of ok (room .within) ek en z in
         let first : firstAt t node ≡ node = omega (arith, ap size e) in
-        let is = ap₂ leafOf (sym (kind-is ok (room .within) ek en e)) (ef ∙ field-byte t (ok .surveyable .readable) node (room .within) ∙ ap field e) ∙ leaf-is l in
+        let is = ap₂ leafOf (sym (kind-is ok (room .within) ek en e)) (field-byte t (ok .surveyable .readable) node (room .within) ∙ ap field e) ∙ leaf-is l in
         start-as (sym first) (sym e) (drop taken answers) (leaf-start ok room free l e first (rw is at o))
 
     module _ {s : ℕ} (es : s ≡ getD sizes (node - 1) 0) where
@@ -85,23 +88,12 @@ module _ {t sizes answers held em : List ℕ} {node taken : ℕ} (ok : Runnable 
           let (u, p, v) = one-of ok (room .within) ek en es z in
           beneath (node - 1) taken (omega (arith, v .first)) (omega (arith, v .ends, v .some)) (room .lent)
 
-      pub other-returns : {held′ em′ : List ℕ} {r r′ : Ran} → n ≡ 1 → isTrap k ≡ false → Started t answers held held′ em em′ (node - 1) taken r → r′ ≡ oneMore r → Started t answers held held′ em em′ node taken r′
-      other-returns z tr o l =
+      pub child-returns : {mid held′ em′ : List ℕ} {x r : Ran} → n ≡ 1 → Started t answers held mid em em′ (node - 1) taken x → Left k x (node - s) node mid held′ r → Started t answers held held′ em em′ node taken r
+      child-returns z o l =
           let (u, p, v) = one-of ok (room .within) ek en es z in
-          rw l
-          (start-as refl (sym (v .is)) (drop taken answers)
-          (other-start ok room free u v (ap isTrap (kind-is ok (room .within) ek en (v .is)) ∙ tr) (start-as (v .first) (v .child) (drop taken answers) o)))
-
-      pub trap-returns : {mid held′ em′ : List ℕ} {r r′ : Ran} → n ≡ 1 → isTrap k ≡ true → Started t answers held mid em em′ (node - 1) taken r → TrapLeft r (node - s) node mid held′ r′ → Started t answers held held′ em em′ node taken r′
-      trap-returns {mid} {held′} {em′} {r} {r′} z tr o l =
-          let (u, p, v) = one-of ok (room .within) ek en es z in
-          let at : node - s ≡ firstAt t node = omega (arith, v .ends, v .sized) in
-          let many : node - (node - s) ≡ size p = omega (arith, v .ends, v .sized) in
-          let st : held′ ≡ cond (catches r) (sets mid (firstAt t node) (zeros (size p))) mid = l .state ∙ ap₂ (λ a b. cond (catches r) (sets mid a (zeros b)) mid) at many in
+          let (answer, state) = left-as v (kind-is ok (room .within) ek en (v .is)) l in
           let fits = sized-as (v .first) (v .child) (drop taken answers) (start-sized ok (node - 1) (omega (arith, v .ends, v .some, room .within)) (drop taken answers)) in
-          rw (l .answer)
-          (start-as refl (sym (v .is)) (drop taken answers)
-          (trap-start ok room free u v (ap isTrap (kind-is ok (room .within) ek en (v .is)) ∙ tr) st fits (start-as (v .first) (v .child) (drop taken answers) o)))
+          rw answer (start-as refl (sym (v .is)) (drop taken answers) (one-start ok room free u v state fits (start-as (v .first) (v .child) (drop taken answers) o)))
 
       -- with two
       module _ (z : n ≡ 0 → ⊥) (y : n ≡ 1 → ⊥) where
@@ -160,36 +152,31 @@ module _ {t sizes answers held em : List ℕ} {node taken : ℕ} (ok : Runnable 
 
         -- a sequence or a parallel, after its first child
         module _ (np : isPresent k ≡ false) {x : Ran} {mid emid : List ℕ} (o : Started t answers held mid em emid (node - 1 - s) taken x) where
-          pub left-starves : x ≡ Starved → Started t answers held mid em emid node taken Starved
-          left-starves e =
+          pub done-returns : {r : Ran} → doneAfter k x true ≡ true → r ≡ oneMore x → Started t answers held mid em emid node taken r
+          done-returns dn er =
               let (b, p, q, v) = two-of ok (room .within) ek en es z y in
-              start-as refl (sym (v .is)) (drop taken answers)
-              (starved-start ok room free b v (ap isPresent (kind-is ok (room .within) ek en (v .is)) ∙ np) (start-as (v .first) (v .left) (drop taken answers) (rw e at o)))
+              let e = kind-is ok (room .within) ek en (v .is) in
+              rw er
+              (start-as refl (sym (v .is)) (drop taken answers)
+              (done-start ok room free b x v (ap isPresent e ∙ np) (ap (λ i. doneAfter i x true) e ∙ dn) (first-fits b p q v (drop taken answers)) (start-as (v .first) (v .left) (drop taken answers) o)))
 
-          module _ {c j l : ℕ} (e : x ≡ Closed c j l) where
-            left-closed : Started t answers held mid em emid (node - 1 - s) taken (Closed c j l)
-            left-closed = rw e at o
-
-            pub stopped-returns : {r : Ran} → isSequence k ≡ true → (c ≡ 0 → ⊥) → r ≡ oneMore (Closed c j l) → Started t answers held mid em emid node taken r
-            stopped-returns sq go er =
-                let (b, p, q, v) = two-of ok (room .within) ek en es z y in
-                rw er
-                (start-as refl (sym (v .is)) (drop taken answers)
-                (stopped-start ok room free b v (ap isSequence (kind-is ok (room .within) ek en (v .is)) ∙ sq) go (first-fits b p q v (drop taken answers)) (start-as (v .first) (v .left) (drop taken answers) left-closed)))
-
+          module _ (dn : doneAfter k x true ≡ false) {j : ℕ} (ej : j ≡ takenAfter x) where
             pub second-call : Runnable t sizes × Room t answers mid emid (node - 1) j × Clear t mid (node - 1)
             unfolding Clear
             second-call =
                 let (b, p, q, v) = two-of ok (room .within) ek en es z y in
-                let left = start-as (v .first) (v .left) (drop taken answers) left-closed in (
+                let (c, i, l, e) = closed-of k true x dn in
+                let left = start-as (v .first) (v .left) (drop taken answers) (rw e at o) in
+                rw (ej ∙ ap takenAfter e) (
                   ok,
                   room-after (node - 1) (omega arith) room left,
                   λ i lo hi. held-behind (size p) (first-fits b p q v (drop taken answers)) left i (omega (arith, v .second)) ∙ free i (omega (arith, v .second)) (omega arith),
                 )
 
-            pub joined-returns : {held′ em′ : List ℕ} {r r′ : Ran} → (isSequence k ≡ true → c ≡ 0) → Started t answers mid held′ emid em′ (node - 1) j r → r′ ≡ oneMore (besides c l r) → Started t answers held held′ em em′ node taken r′
-            joined-returns go d er =
+            pub joined-returns : {held′ em′ : List ℕ} {r r′ : Ran} → Started t answers mid held′ emid em′ (node - 1) j r → r′ ≡ oneMore (both x r) → Started t answers held held′ em em′ node taken r′
+            joined-returns d er =
                 let (b, p, q, v) = two-of ok (room .within) ek en es z y in
+                let e = kind-is ok (room .within) ek en (v .is) in
                 rw er
                 (start-as refl (sym (v .is)) (drop taken answers)
-                (joined-start ok room free b v (ap isPresent (kind-is ok (room .within) ek en (v .is)) ∙ np) (λ sq. go (sym (ap isSequence (kind-is ok (room .within) ek en (v .is))) ∙ sq)) (first-fits b p q v (drop taken answers)) (start-as (v .first) (v .left) (drop taken answers) left-closed) (start-as (v .second) (v .right) (drop j answers) d)))
+                (joined-start ok room free b x v (ap isPresent e ∙ np) (ap (λ i. doneAfter i x true) e ∙ dn) (first-fits b p q v (drop taken answers)) (start-as (v .first) (v .left) (drop taken answers) o) (start-as (v .second) (v .right) (drop (takenAfter x) answers) (rw ej at d))))

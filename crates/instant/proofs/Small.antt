@@ -1,6 +1,6 @@
 -- The small functions' answers, by what is known at each return.
 use mathlib.Core.Path.{_≡_, refl}
-use mathlib.Core.Bool.{false}
+use mathlib.Core.Bool.{true, false}
 use mathlib.Core.List.{List, [], _∷_}
 use Prim.Native.Nat.{ℕ, zero, suc, _+_, _-_, _<_, _≤_}
 use native.Mathlib.Omega.{arith}
@@ -10,12 +10,13 @@ use denote.Enum.Declared.{tagOf}
 use Rattle.esterel.specs.Statement.{nothing}
 use Rattle.esterel.specs.Codes.{catchCode}
 use Rattle.esterel.specs.Instant.{zeros}
+use Rattle.table.specs.Kinds.{isTrap}
 use Rattle.table.specs.declared.Kind.{Kind}
 use Rattle.table.specs.declared.Kind.the-variants.{Nothing, Pause, Emit, Exit, Signal, Present, Suspend, Loop, Sequence, Parallel, Trap, Unknown}
 use Rattle.table.proofs.Kind.{the-type}
-use Rattle.instant.specs.Steps.{catches, TrapLeft, leafOf}
+use Rattle.instant.specs.Steps.{alone, oneMore, catches, Left, kept, leafOf}
 use Rattle.instant.specs.declared.Ran.{Ran}
-use Rattle.instant.specs.declared.Ran.the-variants.{Closed}
+use Rattle.instant.specs.declared.Ran.the-variants.{Closed, Starved}
 
 pub catch-low : (c : ℕ) → c < 2 → c ≡ catchCode c
 catch-low zero h = refl
@@ -52,10 +53,23 @@ other-leaf Parallel f h = refl
 other-leaf Trap f h = refl
 other-leaf Unknown f h = refl
 
--- a trap is left, which catches or does not
-module _ {inner : Ran} {c k e first node : ℕ} {held : List ℕ} (is : inner ≡ Closed c k e) where
-  pub trap-here : {held′ : List ℕ} → c ≡ 2 → held′ ≡ sets held first (zeros (node - first)) → TrapLeft inner first node held held′ (Closed 0 k (e + 1))
-  trap-here two h = rw (is, two) record { answer = refl; state = h }
+-- a node with one child is left: a trap that starves, catches or does not; or another
+module _ {k : Kind} {inner : Ran} {first node : ℕ} {held : List ℕ} where
+  pub other-left : {r : Ran} → isTrap k ≡ false → r ≡ oneMore inner → Left k inner first node held held r
+  other-left tr e = rw e record { answer = rw tr; state = rw tr }
 
-  pub trap-other : {d : ℕ} → (c ≡ 2 → ⊥) → d ≡ catchCode c → TrapLeft inner first node held held (Closed d k (e + 1))
-  trap-other n h = rw (is, h) record { answer = refl; state = rw (catches-not c k e n) }
+  module _ (tr : isTrap k ≡ true) where
+    pub trap-starved : inner ≡ Starved → Left k inner first node held held Starved
+    trap-starved is = rw is record { answer = rw tr; state = rw tr }
+
+    module _ {c j e : ℕ} (is : inner ≡ Closed c j e) where
+      pub trap-here : {held′ : List ℕ} → c ≡ 2 → held′ ≡ sets held first (zeros (node - first)) → Left k inner first node held held′ (Closed 0 j (e + 1))
+      trap-here two h = rw (is, two) record { answer = rw tr; state = rw tr h }
+
+      pub trap-other : {d : ℕ} → (c ≡ 2 → ⊥) → d ≡ catchCode c → Left k inner first node held held (Closed d j (e + 1))
+      trap-other n h = rw (is, h) record { answer = rw tr; state = rw (tr, catches-not c j e n) }
+
+-- a suspend whose signal is present keeps its pauses
+pub kept-back : (a taken : ℕ) → (a ≡ 0 → ⊥) → alone 1 taken ≡ kept a taken
+kept-back zero taken n = absurd (n refl)
+kept-back (suc a) taken n = refl

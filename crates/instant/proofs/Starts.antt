@@ -1,17 +1,19 @@
 -- The start of a statement from the answers of the statements beneath it: one law for each shape and each way through it.
 use mathlib.Core.Path.{_≡_, refl, sym, ap, _∙_}
-use mathlib.Core.Bool.{true, false, cond}
+use mathlib.Core.Bool.{true, false, _&&_, cond, false≢true}
 use mathlib.Core.List.{List, [], _∷_, append-nil}
 use Prim.Native.Nat.{ℕ, zero, suc, _+_, _≤_}
 use native.Mathlib.Omega.{arith}
+use lib.Dec.{eqb}
 use lib.ListN.{getD, set, drop}
 use lib.Seq.{sets}
+use borrow.Author.Tests.{eqb-true, eqb-false, not-true, not-false}
 use Rattle.esterel.specs.Statement.{Leaf, nothing, pause, emit, exit, Unary, signal, suspend, loop, trap, Binary, present, sequence, parallel, Stmt, leaf, one, two, kind, size}
 use Rattle.esterel.specs.Instant.{Mode, started, entry, Result, single, enter, body, start, zeros}
 use Rattle.esterel.specs.Outcome.{emission}
 use Rattle.esterel.proofs.Sizes.{size-pos}
-use Rattle.table.specs.Kinds.{kindOf, isTrap, isSequence}
-use Rattle.instant.specs.Steps.{marked, oneMore, catchRan, catches, besides, isPresent, LeafRan}
+use Rattle.table.specs.Kinds.{kindOf, isTrap}
+use Rattle.instant.specs.Steps.{marked, takenAfter, oneMore, catchRan, catches, both, isPresent, doneAfter, LeafRan}
 use Rattle.instant.specs.Run.{stmtAt, firstAt, Runnable, Room, Clear, RanIs, ran, starves}
 use Rattle.instant.specs.declared.Ran.{Ran}
 use Rattle.instant.specs.declared.Ran.the-variants.{Closed, Starved}
@@ -56,21 +58,14 @@ module _ {t sizes answers held em : List ℕ} {node taken : ℕ} (ok : Runnable 
 
   -- one statement beneath
   module _ {s : ℕ} {p : Stmt} where
-    pub other-start : (u : Unary) {held′ em′ : List ℕ} {r : Ran} → Over t node s u p → isTrap (kindOf (kind (one u p))) ≡ false → RanIs t answers (firstAt t node) held held′ em em′ (start (firstAt t node) p (drop taken answers)) r → RanIs t answers (firstAt t node) held held′ em em′ (start (firstAt t node) (one u p) (drop taken answers)) (oneMore r)
+    pub one-start : (u : Unary) {mid held′ em′ : List ℕ} {r : Ran} → Over t node s u p → held′ ≡ cond (isTrap (kindOf (kind (one u p))) && catches r) (sets mid (firstAt t node) (zeros (size p))) mid → Sized (size p) (start (firstAt t node) p (drop taken answers)) → RanIs t answers (firstAt t node) held mid em em′ (start (firstAt t node) p (drop taken answers)) r → RanIs t answers (firstAt t node) held held′ em em′ (start (firstAt t node) (one u p) (drop taken answers)) (oneMore (cond (isTrap (kindOf (kind (one u p)))) (catchRan r) r))
     unfolding kindOf
-    other-start (signal g) v z o = entered started (size p) (v .is) refl (v .ends) own-zero (here-sized (v .is) (drop taken answers)) o
-    other-start (suspend g) v z o = entered started (size p) (v .is) refl (v .ends) own-zero (here-sized (v .is) (drop taken answers)) o
-    other-start loop v z o =
+    one-start (signal g) v st n o = rw st (entered started (size p) (v .is) refl (v .ends) own-zero (here-sized (v .is) (drop taken answers)) o)
+    one-start (suspend g) v st n o = rw st (entered started (size p) (v .is) refl (v .ends) own-zero (here-sized (v .is) (drop taken answers)) o)
+    one-start loop v st n o =
         let s = here-sized (v .is) (drop taken answers) in
-        entered started (size p) (v .is) refl (v .ends) own-zero s (body-is (size p) (inside (firstAt t node + size p) (size p) started (body (start (firstAt t node) p (drop taken answers))) s) o)
-    other-start trap v z o = let y : _≡_ {A = ℕ} 0 1 = cc in absurd (omega arith)
-
-    pub trap-start : (u : Unary) {mid held′ em′ : List ℕ} {r : Ran} → Over t node s u p → isTrap (kindOf (kind (one u p))) ≡ true → held′ ≡ cond (catches r) (sets mid (firstAt t node) (zeros (size p))) mid → Sized (size p) (start (firstAt t node) p (drop taken answers)) → RanIs t answers (firstAt t node) held mid em em′ (start (firstAt t node) p (drop taken answers)) r → RanIs t answers (firstAt t node) held held′ em em′ (start (firstAt t node) (one u p) (drop taken answers)) (oneMore (catchRan r))
-    unfolding kindOf
-    trap-start (signal g) v z st n o = let y : _≡_ {A = ℕ} 0 1 = cc in absurd (omega arith)
-    trap-start (suspend g) v z st n o = let y : _≡_ {A = ℕ} 0 1 = cc in absurd (omega arith)
-    trap-start loop v z st n o = let y : _≡_ {A = ℕ} 0 1 = cc in absurd (omega arith)
-    trap-start trap v z st n o =
+        rw st (entered started (size p) (v .is) refl (v .ends) own-zero s (body-is (size p) (inside (firstAt t node + size p) (size p) started (body (start (firstAt t node) p (drop taken answers))) s) o))
+    one-start trap v st n o =
         entered started (size p) (v .is) refl (v .ends) own-zero (here-sized (v .is) (drop taken answers)) (catch-is (size p) n st refl o)
 
   -- two statements beneath; s is the size of the second
@@ -86,26 +81,25 @@ module _ {t sizes answers held em : List ℕ} {node taken : ℕ} (ok : Runnable 
         entered started (size p + size q) (v .is) refl (v .ends) own-zero (here-sized (v .is) (zero ∷ ans))
         (zeros-then-is (size p) (zero-at (firstAt t node) (size p) (omega arith) (omega (arith, v .ends))) o)
 
-    pub stopped-start : (b : Binary) {held′ em′ : List ℕ} {c k l : ℕ} → Both t node s b p q → isSequence (kindOf (kind (two b p q))) ≡ true → (c ≡ 0 → ⊥) → Sized (size p) (start (firstAt t node) p (drop taken answers)) → RanIs t answers (firstAt t node) held held′ em em′ (start (firstAt t node) p (drop taken answers)) (Closed c k l) → RanIs t answers (firstAt t node) held held′ em em′ (start (firstAt t node) (two b p q) (drop taken answers)) (oneMore (Closed c k l))
+    -- a sequence or a parallel is done after its first, or not
+    pub done-start : (b : Binary) (x : Ran) {held′ em′ : List ℕ} → Both t node s b p q → isPresent (kindOf (kind (two b p q))) ≡ false → doneAfter (kindOf (kind (two b p q))) x true ≡ true → Sized (size p) (start (firstAt t node) p (drop taken answers)) → RanIs t answers (firstAt t node) held held′ em em′ (start (firstAt t node) p (drop taken answers)) x → RanIs t answers (firstAt t node) held held′ em em′ (start (firstAt t node) (two b p q) (drop taken answers)) (oneMore x)
     unfolding kindOf
-    stopped-start (present g) v z go n o = let y : _≡_ {A = ℕ} 0 1 = cc in absurd (omega arith)
-    stopped-start sequence v z go n o =
+    done-start (present g) x v z dn n o = let y : _≡_ {A = ℕ} 0 1 = cc in absurd (omega arith)
+    done-start sequence (Closed c k l) v z dn n o =
         entered started (size p + size q) (v .is) refl (v .ends) own-zero (here-sized (v .is) (drop taken answers))
-        (stopped-is (size p) (size q) (start (firstAt t node + size p) q) go n (zero-at (firstAt t node + size p) (size q) (omega arith) (omega (arith, v .ends))) o)
-    stopped-start parallel v z go n o = let y : _≡_ {A = ℕ} 0 1 = cc in absurd (omega arith)
+        (stopped-is (size p) (size q) (start (firstAt t node + size p) q) (eqb-false c 0 (not-true (eqb c 0) dn)) n (zero-at (firstAt t node + size p) (size q) (omega arith) (omega (arith, v .ends))) o)
+    done-start sequence Starved v z dn n o = rw (is-starved o) starves
+    done-start parallel (Closed c k l) v z dn n o = absurd (false≢true dn)
+    done-start parallel Starved v z dn n o = rw (is-starved o) starves
 
-    pub starved-start : (b : Binary) {held′ em′ : List ℕ} → Both t node s b p q → isPresent (kindOf (kind (two b p q))) ≡ false → RanIs t answers (firstAt t node) held held′ em em′ (start (firstAt t node) p (drop taken answers)) Starved → RanIs t answers (firstAt t node) held held′ em em′ (start (firstAt t node) (two b p q) (drop taken answers)) Starved
+    pub joined-start : (b : Binary) (x : Ran) {mid held′ emid em′ : List ℕ} {r : Ran} → Both t node s b p q → isPresent (kindOf (kind (two b p q))) ≡ false → doneAfter (kindOf (kind (two b p q))) x true ≡ false → Sized (size p) (start (firstAt t node) p (drop taken answers)) → RanIs t answers (firstAt t node) held mid em emid (start (firstAt t node) p (drop taken answers)) x → RanIs t answers (firstAt t node + size p) mid held′ emid em′ (start (firstAt t node + size p) q (drop (takenAfter x) answers)) r → RanIs t answers (firstAt t node) held held′ em em′ (start (firstAt t node) (two b p q) (drop taken answers)) (oneMore (both x r))
     unfolding kindOf
-    starved-start (present g) v z o = let y : _≡_ {A = ℕ} 0 1 = cc in absurd (omega arith)
-    starved-start sequence v z o = rw (is-starved o) starves
-    starved-start parallel v z o = rw (is-starved o) starves
-
-    pub joined-start : (b : Binary) {mid held′ emid em′ : List ℕ} {c k l : ℕ} {r : Ran} → Both t node s b p q → isPresent (kindOf (kind (two b p q))) ≡ false → (isSequence (kindOf (kind (two b p q))) ≡ true → c ≡ 0) → Sized (size p) (start (firstAt t node) p (drop taken answers)) → RanIs t answers (firstAt t node) held mid em emid (start (firstAt t node) p (drop taken answers)) (Closed c k l) → RanIs t answers (firstAt t node + size p) mid held′ emid em′ (start (firstAt t node + size p) q (drop k answers)) r → RanIs t answers (firstAt t node) held held′ em em′ (start (firstAt t node) (two b p q) (drop taken answers)) (oneMore (besides c l r))
-    unfolding kindOf
-    joined-start (present g) v z go n o d = let y : _≡_ {A = ℕ} 0 1 = cc in absurd (omega arith)
-    joined-start sequence v z go n o d =
+    joined-start (present g) x v z dn n o d = let y : _≡_ {A = ℕ} 0 1 = cc in absurd (omega arith)
+    joined-start sequence (Closed c k l) v z dn n o d =
         entered started (size p + size q) (v .is) refl (v .ends) own-zero (here-sized (v .is) (drop taken answers))
-        (second-is (size p) (size q) (start (firstAt t node + size p) q) (go refl) n o d)
-    joined-start parallel v z go n o d =
+        (second-is (size p) (size q) (start (firstAt t node + size p) q) (eqb-true c 0 (not-false (eqb c 0) dn)) n o d)
+    joined-start sequence Starved v z dn n o d = absurd (false≢true (sym dn))
+    joined-start parallel (Closed c k l) v z dn n o d =
         entered started (size p + size q) (v .is) refl (v .ends) own-zero (here-sized (v .is) (drop taken answers))
         (beside-is (size p) (start (firstAt t node + size p) q) n o d)
+    joined-start parallel Starved v z dn n o d = absurd (false≢true (sym dn))

@@ -2,7 +2,7 @@
 ghost use mathlib.Core.Path.{_≡_};
 ghost use mathlib.Core.Bool.{cond};
 ghost use mathlib.Core.List.{_++_, [], _∷_};
-ghost use Prim.Native.Nat.{_+_, _-_, _<_, _≤_};
+ghost use Prim.Native.Nat.{_+_, _-_, _*_, _<_, _≤_};
 ghost use lib.Dec.{eqb, ltb};
 ghost use lib.ListN.{drop, length, getD, take};
 ghost use lib.Seq.{sets};
@@ -12,7 +12,7 @@ ghost use Rattle.esterel.specs.Limits.{maxNodes, signals};
 ghost use Rattle.esterel.specs.Statement.{size, nodes};
 ghost use Rattle.table.specs.Program.{programOf};
 ghost use Rattle.analysis.specs.Passes.{Surveyable};
-ghost use Rattle.instant.specs.Steps.{entriesOf, oneMore, TrapLeft, besides, isPresent, isSuspend, doneAfter, leafOf, LeafRan};
+ghost use Rattle.instant.specs.Steps.{alone, entriesOf, hasEnded, takenAfter, oneMore, Left, both, isPresent, isSuspend, asked, holdsBeneath, doneAfter, leafOf, LeafRan};
 ghost use Rattle.instant.specs.Run.{Runnable, Room, Clear, Started, Holding, Resumed};
 ghost use Rattle.instant.specs.Admission.{countHeld, Counted, isExclusive, isPause, byteFitsKind, nodeFits};
 ghost use Rattle.instant.specs.Calls.{roomFor, CallChecked, refusalOf, handed, Reacts, Starting, Resuming};
@@ -119,11 +119,53 @@ fn one_more(inner: Ran) -> Ran
     }
 }
 
-// A trap is left: one that catches drops all pauses beneath it.
-fn leave_trap(inner: Ran, held: &mut [u8], first: usize, node: usize) -> Ran
-    requires { ⌜ (entriesOf inner < 4294967296) × (first ≤ node) × (node ≤ length (now held)) ⌝ }
-    ensures { λ r. ⌜ TrapLeft inner first node (now (held .entry)) (now (held .exit)) r ⌝ }
+// A run of a node that enters none beneath it.
+fn alone(code: usize, taken: usize) -> Ran
+    ensures { λ r. ⌜ r ≡ alone code taken ⌝ }
 {
+    Ran::Closed {
+        code,
+        taken,
+        entries: 1,
+    }
+}
+
+// Whether a run ended: it closed with code 0.
+fn has_ended(ran: Ran) -> bool
+    ensures { λ r. ⌜ r ≡ hasEnded ran ⌝ }
+{
+    match ran {
+        Ran::Closed {
+            code,
+            taken: _,
+            entries: _,
+        } => code == 0,
+        Ran::Starved => false,
+    }
+}
+
+// The answers taken up to the end of a closed run.
+fn taken_after(ran: Ran) -> usize
+    ensures { λ r. ⌜ r ≡ takenAfter ran ⌝ }
+{
+    match ran {
+        Ran::Closed {
+            code: _,
+            taken,
+            entries: _,
+        } => taken,
+        Ran::Starved => 0,
+    }
+}
+
+// A node with one child is left: a trap that catches drops all pauses beneath it.
+fn leave(kind: Kind, inner: Ran, held: &mut [u8], first: usize, node: usize) -> Ran
+    requires { ⌜ (entriesOf inner < 4294967296) × (first ≤ node) × (node ≤ length (now held)) ⌝ }
+    ensures { λ r. ⌜ Left kind inner first node (now (held .entry)) (now (held .exit)) r ⌝ }
+{
+    if !table::is_trap(kind) {
+        return one_more(inner);
+    }
     let Ran::Closed {
         code,
         taken,
@@ -147,11 +189,38 @@ fn leave_trap(inner: Ran, held: &mut [u8], first: usize, node: usize) -> Ran
     }
 }
 
-// A node with two children is left, of which the first finished with a code and so many entries.
-fn join(code: usize, entries: usize, right: Ran) -> Ran
-    requires { ⌜ entries + entriesOf right < 4294967296 ⌝ }
-    ensures { λ r. ⌜ r ≡ oneMore (besides code entries right) ⌝ }
+// Whether a node with two children is done after its first: if that starved; a sequence also unless it ended, any other also
+// unless the second has to run too.
+fn done_after(kind: Kind, left: Ran, second: bool) -> bool
+    ensures { λ r. ⌜ r ≡ doneAfter kind left second ⌝ }
 {
+    let Ran::Closed {
+        code,
+        taken: _,
+        entries: _,
+    } = left
+    else {
+        return true;
+    };
+    if table::is_sequence(kind) {
+        return code != 0;
+    }
+    !second
+}
+
+// A node is left after two runs beneath it.
+fn join(left: Ran, right: Ran) -> Ran
+    requires { ⌜ entriesOf left + entriesOf right < 4294967296 ⌝ }
+    ensures { λ r. ⌜ r ≡ oneMore (both left right) ⌝ }
+{
+    let Ran::Closed {
+        code,
+        taken: _,
+        entries,
+    } = left
+    else {
+        return Ran::Starved;
+    };
     match right {
         Ran::Closed {
             code: last,
@@ -168,43 +237,28 @@ fn join(code: usize, entries: usize, right: Ran) -> Ran
 
 // A statement without children is started, where nothing is held.
 fn start_leaf(
+    table: &[u8],
     kind: Kind,
-    field: usize,
     node: usize,
     taken: usize,
     held: &mut [u8],
     emissions: &mut [u8],
 ) -> Ran
-    requires { ⌜ (node < length (now held)) × (field < 256) × (256 ≤ length (now emissions)) ⌝ }
-    ensures { λ r. ⌜ LeafRan (leafOf kind field) node taken (now (held .entry)) (now (held .exit)) (now (emissions .entry)) (now (emissions .exit)) r ⌝ }
+    requires { ⌜ (2 * node + 1 < length (now table)) × (node < length (now held)) × (256 ≤ length (now emissions)) ⌝ }
+    ensures { λ r. ⌜ LeafRan (leafOf kind (getD (now (table .entry)) (2 * node + 1) 0)) node taken (now (held .entry)) (now (held .exit)) (now (emissions .entry)) (now (emissions .exit)) r ⌝ }
 {
+    let field = table::field_at(table, node);
     match kind {
         Kind::Pause => {
             held[node] = 1;
-            Ran::Closed {
-                code: 1,
-                taken,
-                entries: 1,
-            }
+            alone(1, taken)
         }
         Kind::Emit => {
             emissions[field] = 1;
-            Ran::Closed {
-                code: 0,
-                taken,
-                entries: 1,
-            }
+            alone(0, taken)
         }
-        Kind::Exit => Ran::Closed {
-            code: 2 + field,
-            taken,
-            entries: 1,
-        },
-        _ => Ran::Closed {
-            code: 0,
-            taken,
-            entries: 1,
-        },
+        Kind::Exit => alone(2 + field, taken),
+        _ => alone(0, taken),
     }
 }
 
@@ -224,23 +278,13 @@ fn start_at(
     let kind = table::kind_at(table, node);
     let children = table::arity(kind);
     if children == 0 {
-        return start_leaf(
-            kind,
-            table::field_at(table, node),
-            node,
-            taken,
-            held,
-            emissions,
-        );
+        return start_leaf(table, kind, node, taken, held, emissions);
     }
     let last = node - 1;
     let size = table::size_at(sizes, last);
     if children == 1 {
         let inner = start_at(table, sizes, answers, last, taken, held, emissions);
-        if table::is_trap(kind) {
-            return leave_trap(inner, held, node - size, node);
-        }
-        return one_more(inner);
+        return leave(kind, inner, held, node - size, node);
     }
     let first = last - size;
     if is_present(kind) {
@@ -252,48 +296,46 @@ fn start_at(
         return one_more(inner);
     }
     let left = start_at(table, sizes, answers, first, taken, held, emissions);
-    let Ran::Closed {
-        code,
-        taken: after,
-        entries,
-    } = left
-    else {
-        return Ran::Starved;
-    };
-    if table::is_sequence(kind) & (code != 0) {
+    if done_after(kind, left, true) {
         return one_more(left);
     }
+    let after = taken_after(left);
     let right = start_at(table, sizes, answers, last, after, held, emissions);
-    join(code, entries, right)
+    join(left, right)
 }
 
-// Whether a pause is held at a node from `from` up to `to`; the counts are those of the pauses held before each node.
-fn holds_between(counts: &[u16], from: usize, to: usize) -> bool
-    requires { ⌜ (from < length (now counts)) × (to < length (now counts)) ⌝ }
-    ensures { λ r. ⌜ r ≡ ltb (getD (now (counts .entry)) from 0) (getD (now (counts .entry)) to 0) ⌝ }
+// What a node asks before its child is resumed, as a run of its own: the child is resumed if that ends. A suspend needs an
+// answer, and keeps its pauses unless that is 0.
+fn ask(kind: Kind, answers: &[u8], taken: usize) -> Ran
+    ensures { λ r. ⌜ r ≡ asked (isSuspend kind) (now (answers .entry)) taken ⌝ }
 {
-    counts[from] < counts[to]
-}
-
-// Whether a node with two children is done after its first, which finished with a code: a sequence unless it ended, a
-// parallel unless the second holds a pause.
-fn done_after(kind: Kind, code: usize, second: bool) -> bool
-    ensures { λ r. ⌜ r ≡ doneAfter kind code second ⌝ }
-{
-    match kind {
-        Kind::Nothing => true,
-        Kind::Pause => true,
-        Kind::Emit => true,
-        Kind::Exit => true,
-        Kind::Signal => true,
-        Kind::Present => true,
-        Kind::Suspend => true,
-        Kind::Loop => true,
-        Kind::Sequence => code != 0,
-        Kind::Parallel => !second,
-        Kind::Trap => true,
-        Kind::Unknown => true,
+    if !is_suspend(kind) {
+        return Ran::Closed {
+            code: 0,
+            taken,
+            entries: 0,
+        };
     }
+    if answers.len() <= taken {
+        return Ran::Starved;
+    }
+    if answers[taken] != 0 {
+        return alone(1, taken + 1);
+    }
+    Ran::Closed {
+        code: 0,
+        taken: taken + 1,
+        entries: 0,
+    }
+}
+
+// Whether a pause is held at a node or beneath it; the counts are those of the pauses held before each node.
+fn holds_beneath(sizes: &[u16], counts: &[u16], node: usize) -> bool
+    requires { ⌜ (node < length (now sizes)) × (getD (now sizes) node 0 ≤ node + 1) × (node + 1 < length (now counts)) ⌝ }
+    ensures { λ r. ⌜ r ≡ holdsBeneath (now (sizes .entry)) (now (counts .entry)) node ⌝ }
+{
+    let first = node + 1 - table::size_at(sizes, node);
+    counts[first] < counts[node + 1]
 }
 
 // The statement at a node, which holds a pause, is resumed. Which of two children hold one is asked of the counts: the bytes
@@ -315,80 +357,40 @@ fn resume_at(
     let children = table::arity(kind);
     if children == 0 {
         held[node] = 0;
-        return Ran::Closed {
-            code: 0,
-            taken,
-            entries: 1,
-        };
+        return alone(0, taken);
     }
     let last = node - 1;
     let size = table::size_at(sizes, last);
     if children == 1 {
-        if is_suspend(kind) {
-            if answers.len() <= taken {
-                return Ran::Starved;
-            }
-            if answers[taken] != 0 {
-                return Ran::Closed {
-                    code: 1,
-                    taken: taken + 1,
-                    entries: 1,
-                };
-            }
-            let inner = resume_at(
-                table,
-                sizes,
-                counts,
-                answers,
-                last,
-                taken + 1,
-                held,
-                emissions,
-            );
-            return one_more(inner);
+        let asked = ask(kind, answers, taken);
+        if !has_ended(asked) {
+            return asked;
         }
-        let inner = resume_at(table, sizes, counts, answers, last, taken, held, emissions);
-        if table::is_trap(kind) {
-            return leave_trap(inner, held, node - size, node);
-        }
-        let Ran::Closed {
-            code,
-            taken: after,
-            entries,
-        } = inner
-        else {
-            return Ran::Starved;
-        };
-        if table::is_loop(kind) & (code == 0) {
+        let from = taken_after(asked);
+        let inner = resume_at(table, sizes, counts, answers, last, from, held, emissions);
+        if table::is_loop(kind) & has_ended(inner) {
+            let after = taken_after(inner);
             let again = start_at(table, sizes, answers, last, after, held, emissions);
-            return join(code, entries, again);
+            return join(inner, again);
         }
-        return one_more(inner);
+        return leave(kind, inner, held, node - size, node);
     }
     let first = last - size;
-    let begin = first + 1 - table::size_at(sizes, first);
-    if !holds_between(counts, begin, first + 1) {
+    if !holds_beneath(sizes, counts, first) {
         let inner = resume_at(table, sizes, counts, answers, last, taken, held, emissions);
         return one_more(inner);
     }
     let left = resume_at(table, sizes, counts, answers, first, taken, held, emissions);
-    let Ran::Closed {
-        code,
-        taken: after,
-        entries,
-    } = left
-    else {
-        return Ran::Starved;
-    };
-    if done_after(kind, code, holds_between(counts, first + 1, node)) {
+    if done_after(kind, left, holds_beneath(sizes, counts, last)) {
         return one_more(left);
     }
+    let after = taken_after(left);
     if table::is_sequence(kind) {
         let right = start_at(table, sizes, answers, last, after, held, emissions);
-        return join(code, entries, right);
+        return join(left, right);
     }
     let right = resume_at(table, sizes, counts, answers, last, after, held, emissions);
-    join(code, entries, right)
+    join(left, right)
 }
 
 // Whether a kind holds pauses in at most one of its two children.

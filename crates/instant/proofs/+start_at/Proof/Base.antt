@@ -6,15 +6,14 @@ use Rattle.instant.proofs.start_at.Reads as start-at
 use Rattle.instant.proofs.start_at.Kinds as start-at-kinds
 use Rattle.instant.proofs.+start_at.Lts-start_at as start-at-lts
 use Rattle.instant.proofs.branch.Reads as branch-reads
+use Rattle.instant.proofs.done_after.Reads as done-after-reads
 use Rattle.instant.proofs.is_present.Reads as is-present-reads
 use Rattle.instant.proofs.join.Reads as join-reads
-use Rattle.instant.proofs.leave_trap.Reads as leave-trap-reads
+use Rattle.instant.proofs.leave.Reads as leave-reads
 use Rattle.instant.proofs.one_more.Reads as one-more-reads
 use Rattle.instant.proofs.start_leaf.Reads as start-leaf-reads
+use Rattle.instant.proofs.taken_after.Reads as taken-after-reads
 use Rattle.table.proofs.arity.Reads as arity-reads
-use Rattle.table.proofs.field_at.Reads as field-at-reads
-use Rattle.table.proofs.is_sequence.Reads as is-sequence-reads
-use Rattle.table.proofs.is_trap.Reads as is-trap-reads
 use Rattle.table.proofs.kind_at.Reads as kind-at-reads
 use Rattle.table.proofs.size_at.Reads as size-at-reads
 
@@ -28,4 +27,4 @@ abbrev pub start-at-below : ℕ → In 5 start-at-kinds.ps
 start-at-below t = and 5 start-at-kinds.ps (falls 5 start-at-kinds.ps _<_ μ-start-at t) start-at.Pre
 
 abbrev pub start-at-calls : ℕ → start-at-lts.Claims
-start-at-calls t = (kind-at-reads.Asked, kind-at-reads.Learnt, arity-reads.Asked, arity-reads.Learnt, field-at-reads.Asked, field-at-reads.Learnt, start-leaf-reads.Asked, start-leaf-reads.Learnt, size-at-reads.Asked, size-at-reads.Learnt, start-at-below t, start-at.Post, is-trap-reads.Asked, is-trap-reads.Learnt, leave-trap-reads.Asked, leave-trap-reads.Learnt, one-more-reads.Asked, one-more-reads.Learnt, is-present-reads.Asked, is-present-reads.Learnt, branch-reads.Asked, branch-reads.Learnt, is-sequence-reads.Asked, is-sequence-reads.Learnt, join-reads.Asked, join-reads.Learnt)
+start-at-calls t = (kind-at-reads.Asked, kind-at-reads.Learnt, arity-reads.Asked, arity-reads.Learnt, start-leaf-reads.Asked, start-leaf-reads.Learnt, size-at-reads.Asked, size-at-reads.Learnt, start-at-below t, start-at.Post, leave-reads.Asked, leave-reads.Learnt, is-present-reads.Asked, is-present-reads.Learnt, branch-reads.Asked, branch-reads.Learnt, one-more-reads.Asked, one-more-reads.Learnt, done-after-reads.Asked, done-after-reads.Learnt, taken-after-reads.Asked, taken-after-reads.Learnt, join-reads.Asked, join-reads.Learnt)
