@@ -1,5 +1,5 @@
 # Thin, over the toolchain's rt and cargo. Each target does its own set-up.
-.PHONY: run test definitions vectors
+.PHONY: run test soak bench archive definitions vectors
 
 # builds the listing program and lists a worked example; TABLE=FILE lists a table of your own
 TABLE = examples/w1.table
@@ -11,6 +11,20 @@ run:
 # the gate: everything proved from nothing, every must-fail edit refused, every program's output compared, all formatted
 test:
 	@tools/test.sh
+
+# the differential tests with fresh seeds, for as long as is said
+SECONDS = 600
+soak: archive
+	@tools/differential.sh --soak $(SECONDS)
+
+# ours and the implementation in compare/ on the same inputs in the same run: times, then instructions
+bench: archive
+	@cd compare && cargo run --release --offline --locked --quiet --package bench
+	@compare/bench/instructions.sh
+
+archive:
+	@rt staticlib abi > target-archive.log 2>&1 || { cat target-archive.log; rm -f target-archive.log; exit 1; }
+	@rm -f target-archive.log
 
 # the definitions against vectors made by another program, and the edges of document 01
 definitions:

@@ -35,9 +35,9 @@ list_examples() {
     echo "$right passed, $wrong failed"
 }
 
-# The other implementation's own tests.
+# The other implementation's own tests, and those of the comparison itself.
 test_compare() {
-    tools/cargo_test.sh compare "$PWD/target/compare" > target/compare.log
+    tools/cargo_test.sh compare "$PWD/target/compare" --workspace > target/compare.log
     broken=$?
     cat target/compare.log
     echo "$(grep -c '^ok: ' target/compare.log) passed, $(grep -c '^FAIL: ' target/compare.log) failed"
@@ -50,5 +50,6 @@ part examples list_examples
 rt staticlib abi > "$log" 2>&1 || cat "$log"
 part bindings bindings/test.sh
 part compare test_compare
+part differential tools/differential.sh
 echo "$passed passed, $failed failed"
 [ "$failed" -eq 0 ]
