@@ -28,13 +28,6 @@ impl Call {
     }
 
     /// What the cost of a call is shared among.
-    pub fn units(self) -> &'static str {
-        match self {
-            Call::Analyse => "nodes",
-            Call::Start | Call::Resume => "entries",
-        }
-    }
-
     pub fn each(self) -> &'static str {
         match self {
             Call::Analyse => "a node",

@@ -28,6 +28,19 @@ impl Line {
     fn ratio(&self) -> f64 {
         self.times.ours / self.times.theirs
     }
+
+    fn row(&self) -> Vec<String> {
+        let units = self.units as f64;
+        vec![
+            self.shape.to_string(),
+            self.nodes.to_string(),
+            format!("{:.0}", self.times.ours),
+            format!("{:.0}", self.times.theirs),
+            format!("{:.2}", self.ratio()),
+            format!("{:.1}", self.times.ours / units),
+            format!("{:.1}", self.times.theirs / units),
+        ]
+    }
 }
 
 pub struct Table {
@@ -43,29 +56,22 @@ pub fn tables(lines: &[Line]) -> Vec<Table> {
 }
 
 fn times(lines: &[Line], call: Call) -> Table {
+    let of_call: Vec<&Line> = lines.iter().filter(|line| line.call == call).collect();
     let mut rows = vec![vec![
         "shape".to_string(),
         "nodes".to_string(),
-        call.units().to_string(),
         "ours, ns".to_string(),
         "compare, ns".to_string(),
         "ours/compare".to_string(),
         format!("ours, ns {}", call.each()),
         format!("compare, ns {}", call.each()),
     ]];
-    let of_call: Vec<&Line> = lines.iter().filter(|line| line.call == call).collect();
-    for line in &of_call {
-        let units = line.units as f64;
-        rows.push(vec![
-            line.shape.to_string(),
-            line.nodes.to_string(),
-            line.units.to_string(),
-            format!("{:.0}", line.times.ours),
-            format!("{:.0}", line.times.theirs),
-            format!("{:.2}", line.ratio()),
-            format!("{:.1}", line.times.ours / units),
-            format!("{:.1}", line.times.theirs / units),
-        ]);
+    rows.extend(of_call.iter().map(|line| line.row()));
+    if call != Call::Analyse {
+        rows[0].insert(2, "entries".to_string());
+        for (row, line) in rows[1..].iter_mut().zip(&of_call) {
+            row.insert(2, line.units.to_string());
+        }
     }
     let logarithms: f64 = of_call.iter().map(|line| line.ratio().ln()).sum();
     let mean = (logarithms / of_call.len() as f64).exp();
