@@ -1,6 +1,6 @@
 use std::fmt;
 
-use crate::{sys, CodeSet, Refusal, MAX_NODES};
+use crate::{raw, CodeSet, Refusal, MAX_NODES};
 
 /// The mark of a node: 1 if its any-instant set meets its context set, else 0.
 #[derive(Clone, Copy, Debug, Default, PartialEq, Eq, Hash)]
@@ -68,7 +68,10 @@ pub fn analyse(
     contexts: &mut [CodeSet],
     marks: &mut [Mark],
 ) -> Result<Analysis, Refusal> {
-    let [nodes, loop_depth, _] = sys::analyse(table, start_sets, any_sets, contexts, marks)?;
+    let (starts, anys) = (raw::numbers(start_sets), raw::numbers(any_sets));
+    let (contexts, marks) = (raw::numbers(contexts), raw::bytes(marks));
+    let [nodes, loop_depth, _] =
+        Refusal::or_figures(|answer| raw::analyse(table, starts, anys, contexts, marks, answer))?;
     Ok(Analysis { nodes, loop_depth })
 }
 

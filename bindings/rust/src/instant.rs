@@ -1,4 +1,4 @@
-use crate::{sys, Refusal};
+use crate::{raw, Refusal};
 
 /// How the program finished the instant. Its exits are all caught, so there is no third way.
 #[derive(Clone, Copy, Debug, PartialEq, Eq, Hash)]
@@ -64,7 +64,8 @@ pub fn start(
     state: &mut [u8],
     emissions: &mut [u8],
 ) -> Result<Closed, Refusal> {
-    sys::start(table, answers, state, emissions).map(Closed::of)
+    Refusal::or_figures(|answer| raw::start(table, answers, state, emissions, answer))
+        .map(Closed::of)
 }
 
 /// One instant, in which the program is resumed from the pauses that the state holds; checks 1
@@ -91,5 +92,6 @@ pub fn resume(
     state: &mut [u8],
     emissions: &mut [u8],
 ) -> Result<Closed, Refusal> {
-    sys::resume(table, answers, state, emissions).map(Closed::of)
+    Refusal::or_figures(|answer| raw::resume(table, answers, state, emissions, answer))
+        .map(Closed::of)
 }

@@ -22,7 +22,7 @@
 //! allocate nothing. A buffer may be longer than needed: what lies past the needed length is
 //! neither looked at nor changed. A refused call changes no buffer. [`Sets::of`] and [`listing`]
 //! bring their own buffers. The calls keep no state, and any number of threads may make them at
-//! once. How much stack they need is said in the header for C, `bindings/c/bavzhrono.h`.
+//! once; [`raw`] has the exported functions as they are. How much stack they need is said in the header for C, `bindings/c/bavzhrono.h`.
 //!
 //! A loop of pause and emit 7, analysed and run for two instants:
 //!
@@ -56,9 +56,9 @@ mod analysis;
 mod codes;
 mod instant;
 mod listing;
-mod refusal;
 #[allow(unsafe_code)]
-mod sys;
+pub mod raw;
+mod refusal;
 
 pub use analysis::{analyse, Analysis, Mark, Sets};
 pub use codes::{CodeSet, Codes};

@@ -1,4 +1,4 @@
-use crate::{sys, Refusal, MAX_TEXT};
+use crate::{raw, Refusal, MAX_TEXT};
 
 /// Writes the listing of a table, or the line of its refusal, to the front of the text, and hands
 /// back its length.
@@ -14,7 +14,7 @@ use crate::{sys, Refusal, MAX_TEXT};
 /// # Ok::<(), bavzhrono::Refusal>(())
 /// ```
 pub fn render(table: &[u8], text: &mut [u8]) -> Result<usize, Refusal> {
-    let [length, ..] = sys::render(table, text)?;
+    let [length, ..] = Refusal::or_figures(|answer| raw::render(table, text, answer))?;
     Ok(length)
 }
 

@@ -40,6 +40,22 @@ impl Refusal {
         }
     }
 
+    /// The figures of a call, which writes them to the answer and returns a number.
+    ///
+    /// The archive is for x86-64, so a u64 fits in a usize.
+    pub(crate) fn or_figures(call: impl FnOnce(&mut [u64]) -> u32) -> Result<[usize; 3], Refusal> {
+        let mut answer = [0; 3];
+        let number = call(&mut answer);
+        let figures = answer.map(|figure| figure as usize);
+        match number {
+            0 => Ok(figures),
+            _ => Err(Refusal {
+                number,
+                node: figures[0],
+            }),
+        }
+    }
+
     fn names_a_node(&self) -> bool {
         matches!(self.number, 4..=6 | 8..=11)
     }

@@ -1,12 +1,10 @@
-//! The functions of libabi.a, and all of the unsafe code.
+//! The functions of libabi.a as they are: each returns 0 or the number of a refusal, and writes its
+//! figures to an answer buffer of at least three entries. All of the unsafe code is here.
 //!
 //! Each slice is lent as its pointer and its length. The functions stay within the lengths and
 //! keep no pointer; the borrows see to it that what is written overlaps nothing else.
 
-use crate::{CodeSet, Mark, Refusal};
-
-/// What a function hands back beside its number.
-type Answer = [u64; 3];
+use crate::{CodeSet, Mark};
 
 type InstantCall = unsafe extern "C" fn(
     table: *const u8,
@@ -25,13 +23,13 @@ extern "C" {
     fn bavzhrono_analyse(
         table: *const u8,
         table_length: usize,
-        start_sets: *mut CodeSet,
+        start_sets: *mut u64,
         start_sets_length: usize,
-        any_sets: *mut CodeSet,
+        any_sets: *mut u64,
         any_sets_length: usize,
-        contexts: *mut CodeSet,
+        contexts: *mut u64,
         contexts_length: usize,
-        marks: *mut Mark,
+        marks: *mut u8,
         marks_length: usize,
         answer: *mut u64,
         answer_length: usize,
@@ -73,17 +71,17 @@ extern "C" {
     ) -> u32;
 }
 
-/// The nodes, the loop depth and 0.
+/// The answer is the nodes, the loop depth and 0, or the node, 0 and 0 of a refusal.
 pub fn analyse(
     table: &[u8],
-    start_sets: &mut [CodeSet],
-    any_sets: &mut [CodeSet],
-    contexts: &mut [CodeSet],
-    marks: &mut [Mark],
-) -> Result<[usize; 3], Refusal> {
-    let mut answer: Answer = [0; 3];
-    // SAFETY: pointers and lengths are those of slices; a CodeSet is a u64 and a Mark a u8.
-    let number = unsafe {
+    start_sets: &mut [u64],
+    any_sets: &mut [u64],
+    contexts: &mut [u64],
+    marks: &mut [u8],
+    answer: &mut [u64],
+) -> u32 {
+    // SAFETY: each pointer is followed by the length of its own slice.
+    unsafe {
         bavzhrono_analyse(
             table.as_ptr(),
             table.len(),
@@ -98,35 +96,35 @@ pub fn analyse(
             answer.as_mut_ptr(),
             answer.len(),
         )
-    };
-    figures(number, answer)
+    }
 }
 
-/// The code, the answers taken and the entries of an instant that starts the program.
+/// The answer is the code, the answers taken and the entries, or the node, 0 and 0 of a refusal.
 pub fn start(
     table: &[u8],
     answers: &[u8],
     state: &mut [u8],
     emissions: &mut [u8],
-) -> Result<[usize; 3], Refusal> {
-    instant(bavzhrono_start, table, answers, state, emissions)
+    answer: &mut [u64],
+) -> u32 {
+    instant(bavzhrono_start, table, answers, state, emissions, answer)
 }
 
-/// The code, the answers taken and the entries of an instant that resumes the program.
+/// The answer is as for [`start`].
 pub fn resume(
     table: &[u8],
     answers: &[u8],
     state: &mut [u8],
     emissions: &mut [u8],
-) -> Result<[usize; 3], Refusal> {
-    instant(bavzhrono_resume, table, answers, state, emissions)
+    answer: &mut [u64],
+) -> u32 {
+    instant(bavzhrono_resume, table, answers, state, emissions, answer)
 }
 
-/// The length of the text, 0 and 0.
-pub fn render(table: &[u8], text: &mut [u8]) -> Result<[usize; 3], Refusal> {
-    let mut answer: Answer = [0; 3];
-    // SAFETY: pointers and lengths are those of slices.
-    let number = unsafe {
+/// The answer is the length of the text, 0 and 0; all 0 if the text does not fit.
+pub fn render(table: &[u8], text: &mut [u8], answer: &mut [u64]) -> u32 {
+    // SAFETY: each pointer is followed by the length of its own slice.
+    unsafe {
         bavzhrono_render(
             table.as_ptr(),
             table.len(),
@@ -135,8 +133,7 @@ pub fn render(table: &[u8], text: &mut [u8]) -> Result<[usize; 3], Refusal> {
             answer.as_mut_ptr(),
             answer.len(),
         )
-    };
-    figures(number, answer)
+    }
 }
 
 fn instant(
@@ -145,10 +142,10 @@ fn instant(
     answers: &[u8],
     state: &mut [u8],
     emissions: &mut [u8],
-) -> Result<[usize; 3], Refusal> {
-    let mut answer: Answer = [0; 3];
-    // SAFETY: pointers and lengths are those of slices.
-    let number = unsafe {
+    answer: &mut [u64],
+) -> u32 {
+    // SAFETY: each pointer is followed by the length of its own slice.
+    unsafe {
         call(
             table.as_ptr(),
             table.len(),
@@ -161,18 +158,17 @@ fn instant(
             answer.as_mut_ptr(),
             answer.len(),
         )
-    };
-    figures(number, answer)
+    }
 }
 
-/// The archive is for x86-64, so a u64 fits in a usize.
-fn figures(number: u32, answer: Answer) -> Result<[usize; 3], Refusal> {
-    let figures = answer.map(|figure| figure as usize);
-    match number {
-        0 => Ok(figures),
-        _ => Err(Refusal {
-            number,
-            node: figures[0],
-        }),
-    }
+/// The numbers of some sets.
+pub(crate) fn numbers(sets: &mut [CodeSet]) -> &mut [u64] {
+    // SAFETY: a CodeSet is a u64 (repr(transparent)).
+    unsafe { std::slice::from_raw_parts_mut(sets.as_mut_ptr().cast(), sets.len()) }
+}
+
+/// The bytes of some marks.
+pub(crate) fn bytes(marks: &mut [Mark]) -> &mut [u8] {
+    // SAFETY: a Mark is a u8 (repr(transparent)).
+    unsafe { std::slice::from_raw_parts_mut(marks.as_mut_ptr().cast(), marks.len()) }
 }
