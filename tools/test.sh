@@ -3,7 +3,7 @@
 set -u
 cd "$(dirname "$0")/.."
 log=$(mktemp)
-trap 'rm -f "$log"' EXIT
+trap 'rm -f "$log" "$log.status"' EXIT
 passed=0 failed=0
 
 # part NAME COMMAND..: runs the command and adds its counts. One that ends without counts, or with a failure that it did not
@@ -11,9 +11,8 @@ passed=0 failed=0
 part() {
     name=$1
     shift
-    "$@" > "$log" 2>&1
-    status=$?
-    sed "s/^\([0-9]* passed, [0-9]* failed\)$/$name: \1/" "$log"
+    { "$@" 2>&1; echo $? > "$log.status"; } | tee "$log" | sed -u "s/^\([0-9]* passed, [0-9]* failed\)$/$name: \1/"
+    status=$(cat "$log.status")
     counts=$(tail -n 1 "$log" | sed -n 's/^\([^0-9]*: \)\{0,1\}\([0-9]*\) passed, \([0-9]*\) failed$/\2 \3/p')
     [ -n "$counts" ] || counts="0 1"
     [ "$status" -eq 0 ] || [ "${counts#* }" -gt 0 ] || counts="${counts% *} 1"
