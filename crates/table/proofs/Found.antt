@@ -3,46 +3,69 @@ use mathlib.Core.Path.{_≡_, refl, ap, _∙_}
 use mathlib.Core.Bool.{Bool, true, false, cond}
 use mathlib.Core.Option.{Option, none, some}
 use mathlib.Core.List.{List, [], _∷_, _++_}
-use Prim.Native.Nat.{ℕ, suc, _+_, max}
+use Prim.Native.Nat.{ℕ, suc, _+_, _≤_, _<_, max}
 use native.Mathlib.Omega.{arith}
+use borrow.Author.Tests.{lt-ltb, le-ltb}
+use lib.ListN.{length}
+use Rattle.esterel.specs.Limits.{maxNodes}
 use Rattle.esterel.specs.Statement.{Unary, signal, suspend, loop, trap, Stmt, leaf, one, two, loopsUnder, loopDepth, loopsAround}
 use Rattle.esterel.specs.Sets.{Place}
 use Rattle.esterel.specs.Checks.{tooDeep, tooManyTraps, uncaught, firstNode}
-use Rattle.table.specs.Check.{refuseFound, firstOf, placesCheck}
+use Rattle.table.specs.Check.{refuseFound, lowest, refuseBelow, placesCheck}
 use Rattle.table.specs.declared.Check.{Check}
 use Rattle.table.specs.declared.Check.the-variants.{Passed, Refused}
 use Rattle.table.specs.declared.Faults.{Faults}
 
--- the answer of one check
-abbrev pub Answer : ℕ → (Place → Bool) → List Place → ℕ → Check → Type 0
-Answer number test ps n r = r ≡ refuseFound number (firstNode test ps n) Passed
+-- the lowest node at which a check fails
+abbrev pub Answer : (Place → Bool) → List Place → ℕ → ℕ → Type 0
+Answer test ps n r = r ≡ lowest (firstNode test ps n)
 
 pub record Answers (ps : List Place) (n : ℕ) (o : Faults) : Type 0 where
-  pub depths : Answer 8 tooDeep ps n (o .depths)
-  pub traps : Answer 9 tooManyTraps ps n (o .traps)
-  pub exits : Answer 10 uncaught ps n (o .exits)
+  pub depths : Answer tooDeep ps n (o .depths)
+  pub traps : Answer tooManyTraps ps n (o .traps)
+  pub exits : Answer uncaught ps n (o .exits)
 
 -- one more place, of the node before
-refused-first : (number n : ℕ) (b : Bool) (o : Option ℕ) → cond b (Refused number n) (refuseFound number o Passed) ≡ refuseFound number (cond b (some n) o) Passed
-refused-first number n true o = refl
-refused-first number n false o = refl
+lower : (n : ℕ) (b : Bool) (o : Option ℕ) → cond b n (lowest o) ≡ lowest (cond b (some n) o)
+lower n true o = refl
+lower n false o = refl
 
-pub answer-more : (number : ℕ) (test : Place → Bool) (ps : List Place) (n : ℕ) (x : Place) (b : Bool) (r r′ : Check) → b ≡ test x
-    → Answer number test ps (suc n) r → r′ ≡ cond b (Refused number n) r → Answer number test (x ∷ ps) n r′
-answer-more number test ps n x b r r′ eb e e′ =
-    e′ ∙ ap (λ a. cond b (Refused number n) a) e ∙ ap (λ a. cond a (Refused number n) (refuseFound number (firstNode test ps (suc n)) Passed)) eb
-    ∙ refused-first number n (test x) (firstNode test ps (suc n))
+pub answer-more : (test : Place → Bool) (ps : List Place) (n : ℕ) (x : Place) (b : Bool) (r r′ : ℕ) → b ≡ test x
+    → Answer test ps (suc n) r → r′ ≡ cond b n r → Answer test (x ∷ ps) n r′
+answer-more test ps n x b r r′ eb e e′ =
+    e′ ∙ ap (λ a. cond b n a) e ∙ ap (λ a. cond a n (lowest (firstNode test ps (suc n)))) eb ∙ lower n (test x) (firstNode test ps (suc n))
+
+-- a node that is found is one of the places'
+abbrev Below : ℕ → Option ℕ → Type 0
+Below m none = Unit {0}
+Below m (some k) = k < m
+
+first-below : (test : Place → Bool) (ps : List Place) (n m : ℕ) → n + length ps ≤ m → Below m (firstNode test ps n)
+first-below test [] n m h = tt
+first-below test (x ∷ ps) n m h = go (test x) (first-below test ps (suc n) m (omega arith))
+  where
+    go : (b : Bool) → Below m (firstNode test ps (suc n)) → Below m (cond b (some n) (firstNode test ps (suc n)))
+    go true later = omega arith
+    go false later = later
+
+-- a refusal is told by its node
+pub refused-below : (number k : ℕ) (next : Check) → k < maxNodes → refuseBelow number k next ≡ Refused number k
+refused-below number k next h = ap (λ b. cond b (Refused number k) next) (lt-ltb k maxNodes h)
+
+pub passed-below : (number k : ℕ) (next : Check) → maxNodes ≤ k → refuseBelow number k next ≡ next
+passed-below number k next h = ap (λ b. cond b (Refused number k) next) (le-ltb k maxNodes h)
+
+found-below : (number : ℕ) (o : Option ℕ) (next : Check) → Below maxNodes o → refuseBelow number (lowest o) next ≡ refuseFound number o next
+found-below number none next h = refl
+found-below number (some k) next h = refused-below number k next h
 
 -- the three together
-or-next : (number : ℕ) (o : Option ℕ) (next : Check) → firstOf (refuseFound number o Passed) next ≡ refuseFound number o next
-or-next number none next = refl
-or-next number (some n) next = refl
-
-pub together : (ps : List Place) (n : ℕ) (o : Faults) → Answers ps n o → firstOf (o .depths) (firstOf (o .traps) (o .exits)) ≡ placesCheck ps n
+pub together : (ps : List Place) (n : ℕ) (o : Faults) → n + length ps ≤ maxNodes → Answers ps n o → refuseBelow 8 (o .depths) (refuseBelow 9 (o .traps) (refuseBelow 10 (o .exits) Passed)) ≡ placesCheck ps n
 unfolding placesCheck
-together ps n o a =
-    rw (a .depths, a .traps, a .exits, or-next 9 (firstNode tooManyTraps ps n) (refuseFound 10 (firstNode uncaught ps n) Passed))
-    (or-next 8 (firstNode tooDeep ps n) _)
+together ps n o h a =
+    let third = found-below 10 (firstNode uncaught ps n) Passed (first-below uncaught ps n maxNodes h) in
+    let second = found-below 9 (firstNode tooManyTraps ps n) (refuseFound 10 (firstNode uncaught ps n) Passed) (first-below tooManyTraps ps n maxNodes h) in
+    rw (a .depths, a .traps, a .exits, third, second) (found-below 8 (firstNode tooDeep ps n) _ (first-below tooDeep ps n maxNodes h))
 
 -- the most of some numbers
 abbrev pub most : List ℕ → ℕ

@@ -11,13 +11,13 @@ use borrow.Author.Tests.{ltb-false}
 use Rattle.esterel.specs.Limits.{maxNodes, maxDepth, maxTraps}
 use Rattle.esterel.specs.Statement.{Stmt, kind, field, size}
 use Rattle.esterel.specs.Table.{Verdict, passed, refused}
-use Rattle.esterel.specs.Codes.{bit}
+use Rattle.esterel.specs.Codes.{bit, empty}
 use Rattle.esterel.specs.Sets.{places}
 use Rattle.esterel.specs.Checks.{tooDeep, tooManyTraps, uncaught}
 use Rattle.esterel.proofs.Sizes.{size-pos}
 use Rattle.table.specs.Kinds.{kindOf, arityOf, isTrap, isLoop, isExit}
 use Rattle.table.specs.Program.{programOf, Readable}
-use Rattle.table.specs.Check.{firstOf, placesCheck, Shallow, Nested, Seen, Surveyed}
+use Rattle.table.specs.Check.{refuseBelow, placesCheck, Shallow, Nested, Seen, Surveyed}
 use Rattle.table.specs.declared.Kind.{Kind}
 use Rattle.table.specs.declared.Check.{Check}
 use Rattle.table.specs.declared.Check.the-variants.{Passed}
@@ -55,7 +55,7 @@ pub record State (p : Stmt) (depths traps loops : List ℕ) (faults : Faults) (l
 -- at the beginning the program waits
 pub start : (p : Stmt) (depths traps loops : List ℕ) (faults : Faults) (i : ℕ) → i ≡ size p
     → length depths ≡ maxNodes → getD depths 0 0 ≡ 1 → length traps ≡ maxNodes → getD traps 0 0 ≡ 0 → length loops ≡ maxNodes → getD loops 0 0 ≡ 0
-    → faults .depths ≡ Passed → faults .traps ≡ Passed → faults .exits ≡ Passed → State p depths traps loops faults 0 1 i
+    → faults .depths ≡ maxNodes → faults .traps ≡ maxNodes → faults .exits ≡ maxNodes → State p depths traps loops faults 0 1 i
 unfolding begin
 start p depths traps loops faults i e ld vd lt vt ll vl fd ft fe =
     rw e
@@ -110,12 +110,12 @@ module _ {p : Stmt} {depths traps loops : List ℕ} {faults : Faults} {m waiting
   few-wait o = omega (arith, o .count, o .walk .left, nodes-wait (o .ws))
 
   -- at the end all are seen
-  pub finish : State p depths traps loops faults m waiting 0 → (check : Check) → check ≡ firstOf (faults .depths) (firstOf (faults .traps) (faults .exits))
+  pub finish : State p depths traps loops faults m waiting 0 → size p ≤ maxNodes → (check : Check) → check ≡ refuseBelow 8 (faults .depths) (refuseBelow 9 (faults .traps) (refuseBelow 10 (faults .exits) Passed))
       → Surveyed p (record { check = check; loops = m })
-  finish o check e =
+  finish o few check e =
       let z = ended p (o .ws) (o .walk) in
       record {
-        check = e ∙ together (o .walk .seen) 0 faults (o .answers) ∙ ap (λ ps. placesCheck ps 0) (z .are);
+        check = e ∙ together (o .walk .seen) 0 faults (omega (arith, ap length (z .are), length-places p 1 0 empty)) (o .answers) ∙ ap (λ ps. placesCheck ps 0) (z .are);
         loops = omega (arith, o .mostIs ∙ ap most (z .areLoops) ∙ most-loops 0 p);
       }
 
@@ -179,9 +179,9 @@ module _ (t : List ℕ) (ok : Readable t) {depths traps loops : List ℕ} {fault
       let ed : r .depth ≡ w .depth = e .depth ∙ depth-top .is in
       let et : r .traps ≡ w .traps = e .traps ∙ traps-top .is in
       record {
-        depths = answer-more 8 tooDeep (o .walk .seen) i (placeOf w) _ _ _ (ap (λ d. ltb maxDepth d) ed) (o .answers .depths) (s .depths);
-        traps = answer-more 9 tooManyTraps (o .walk .seen) i (placeOf w) (isTrap k && ltb maxTraps (r .traps + 1)) _ _ (rw (ek, et, add-one) (q .many (w .depth) (w .traps) (w .context))) (o .answers .traps) (s .traps);
-        exits = answer-more 10 uncaught (o .walk .seen) i (placeOf w) (isExit k && leb (r .traps) f) _ _ (rw (ek, et, ef) (q .loose (w .depth) (w .traps) (w .context))) (o .answers .exits) (s .exits);
+        depths = answer-more tooDeep (o .walk .seen) i (placeOf w) _ _ _ (ap (λ d. ltb maxDepth d) ed) (o .answers .depths) (s .depths);
+        traps = answer-more tooManyTraps (o .walk .seen) i (placeOf w) (isTrap k && ltb maxTraps (r .traps + 1)) _ _ (rw (ek, et, add-one) (q .many (w .depth) (w .traps) (w .context))) (o .answers .traps) (s .traps);
+        exits = answer-more uncaught (o .walk .seen) i (placeOf w) (isExit k && leb (r .traps) f) _ _ (rw (ek, et, ef) (q .loose (w .depth) (w .traps) (w .context))) (o .answers .exits) (s .exits);
       }
 
   -- a stack with the node's children, each of which has the number v

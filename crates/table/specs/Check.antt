@@ -93,16 +93,20 @@ unfoldable pub placesCheck : List Place → ℕ → Check
 placesCheck ps n =
     refuseFound 8 (firstNode tooDeep ps n) (refuseFound 9 (firstNode tooManyTraps ps n) (refuseFound 10 (firstNode uncaught ps n) Passed))
 
--- an answer, and the next where it passed
-abbrev pub firstOf : Check → Check → Check
-firstOf Passed next = next
-firstOf (Refused number node) next = Refused number node
+-- the node that was found, or maxNodes
+abbrev pub lowest : Option ℕ → ℕ
+lowest none = maxNodes
+lowest (some node) = node
 
--- checks 8, 9 and 10 with one more node, the lowest
+-- a refusal at a node below maxNodes, before what comes next
+abbrev pub refuseBelow : (number node : ℕ) → Check → Check
+refuseBelow number node next = cond (ltb node maxNodes) (Refused number node) next
+
+-- the nodes at which checks 8, 9 and 10 fail, with one more seen, the lowest
 pub record Seen (o : Faults) (k : Kind) (field node : ℕ) (n : Nesting) (r : Faults) : Type 0 where
-  pub depths : r .depths ≡ cond (ltb maxDepth (n .depth)) (Refused 8 node) (o .depths)
-  pub traps : r .traps ≡ cond (isTrap k && ltb maxTraps (n .traps + 1)) (Refused 9 node) (o .traps)
-  pub exits : r .exits ≡ cond (isExit k && leb (n .traps) field) (Refused 10 node) (o .exits)
+  pub depths : r .depths ≡ cond (ltb maxDepth (n .depth)) node (o .depths)
+  pub traps : r .traps ≡ cond (isTrap k && ltb maxTraps (n .traps + 1)) node (o .traps)
+  pub exits : r .exits ≡ cond (isExit k && leb (n .traps) field) node (o .exits)
 
 -- how the children of a node are nested
 pub record Nested (k : Kind) (n r : Nesting) : Type 0 where

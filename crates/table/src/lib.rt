@@ -1,12 +1,12 @@
 // The table of a program: what its bytes say, checks 1 to 10, and the sizes of the subtrees.
 ghost use mathlib.Core.Path.{_≡_};
 ghost use mathlib.Core.Bool.{cond};
-ghost use Prim.Native.Nat.{ℕ, _+_, _-_, _*_, _<_, _≤_, max};
+ghost use Prim.Native.Nat.{_+_, _-_, _*_, _<_, _≤_, max};
 ghost use lib.ListN.{length, getD, set};
 ghost use Rattle.esterel.specs.Limits.{maxNodes};
 ghost use Rattle.table.specs.Kinds.{kindOf, arityOf, plainOf, isTrap, isLoop, isExit, isSequence};
 ghost use Rattle.table.specs.Program.{programOf, Readable};
-ghost use Rattle.table.specs.Check.{lengthCheck, nodeCheck, WellSized, Room, spanOf, Read, firstOf, Shallow, Nested, Seen, Surveyed};
+ghost use Rattle.table.specs.Check.{lengthCheck, nodeCheck, WellSized, Room, spanOf, Read, refuseBelow, Shallow, Nested, Seen, Surveyed};
 
 // What a kind byte says.
 pub enum Kind {
@@ -285,11 +285,11 @@ struct Nesting {
     loops: usize,
 }
 
-// The answers of checks 8, 9 and 10 over the nodes seen so far.
+// The lowest node of those seen so far at which check 8, 9 and 10 fails, or MAX_NODES. Numbers keep the survey's loop small.
 struct Faults {
-    depths: Check,
-    traps: Check,
-    exits: Check,
+    depths: usize,
+    traps: usize,
+    exits: usize,
 }
 
 pub fn larger(a: usize, b: usize) -> usize
@@ -298,14 +298,11 @@ pub fn larger(a: usize, b: usize) -> usize
     if a <= b { b } else { a }
 }
 
-// A refusal at a lower node takes the place of one at a higher.
-fn refuse_if(fails: bool, number: u8, node: usize, otherwise: Check) -> Check
-    ensures { λ r. ⌜ r ≡ cond fails (Check.Refused number node) otherwise ⌝ }
+// A lower node that fails takes the place of a higher one.
+fn lower_if(fails: bool, node: usize, higher: usize) -> usize
+    ensures { λ r. ⌜ r ≡ cond fails node higher ⌝ }
 {
-    if fails {
-        return Check::Refused { number, node };
-    }
-    otherwise
+    if fails { node } else { higher }
 }
 
 // How the children of a node are nested.
@@ -325,35 +322,40 @@ fn seen(faults: Faults, kind: Kind, field: usize, node: usize, nesting: Nesting)
     requires { ⌜ Shallow maxNodes nesting ⌝ }
     ensures { λ r. ⌜ Seen faults kind field node nesting r ⌝ }
 {
-    let depths = faults.depths;
-    let traps = faults.traps;
-    let exits = faults.exits;
     Faults {
-        depths: refuse_if(esterel::MAX_DEPTH < nesting.depth, 8, node, depths),
-        traps: refuse_if(
+        depths: lower_if(esterel::MAX_DEPTH < nesting.depth, node, faults.depths),
+        traps: lower_if(
             is_trap(kind) & (esterel::MAX_TRAPS < nesting.traps + 1),
-            9,
             node,
-            traps,
+            faults.traps,
         ),
-        exits: refuse_if(is_exit(kind) & (nesting.traps <= field), 10, node, exits),
+        exits: lower_if(is_exit(kind) & (nesting.traps <= field), node, faults.exits),
     }
 }
 
 // The first refusal: each check comes before the next.
 fn first_refusal(faults: Faults) -> Check
-    ensures { λ r. ⌜ r ≡ firstOf (faults .depths) (firstOf (faults .traps) (faults .exits)) ⌝ }
+    ensures { λ r. ⌜ r ≡ refuseBelow 8 (faults .depths) (refuseBelow 9 (faults .traps) (refuseBelow 10 (faults .exits) Check.Passed)) ⌝ }
 {
-    let depths = faults.depths;
-    let traps = faults.traps;
-    let exits = faults.exits;
-    match depths {
-        Check::Refused { number: _, node: _ } => depths,
-        Check::Passed => match traps {
-            Check::Refused { number: _, node: _ } => traps,
-            Check::Passed => exits,
-        },
+    if faults.depths < esterel::MAX_NODES {
+        return Check::Refused {
+            number: 8,
+            node: faults.depths,
+        };
     }
+    if faults.traps < esterel::MAX_NODES {
+        return Check::Refused {
+            number: 9,
+            node: faults.traps,
+        };
+    }
+    if faults.exits < esterel::MAX_NODES {
+        return Check::Refused {
+            number: 10,
+            node: faults.exits,
+        };
+    }
+    Check::Passed
 }
 
 fn entry(stack: &[u16; esterel::MAX_NODES], index: usize) -> usize
@@ -383,9 +385,9 @@ pub fn survey_table(table: &[u8]) -> Survey
     let mut loops = [0u16; esterel::MAX_NODES];
     depths[0] = 1;
     let mut faults = Faults {
-        depths: Check::Passed,
-        traps: Check::Passed,
-        exits: Check::Passed,
+        depths: esterel::MAX_NODES,
+        traps: esterel::MAX_NODES,
+        exits: esterel::MAX_NODES,
     };
     let mut most: usize = 0;
     let mut waiting: usize = 1;

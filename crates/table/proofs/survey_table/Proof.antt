@@ -9,7 +9,7 @@ use Rattle.table.specs.Program.{programOf}
 use Rattle.table.specs.Check.{Shallow}
 use Rattle.table.specs.declared.Nesting.{Nesting}
 use Rattle.table.proofs.View.{table-length}
-use Rattle.table.proofs.Surveying.{State, start, finish, back, Entries, Turn, turn, turned, few-wait, nested-shallow}
+use Rattle.table.proofs.Surveying.{few-nodes, State, start, finish, back, Entries, Turn, turn, turned, few-wait, nested-shallow}
 use Rattle.table.proofs.survey_table.Statement.{statement}
 use Rattle.table.proofs.survey_table.Tie as tie
 
@@ -119,7 +119,7 @@ first-refusal-requires c κs = search needs
 returns : tie.Need-returns Inv-loop μ-loop
 returns c =
     let done : c .before .before .loop .i ≡ 0 = omega (arith, c .before .loop-test .left) in
-    finish (rw done at (c .before .before .loop .inv)) _ (c .first-refusal .ensures)
+    finish (rw done at (c .before .before .loop .inv)) (few-nodes (now (c .before .before .before .before .args .table)) (c .before .before .before .before .pre)) _ (c .first-refusal .ensures)
 
 pub survey-table-spec : {M : Type 1} → statement M
 survey-table-spec =
