@@ -1,0 +1,125 @@
+// Check 12: whether a state is admitted, from the counts of its held pauses.
+ghost use mathlib.Core.Path.{_≡_};
+ghost use mathlib.Core.List.{[], _∷_};
+ghost use Prim.Native.Nat.{_<_, _≤_};
+ghost use lib.ListN.{length, take};
+ghost use Rattle.esterel.specs.Instant.{admitted};
+ghost use Rattle.esterel.specs.Limits.{maxNodes};
+ghost use Rattle.esterel.specs.Statement.{size, nodes};
+ghost use Rattle.table.specs.Program.{programOf};
+ghost use Rattle.analysis.specs.Passes.{Surveyable};
+ghost use Rattle.instant.specs.Admission.{countHeld, Counted, isExclusive, isPause, byteFitsKind, nodeFits};
+use table::Kind;
+
+// Whether a kind holds pauses in at most one of its two children.
+fn is_exclusive(kind: Kind) -> bool
+    ensures { λ r. ⌜ r ≡ isExclusive kind ⌝ }
+{
+    match kind {
+        Kind::Nothing => false,
+        Kind::Pause => false,
+        Kind::Emit => false,
+        Kind::Exit => false,
+        Kind::Signal => false,
+        Kind::Present => true,
+        Kind::Suspend => false,
+        Kind::Loop => false,
+        Kind::Sequence => true,
+        Kind::Parallel => false,
+        Kind::Trap => false,
+        Kind::Unknown => false,
+    }
+}
+
+fn is_pause(kind: Kind) -> bool
+    ensures { λ r. ⌜ r ≡ isPause kind ⌝ }
+{
+    match kind {
+        Kind::Nothing => false,
+        Kind::Pause => true,
+        Kind::Emit => false,
+        Kind::Exit => false,
+        Kind::Signal => false,
+        Kind::Present => false,
+        Kind::Suspend => false,
+        Kind::Loop => false,
+        Kind::Sequence => false,
+        Kind::Parallel => false,
+        Kind::Trap => false,
+        Kind::Unknown => false,
+    }
+}
+
+// Whether a kind may have this byte: 0, or 1 at a pause.
+fn byte_fits(kind: Kind, byte: u8) -> bool
+    ensures { λ r. ⌜ r ≡ byteFitsKind kind byte ⌝ }
+{
+    if byte == 0 {
+        return true;
+    }
+    if byte == 1 {
+        return is_pause(kind);
+    }
+    false
+}
+
+// 1 for a byte that is not 0.
+fn one_if(byte: u8) -> u16
+    ensures { λ r. ⌜ r ≡ countHeld (byte ∷ []) ⌝ }
+{
+    if byte == 0 { 0 } else { 1 }
+}
+
+// The number of held pauses before each node, and before the end.
+pub fn count_held(state: &[u8], counts: &mut [u16], n: usize)
+    requires { ⌜ (n ≤ length (now state)) × (n < length (now counts)) × (n ≤ maxNodes) ⌝ }
+    ensures { λ _. ⌜ Counted (now (state .entry)) (now (counts .exit)) n ⌝ }
+{
+    counts[0] = 0;
+    let mut held: u16 = 0;
+    let mut i: usize = 0;
+    while i < n {
+        held += one_if(state[i]);
+        i += 1;
+        counts[i] = held;
+    }
+}
+
+// What check 12 asks at a node: its own byte fits, and a sequence or present holds pauses in one child at most.
+fn node_fits(table: &[u8], sizes: &[u16], counts: &[u16], state: &[u8], node: usize) -> bool
+    requires { ⌜ Surveyable (now table) (now sizes) × (node < size (programOf (now table))) × (size (programOf (now table)) ≤ length (now state)) × Counted (now state) (now counts) (size (programOf (now table))) ⌝ }
+    ensures { λ r. ⌜ r ≡ nodeFits (nodes (programOf (now (table .entry)))) (now (state .entry)) node ⌝ }
+{
+    let kind = table::kind_at(table, node);
+    if !byte_fits(kind, state[node]) {
+        return false;
+    }
+    if !is_exclusive(kind) {
+        return true;
+    }
+    let second = node - table::size_at(sizes, node - 1);
+    let first = second - table::size_at(sizes, second - 1);
+    if counts[first] == counts[second] {
+        return true;
+    }
+    counts[second] == counts[node]
+}
+
+// Check 12.
+pub fn is_admitted(table: &[u8], sizes: &[u16], counts: &[u16], state: &[u8]) -> bool
+    requires { ⌜ Surveyable (now table) (now sizes) × (size (programOf (now table)) ≤ length (now state)) × Counted (now state) (now counts) (size (programOf (now table))) ⌝ }
+    ensures { λ r. ⌜ r ≡ admitted (programOf (now (table .entry))) (take (size (programOf (now (table .entry)))) (now (state .entry))) ⌝ }
+{
+    let n = table.len() / 2;
+    if counts[n] == 0 {
+        return false;
+    }
+    let mut i: usize = 0;
+    while i < n {
+        if !node_fits(table, sizes, counts, state, i) {
+            return false;
+        }
+        i += 1;
+    }
+    true
+}
