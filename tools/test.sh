@@ -2,6 +2,8 @@
 # The gate, in parts. Each part ends with a line that counts its tests, and the last line of all adds them up.
 set -u
 cd "$(dirname "$0")/.."
+# where rustup puts cargo, for a server whose path lacks it
+PATH=$PATH:${HOME:-/root}/.cargo/bin
 log=$(mktemp)
 trap 'rm -f "$log" "$log.status"' EXIT
 passed=0 failed=0
