@@ -8,7 +8,7 @@ use native.Mathlib.Omega.{arith}
 use borrow.Author.Tests.{lt-ltb, le-ltb}
 use lib.Dec.{ltb}
 use lib.ListN.{length, getD, take, drop}
-use lib.Seq.{take-take, drop-drop, take-add, getD-take, length-take-le}
+use lib.Seq.{take-take, take-add, getD-take, length-take-le}
 use Rattle.codes.proofs.Bools.{both, left, right}
 use Rattle.esterel.specs.Statement.{Binary, Stmt, leaf, one, two, size, nodes}
 use Rattle.esterel.specs.Instant.{holds, first, second, apart, atPauses, oneBranch, admitted}
@@ -16,6 +16,7 @@ use Rattle.esterel.specs.Outcome.{statementAt}
 use Rattle.esterel.proofs.Nodes.{Sits, sits-own}
 use Rattle.esterel.proofs.Ranges.{Over, over-join, over-last}
 use Rattle.esterel.proofs.Sizes.{length-nodes}
+use Rattle.instant.proofs.Bytes.{part-at}
 use Rattle.instant.specs.Admission.{countHeld, Counted, byteFits, childrenApart, nodeFits}
 
 -- counts and holds
@@ -55,14 +56,6 @@ byte-of (p ∷ ps) [] e i l = cc
 byte-of (p ∷ ps) (b ∷ h) e zero l = left (byteFits p b) (atPauses ps h) e
 byte-of (p ∷ ps) (b ∷ h) e (suc i) l = byte-of ps h (right (byteFits p b) e) i (omega arith)
 
-within : (m n k : ℕ) (l : List ℕ) → n + m ≤ k → take m (drop n (take k l)) ≡ take m (drop n l)
-within m zero k l e = take-take m k l (omega arith)
-within zero (suc n) zero [] e = refl
-within zero (suc n) zero (x ∷ l) e = refl
-within (suc m) (suc n) zero l e = absurd (omega arith)
-within m (suc n) (suc k) [] e = refl
-within m (suc n) (suc k) (x ∷ l) e = within m n k l (omega arith)
-
 module _ (ps : List Stmt) (h : List ℕ) where
   -- the bytes of p, whose first node is f
   abbrev pub part : Stmt → ℕ → List ℕ
@@ -72,7 +65,7 @@ module _ (ps : List Stmt) (h : List ℕ) where
   part-first p f k e = take-take (size p) k (drop f h) e
 
   part-second : (p q : Stmt) (f k : ℕ) → size p + size q ≤ k → second p q (take k (drop f h)) ≡ part q (f + size p)
-  part-second p q f k e = within (size q) (size p) k (drop f h) e ∙ ap (take (size q)) (drop-drop (size p) f h)
+  part-second p q f k e = part-at f (size p) (size q) k h e
 
   own-two : (b : Binary) (p q : Stmt) (f i : ℕ) → i ≡ f + (size p + size q) → childrenApart (two b p q) h i ≡ apart b (holds (part p f)) (holds (part q (f + size p)))
   own-two b p q f i e =

@@ -5,7 +5,7 @@ use mathlib.Core.Bool.{Bool, true, false, not}
 use mathlib.Core.List.{List, _++_}
 use Prim.Native.Nat.{ℕ, zero, suc, _+_, _-_, _/_, _≤_, _<_}
 use native.Mathlib.Omega.{arith}
-use lib.ListN.{length, getD, take, drop, length-drop, length-replicate, length-append}
+use lib.ListN.{length, take, drop, length-drop, length-replicate, length-append}
 use lib.Seq.{sets, sets-eq, take-all, take-at, length-take-le}
 use Rattle.esterel.specs.Limits.{signals}
 use Rattle.esterel.specs.Statement.{Stmt, size, nodes}
@@ -14,7 +14,7 @@ use Rattle.esterel.specs.Instant.{Entry, Result, zeros, holds, atPauses, oneBra
 use Rattle.esterel.specs.Outcome.{emitted, taken, emissionBytes, outcome}
 use Rattle.esterel.specs.Theorems.{Closes, Closed}
 use Rattle.esterel.proofs.Admitted.{fits-of}
-use Rattle.esterel.proofs.Held.{fits-length}
+use Rattle.esterel.proofs.Held.{fits-length, holds-zeros}
 use Rattle.esterel.proofs.Nodes.{root, sits-own}
 use Rattle.esterel.proofs.Sizes.{size-pos}
 use Rattle.esterel.proofs.Theorems.{demand3}
@@ -34,6 +34,7 @@ use Rattle.instant.specs.declared.Reaction.the-variants.{Closed as Close
 use Rattle.instant.specs.Admission.{Counted}
 use Rattle.instant.specs.Calls.{Call, closing, handed, Reacts, Ready, startCall, resumeCall, verdictFor, refusalOf}
 use Rattle.instant.proofs.Emissions.{marks-are}
+use Rattle.instant.proofs.Sets.{none-at}
 use Rattle.instant.proofs.Entering.{counts-rise}
 use Rattle.instant.proofs.Nodes.{accepted}
 
@@ -100,18 +101,13 @@ module _ (t state emissions answers : List ℕ) {c : Check} {r : Reaction} (numb
   unfolding resumeCall
   resume-refused = rw is-refused (record { answer = y ∙ ap refusalOf z; stateIs = refl; emissionsAre = refl })
 
-zero-at : (m j : ℕ) → getD (zeros m) j 0 ≡ 0
-zero-at zero j = refl
-zero-at (suc m) zero = refl
-zero-at (suc m) (suc j) = zero-at m j
-
 module _ {t sizes : List ℕ} {a b : ℕ} (o : Ready t a b sizes) where
   pub nodes-are : length t / 2 ≡ size (programOf t)
   nodes-are = omega (arith, table-length t (o .runnable .surveyable .readable))
 
   pub root-clear : (n : ℕ) → n ≡ size (programOf t) → (m : ℕ) → Clear t (zeros m) (n - 1)
   unfolding Clear
-  root-clear n en m j lo hi = zero-at m j
+  root-clear n en m j lo hi = none-at (zeros m) (holds-zeros m) j
 
   module _ (answers state emissions : List ℕ) (ea : a ≡ length state) (eb : b ≡ length emissions) where
     is-passed : verdictFor t (length state) (length emissions) ≡ passed (programOf t)

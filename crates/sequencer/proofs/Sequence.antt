@@ -1,7 +1,7 @@
 -- What the calls come to on the sequencer's table, evaluated.
 use mathlib.Core.Path.{_≡_, refl, sym, ap, ap₂, _∙_}
 use mathlib.Core.Bool.{true, _&&_}
-use mathlib.Core.List.{List, [], _∷_, _++_}
+use mathlib.Core.List.{List, [], _∷_, _++_, append-nil}
 use Prim.Native.Nat.{ℕ, _<_}
 use native.Mathlib.Omega.{arith}
 use borrow.Author.Tests.{eq-eqb}
@@ -44,12 +44,8 @@ unfolding resumeCall checked
 caught = refl
 
 -- a buffer as long as what is handed over is replaced whole
-no-rest : (l : List ℕ) → l ++ [] ≡ l
-no-rest [] = refl
-no-rest (x ∷ l) = ap (λ m. x ∷ m) (no-rest l)
-
 whole : (new old : List ℕ) → length old ≡ length new → new ++ drop (length new) old ≡ new
-whole new old e = ap (λ n. new ++ drop n old) (sym e) ∙ ap (λ l. new ++ l) (drop-length old) ∙ no-rest new
+whole new old e = ap (λ n. new ++ drop n old) (sym e) ∙ ap (λ l. new ++ l) (drop-length old) ∙ append-nil new
 
 -- what is known after an instant
 pub record Left (code taken entries : ℕ) (held : List ℕ) (signals state emissions : List ℕ) (r : Reaction) : Type 0 where
