@@ -1,5 +1,5 @@
 -- What the machine computes for each operation is the number of the specification's set.
-use mathlib.Core.Path.{_≡_, refl, sym, ap₂, _∙_}
+use mathlib.Core.Path.{_≡_, refl, sym, ap₂, subst, _∙_}
 use mathlib.Core.Bool.{Bool, true, false, not, _&&_, _||_, and-true, and-false, or-false}
 use mathlib.Core.Logic.{⊎-elim}
 use Prim.Native.Nat.{ℕ, zero, suc, _+_, _-_, _*_, _/_, _%_, _^_, _<_, max}
@@ -11,8 +11,9 @@ use lib.Pow.{pow-pos, shr-le}
 use lib.Bits.{bitAnd, bitOr, or-lt, and-le-r, and-self}
 use lib.Count.{trailingZeros, leadingZeros}
 use Rattle.codes.specs.Codes.{Codes, withoutEnded, upTo, larger, caught, meets, underTrap, underParallel}
-use Rattle.codes.specs.Words.{_∋_, setOf, singletonOf, unionOf, withoutEndedOf, meetsOf, lowestOf, highestOf, parallelOf, caughtOf, underTrapOf, underParallelOf, spanOf}
-use Rattle.codes.specs.declared.Found.the-variants.{Code}
+use Rattle.codes.specs.Words.{_∋_, setOf, singletonOf, unionOf, withoutEndedOf, meetsOf, leastFrom, greatestBelow, lowestOf, highestOf, largerOf, parallelOf, caughtOf, underTrapOf, underParallelOf, spanOf}
+use Rattle.codes.specs.declared.Found.{Found}
+use Rattle.codes.specs.declared.Found.the-variants.{Code, NoCode}
 use Rattle.codes.proofs.Bools.{both, left, right, either, inl-true, inr-true, same-test}
 use Rattle.codes.proofs.Members.{larger-in, larger-out}
 use Rattle.codes.proofs.Bits.{∋-none, ∋-and, ∋-or, ∋-shr, ∋-shl-mod, ∋-pow, ∋-ones, ∋-from, ∋-mod}
@@ -68,15 +69,74 @@ pub highest-is : (w : ℕ) → 0 < w → w < 2 ^ 64 → Code (63 - leadingZeros 
 unfolding highestOf
 highest-is w p h = sym (greatest-found 64 (63 - leadingZeros 64 w) (setOf w) (omega arith) (leading-highest 63 w p h .1))
 
+-- the search in 0 computes
+pub lowest-none : NoCode ≡ lowestOf 0
+unfolding _∋_ leastFrom lowestOf
+lowest-none = refl
+
+pub highest-none : NoCode ≡ highestOf 0
+unfolding _∋_ greatestBelow highestOf
+highest-none = refl
+
 -- ---- `parallel`
 
-pub parallel-none-l : (b : ℕ) → 0 ≡ parallelOf 0 b
+-- an end of the set that w holds: there is none in 0, and else a code of this kind
+data End (P : Codes → ℕ → Type 0) (w : ℕ) : Found → Type 0 where
+  without : w ≡ 0 → End P w NoCode
+  ends : (k : ℕ) → k < 64 → P (setOf w) k → End P w (Code k)
+
+lowest-end : (w : ℕ) → w < 2 ^ 64 → End Lowest w (lowestOf w)
+lowest-end zero h = subst (End Lowest 0) lowest-none (without refl)
+lowest-end (suc m) h =
+    let w = suc m in
+    subst (End Lowest w) (lowest-is w (omega arith) h) (ends _ (trailing-lt 64 w (omega arith) h) (trailing-lowest 64 w (omega arith) h))
+
+highest-end : (w : ℕ) → w < 2 ^ 64 → End Highest w (highestOf w)
+highest-end zero h = subst (End Highest 0) highest-none (without refl)
+highest-end (suc m) h =
+    let w = suc m in
+    subst (End Highest w) (highest-is w (omega arith) h) (ends _ (omega arith) (leading-highest 63 w (omega arith) h .1))
+
+-- the larger of an end of a and one of b
+pub record Larger (P : Codes → ℕ → Type 0) (a b k : ℕ) : Type 0 where
+  pub first : ℕ
+  pub second : ℕ
+  pub firstEnd : P (setOf a) first
+  pub secondEnd : P (setOf b) second
+  pub is : k ≡ max first second
+  pub below : k < 64
+
+-- what is found as that: nothing where one set is empty
+pub data LargerFound (P : Codes → ℕ → Type 0) (a b : ℕ) : Found → Type 0 where
+  missing : 0 ≡ parallelOf a b → LargerFound P a b NoCode
+  found : (k : ℕ) → Larger P a b k → LargerFound P a b (Code k)
+
+parallel-none-l : (b : ℕ) → 0 ≡ parallelOf 0 b
 unfolding parallelOf
 parallel-none-l b = sym (word-empty _ (λ k. rw (∋-none k, upTo-none (setOf 0) k ∋-none)))
 
-pub parallel-none-r : (a : ℕ) → 0 ≡ parallelOf a 0
+parallel-none-r : (a : ℕ) → 0 ≡ parallelOf a 0
 unfolding parallelOf
 parallel-none-r a = sym (word-empty _ (λ k. simp (∋-none k, upTo-none (setOf 0) k ∋-none, and-false)))
+
+larger-found : {P : Codes → ℕ → Type 0} {a b : ℕ} {x y : Found} → End P a x → End P b y → LargerFound P a b (largerOf x y)
+larger-found {b = b} (without e) d = missing (rw e (parallel-none-l b))
+larger-found {a = a} (ends k h m) (without e) = missing (rw e (parallel-none-r a))
+larger-found (ends i h m) (ends j l n) =
+    found (max i j) (record { first = i; second = j; firstEnd = m; secondEnd = n; is = refl; below = omega arith })
+
+module _ {a b : ℕ} {x y r : Found} (fa : a < 2 ^ 64) (fb : b < 2 ^ 64) (er : r ≡ largerOf x y) where
+  pub low-found : x ≡ lowestOf a → y ≡ lowestOf b → LargerFound Lowest a b r
+  low-found ex ey = rw (er, ex, ey) (larger-found (lowest-end a fa) (lowest-end b fb))
+
+  pub high-found : x ≡ highestOf a → y ≡ highestOf b → LargerFound Highest a b r
+  high-found ex ey = rw (er, ex, ey) (larger-found (highest-end a fa) (highest-end b fb))
+
+pub is-missing : {P : Codes → ℕ → Type 0} {a b : ℕ} → LargerFound P a b NoCode → 0 ≡ parallelOf a b
+is-missing (missing e) = e
+
+pub is-found : {P : Codes → ℕ → Type 0} {a b k : ℕ} → LargerFound P a b (Code k) → Larger P a b k
+is-found (found k l) = l
 
 -- the larger ones are the codes of either set between the larger ends
 module _ (a b : Codes) (la lb ha hb : ℕ) (lowA : Lowest a la) (lowB : Lowest b lb) (highA : Highest a ha) (highB : Highest b hb) (k : ℕ) where
@@ -103,13 +163,13 @@ module _ (a b : Codes) (la lb ha hb : ℕ) (lowA : Lowest a la) (lowB : Lowest b
           let one = ⊎-elim (λ f. inl-true (a k) (b k) (left (a k) (upTo b k) f)) (λ f. inr-true (a k) (b k) (right (upTo a k) f)) (either (a k && upTo b k) (upTo a k && b k) e) in
           both one (both (le-leb (max la lb) k (omega arith)) (le-leb k (max ha hb) (omega arith)))
 
-pub parallel-is : (a b : ℕ) → 0 < a → 0 < b → a < 2 ^ 64 → b < 2 ^ 64
-    → bitAnd (bitOr a b) (spanOf (max (trailingZeros 64 a) (trailingZeros 64 b)) (max (63 - leadingZeros 64 a) (63 - leadingZeros 64 b))) ≡ parallelOf a b
+pub parallel-is : (a b low high : ℕ) → Larger Lowest a b low → Larger Highest a b high → bitAnd (bitOr a b) (spanOf low high) ≡ parallelOf a b
 unfolding parallelOf spanOf
-parallel-is a b pa pb fa fb =
-    is-word _ _ (and-fits (bitOr a b) _ (word-lt _))
-    (λ k h. ∋-and (bitOr a b) _ k ∙ ap₂ _&&_ (∋-or a b k) (∋-word _ k h)
-    ∙ larger-between (setOf a) (setOf b) _ _ _ _ (trailing-lowest 64 a pa fa) (trailing-lowest 64 b pb fb) (leading-highest 63 a pa fa .1) (leading-highest 63 b pb fb .1) k)
+parallel-is a b low high l h =
+    rw (l .is, h .is)
+    (is-word _ _ (and-fits (bitOr a b) _ (word-lt _))
+    (λ k lt. ∋-and (bitOr a b) _ k ∙ ap₂ _&&_ (∋-or a b k) (∋-word _ k lt)
+    ∙ larger-between (setOf a) (setOf b) _ _ _ _ (l .firstEnd) (l .secondEnd) (h .firstEnd) (h .secondEnd) k))
 
 -- ---- `caught`, `under_trap`: shifts and masks, at each code
 

@@ -1,5 +1,5 @@
 -- The operations of this crate on 64-bit numbers: each does to the sets what the operation of `Codes` does. The codes are those below 64.
-use Prim.Native.Nat.{ℕ, zero, suc, _/_, _%_, _^_}
+use Prim.Native.Nat.{ℕ, zero, suc, _/_, _%_, _^_, max}
 use mathlib.Core.Bool.{Bool, true, false, _&&_, cond}
 use lib.Dec.{eqb, leb}
 use Rattle.codes.specs.Codes.{Codes, only, union, withoutEnded, larger, caught, meets, underTrap, underParallel, word}
@@ -54,6 +54,12 @@ lowestOf w = leastFrom 64 0 (setOf w)
 
 unfoldable pub highestOf : ℕ → Found
 highestOf w = greatestBelow 64 (setOf w)
+
+-- the larger of two codes, where there are two
+abbrev pub largerOf : Found → Found → Found
+largerOf (Code a) (Code b) = Code (max a b)
+largerOf (Code a) NoCode = NoCode
+largerOf NoCode b = NoCode
 
 -- the codes from `from` to `to`
 unfoldable pub spanOf : ℕ → ℕ → ℕ

@@ -1,7 +1,7 @@
 // Sets of completion codes, each held in a u64: bit k is 1 where code k is in the set.
 ghost use mathlib.Core.Path.{_≡_};
-ghost use Prim.Native.Nat.{_≤_, _<_, max};
-ghost use Rattle.codes.specs.Words.{_∋_, singletonOf, unionOf, withoutEndedOf, meetsOf, lowestOf, highestOf, parallelOf, caughtOf, underTrapOf, underParallelOf, spanOf};
+ghost use Prim.Native.Nat.{_≤_, _<_};
+ghost use Rattle.codes.specs.Words.{_∋_, singletonOf, unionOf, withoutEndedOf, meetsOf, lowestOf, highestOf, largerOf, parallelOf, caughtOf, underTrapOf, underParallelOf, spanOf};
 
 // A code of a set, or that the set has none.
 pub enum Found {
@@ -73,10 +73,20 @@ fn span(low: u32, high: u32) -> u64
     (u64::MAX << low) & (u64::MAX >> (63 - high))
 }
 
-fn larger(a: u32, b: u32) -> u32
-    ensures { λ r. ⌜ r ≡ max a b ⌝ }
+// The larger of two codes, where there are two.
+fn larger(a: Found, b: Found) -> Found
+    ensures { λ r. ⌜ r ≡ largerOf a b ⌝ }
 {
-    if a < b { b } else { a }
+    let Found::Code(x) = a else {
+        return Found::NoCode;
+    };
+    let Found::Code(y) = b else {
+        return Found::NoCode;
+    };
+    if x < y {
+        return Found::Code(y);
+    }
+    Found::Code(x)
 }
 
 // Every larger one of a code of a and a code of b: the codes of either, from the larger of the
@@ -84,14 +94,14 @@ fn larger(a: u32, b: u32) -> u32
 pub fn parallel(a: u64, b: u64) -> u64
     ensures { λ r. ⌜ r ≡ parallelOf a b ⌝ }
 {
-    if a == 0 {
+    let low_end = larger(lowest(a), lowest(b));
+    let Found::Code(low) = low_end else {
         return 0;
-    }
-    if b == 0 {
+    };
+    let high_end = larger(highest(a), highest(b));
+    let Found::Code(high) = high_end else {
         return 0;
-    }
-    let low = larger(u64::trailing_zeros(a), u64::trailing_zeros(b));
-    let high = larger(63 - u64::leading_zeros(a), 63 - u64::leading_zeros(b));
+    };
     (a | b) & span(low, high)
 }
 

@@ -1,16 +1,14 @@
 -- `codes::highest` meets its contract.
-use mathlib.Core.Path.{sym, ap}
+use mathlib.Core.Path.{sym, ap, _∙_}
 use native.Mathlib.Omega.{arith}
-use Rattle.codes.specs.Words.{_∋_, greatestBelow, highestOf}
+use Rattle.codes.specs.Words.{highestOf}
 use Rattle.codes.proofs.Ends.{leading-highest}
-use Rattle.codes.proofs.Operations.{highest-is}
+use Rattle.codes.proofs.Operations.{highest-is, highest-none}
 use Rattle.codes.proofs.highest.Statement.{statement}
 use Rattle.codes.proofs.highest.Tie as tie
 
--- the search in 0 computes
 returns : tie.Need-returns
-unfolding _∋_ greatestBelow highestOf
-returns c = sym (ap highestOf (c .if1 .taken))
+returns c = highest-none ∙ sym (ap highestOf (c .if1 .taken))
 
 sub-t4 : tie.Need-sub-t4
 sub-t4 c = leading-highest 63 (c .before .args .set) (omega arith) (c .before .fits .set .fits) .0
