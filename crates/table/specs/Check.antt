@@ -32,6 +32,11 @@ abbrev pub answerOf : Verdict → Check
 answerOf (passed p) = Passed
 answerOf (refused number node) = Refused number node
 
+-- a check that names no node: passed if the test holds
+abbrev pub passIf : (number : ℕ) → Bool → Check
+passIf number true = Passed
+passIf number false = Refused number 0
+
 -- checks 1 and 2
 unfoldable pub lengthCheck : List ℕ → Check
 lengthCheck t =

@@ -3,6 +3,7 @@ use Prim.Native.Nat.{ℕ}
 use mathlib.Core.Bool.{Bool, true, false}
 use mathlib.Core.List.{List, [], _∷_}
 use lib.ListN.{getD}
+use lib.Dec.{eqb}
 use Rattle.esterel.specs.Statement.{nothing, pause, emit, exit, signal, suspend, loop, trap, present, sequence, parallel}
 use Rattle.esterel.specs.Table.{Node, takes0, takes1, takes2, faulty}
 use Rattle.table.specs.declared.Kind.{Kind}
@@ -55,50 +56,41 @@ plainOf Parallel = true
 plainOf Trap = true
 plainOf Unknown = false
 
--- the nodes that are exits, loops, traps, sequences
-abbrev pub exits : Node → Bool
-exits (takes0 nothing) = false
-exits (takes0 pause) = false
-exits (takes0 (emit s)) = false
-exits (takes0 (exit level)) = true
-exits (takes1 u) = false
-exits (takes2 b) = false
-exits (faulty number) = false
+-- the number of a kind, and for all unknown ones the next
+abbrev pub numberOf : Kind → ℕ
+numberOf Nothing = 1
+numberOf Pause = 2
+numberOf Emit = 3
+numberOf Exit = 4
+numberOf Signal = 5
+numberOf Present = 6
+numberOf Suspend = 7
+numberOf Loop = 8
+numberOf Sequence = 9
+numberOf Parallel = 10
+numberOf Trap = 11
+numberOf Unknown = 12
 
-abbrev pub repeats : Node → Bool
-repeats (takes0 l) = false
-repeats (takes1 (signal s)) = false
-repeats (takes1 (suspend s)) = false
-repeats (takes1 loop) = true
-repeats (takes1 trap) = false
-repeats (takes2 b) = false
-repeats (faulty number) = false
-
-abbrev pub catches : Node → Bool
-catches (takes0 l) = false
-catches (takes1 (signal s)) = false
-catches (takes1 (suspend s)) = false
-catches (takes1 loop) = false
-catches (takes1 trap) = true
-catches (takes2 b) = false
-catches (faulty number) = false
-
-abbrev pub isExit : Kind → Bool
-isExit k = exits (headOf k 0)
-
-abbrev pub isLoop : Kind → Bool
-isLoop k = repeats (headOf k 0)
+abbrev pub isSame : Kind → Kind → Bool
+isSame k j = eqb (numberOf k) (numberOf j)
 
 abbrev pub isTrap : Kind → Bool
-isTrap k = catches (headOf k 0)
+isTrap k = isSame k Trap
 
-abbrev pub orders : Node → Bool
-orders (takes0 l) = false
-orders (takes1 u) = false
-orders (takes2 (present s)) = false
-orders (takes2 sequence) = true
-orders (takes2 parallel) = false
-orders (faulty number) = false
+abbrev pub isLoop : Kind → Bool
+isLoop k = isSame k Loop
+
+abbrev pub isExit : Kind → Bool
+isExit k = isSame k Exit
 
 abbrev pub isSequence : Kind → Bool
-isSequence k = orders (headOf k 0)
+isSequence k = isSame k Sequence
+
+abbrev pub isPresent : Kind → Bool
+isPresent k = isSame k Present
+
+abbrev pub isSuspend : Kind → Bool
+isSuspend k = isSame k Suspend
+
+abbrev pub isPause : Kind → Bool
+isPause k = isSame k Pause

@@ -4,7 +4,7 @@ ghost use mathlib.Core.Bool.{cond};
 ghost use Prim.Native.Nat.{_+_, _-_, _*_, _<_, _≤_, max};
 ghost use lib.ListN.{length, getD, set};
 ghost use Rattle.esterel.specs.Limits.{maxNodes};
-ghost use Rattle.table.specs.Kinds.{kindOf, arityOf, plainOf, isTrap, isLoop, isExit, isSequence};
+ghost use Rattle.table.specs.Kinds.{kindOf, arityOf, plainOf, numberOf, isSame, isTrap, isLoop, isExit, isSequence, isPresent, isSuspend, isPause};
 ghost use Rattle.table.specs.Program.{programOf, Readable};
 ghost use Rattle.table.specs.Check.{lengthCheck, nodeCheck, WellSized, Room, spanOf, Read, refuseBelow, Shallow, Nested, Seen, Surveyed};
 
@@ -84,80 +84,73 @@ pub fn is_plain(kind: Kind) -> bool
     }
 }
 
+// The number of a kind, and for all unknown ones the next.
+fn number(kind: Kind) -> u8
+    ensures { λ r. ⌜ r ≡ numberOf kind ⌝ }
+{
+    match kind {
+        Kind::Nothing => 1,
+        Kind::Pause => 2,
+        Kind::Emit => 3,
+        Kind::Exit => 4,
+        Kind::Signal => 5,
+        Kind::Present => 6,
+        Kind::Suspend => 7,
+        Kind::Loop => 8,
+        Kind::Sequence => 9,
+        Kind::Parallel => 10,
+        Kind::Trap => 11,
+        Kind::Unknown => 12,
+    }
+}
+
+// Whether two kinds are the same.
+fn is_same(kind: Kind, other: Kind) -> bool
+    ensures { λ r. ⌜ r ≡ isSame kind other ⌝ }
+{
+    number(kind) == number(other)
+}
+
 pub fn is_trap(kind: Kind) -> bool
     ensures { λ r. ⌜ r ≡ isTrap kind ⌝ }
 {
-    match kind {
-        Kind::Nothing => false,
-        Kind::Pause => false,
-        Kind::Emit => false,
-        Kind::Exit => false,
-        Kind::Signal => false,
-        Kind::Present => false,
-        Kind::Suspend => false,
-        Kind::Loop => false,
-        Kind::Sequence => false,
-        Kind::Parallel => false,
-        Kind::Trap => true,
-        Kind::Unknown => false,
-    }
+    is_same(kind, Kind::Trap)
 }
 
 pub fn is_loop(kind: Kind) -> bool
     ensures { λ r. ⌜ r ≡ isLoop kind ⌝ }
 {
-    match kind {
-        Kind::Nothing => false,
-        Kind::Pause => false,
-        Kind::Emit => false,
-        Kind::Exit => false,
-        Kind::Signal => false,
-        Kind::Present => false,
-        Kind::Suspend => false,
-        Kind::Loop => true,
-        Kind::Sequence => false,
-        Kind::Parallel => false,
-        Kind::Trap => false,
-        Kind::Unknown => false,
-    }
+    is_same(kind, Kind::Loop)
 }
 
 fn is_exit(kind: Kind) -> bool
     ensures { λ r. ⌜ r ≡ isExit kind ⌝ }
 {
-    match kind {
-        Kind::Nothing => false,
-        Kind::Pause => false,
-        Kind::Emit => false,
-        Kind::Exit => true,
-        Kind::Signal => false,
-        Kind::Present => false,
-        Kind::Suspend => false,
-        Kind::Loop => false,
-        Kind::Sequence => false,
-        Kind::Parallel => false,
-        Kind::Trap => false,
-        Kind::Unknown => false,
-    }
+    is_same(kind, Kind::Exit)
 }
 
 pub fn is_sequence(kind: Kind) -> bool
     ensures { λ r. ⌜ r ≡ isSequence kind ⌝ }
 {
-    match kind {
-        Kind::Nothing => false,
-        Kind::Pause => false,
-        Kind::Emit => false,
-        Kind::Exit => false,
-        Kind::Signal => false,
-        Kind::Present => false,
-        Kind::Suspend => false,
-        Kind::Loop => false,
-        Kind::Sequence => true,
-        Kind::Parallel => false,
-        Kind::Trap => false,
-        Kind::Unknown => false,
-    }
+    is_same(kind, Kind::Sequence)
+}
+
+pub fn is_present(kind: Kind) -> bool
+    ensures { λ r. ⌜ r ≡ isPresent kind ⌝ }
+{
+    is_same(kind, Kind::Present)
+}
+
+pub fn is_suspend(kind: Kind) -> bool
+    ensures { λ r. ⌜ r ≡ isSuspend kind ⌝ }
+{
+    is_same(kind, Kind::Suspend)
+}
+
+pub fn is_pause(kind: Kind) -> bool
+    ensures { λ r. ⌜ r ≡ isPause kind ⌝ }
+{
+    is_same(kind, Kind::Pause)
 }
 
 // The kind of a node.
