@@ -17,7 +17,7 @@ use Rattle.esterel.specs.Statement.{Leaf, nothing, pause, emit, exit, Unary, si
 use Rattle.esterel.specs.Sets.{startSet, anyInstantSet, Place, at, placesOf, under, underFirst, underLeft, underRight, mark}
 use Rattle.esterel.specs.Checks.{tooDeep}
 use Rattle.esterel.specs.Outcome.{statementAt}
-use Rattle.esterel.proofs.Accepted.{exits-caught, stmtOf}
+use Rattle.esterel.proofs.Accepted.{exits-caught, stmtOf, length-places}
 use Rattle.esterel.proofs.Caught.{Caught, caught-places, trapsOf}
 use Rattle.esterel.proofs.Every.{every-at}
 use Rattle.esterel.proofs.Sizes.{size-pos}
@@ -32,7 +32,7 @@ use Rattle.table.proofs.Buffers.{back, back-none, back-pred, length-back, back-
 use Rattle.table.proofs.Said.{childrenOf, said, count-below}
 use Rattle.table.proofs.Surveying.{few-nodes}
 use Rattle.table.proofs.View.{kind-byte, table-length}
-use Rattle.table.proofs.Walk.{Waiting, Walk, Next, program, begin, next, ended, descend, children, onlyChild, firstChild, secondChild, placeOf, placesIn, length-places}
+use Rattle.table.proofs.Walk.{Waiting, Walk, Next, program, begin, next, ended, descend, children, onlyChild, firstChild, secondChild, placeOf, placesIn}
 use Rattle.analysis.specs.Steps.{setOfStmt, underFirstOf, underSecondOf, leftOf, rightOf}
 use Rattle.analysis.specs.Steps.{trapsOf as trapsOfKind}
 use Rattle.analysis.specs.Passes.{FilledTo, onto, placeAt, firstEnds, contextWord, contextsOf, marksOf}

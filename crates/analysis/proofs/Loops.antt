@@ -15,7 +15,8 @@ use Rattle.esterel.specs.Statement.{Leaf, nothing, pause, emit, exit, Unary, si
 use Rattle.esterel.specs.Sets.{startSet, Place, at, placesOf}
 use Rattle.esterel.specs.Checks.{firstNode, endsAtOnce}
 use Rattle.esterel.specs.Outcome.{statementAt}
-use Rattle.esterel.proofs.Accepted.{stmtOf, statements}
+use Rattle.esterel.proofs.Accepted.{length-places}
+use Rattle.esterel.proofs.LoopCheck.{loopEnds, ends-at}
 use Rattle.esterel.proofs.Sizes.{size-pos}
 use Rattle.esterel.proofs.Subtrees.{only-child}
 use Rattle.table.specs.Kinds.{kindOf, isLoop}
@@ -24,28 +25,8 @@ use Rattle.table.specs.Check.{refuseFound}
 use Rattle.table.specs.declared.Kind.{Kind}
 use Rattle.table.specs.declared.Check.the-variants.{Passed, Refused}
 use Rattle.table.proofs.View.{kind-byte}
-use Rattle.table.proofs.Walk.{length-places}
 use Rattle.analysis.specs.Steps.{setOfStmt}
 use Rattle.analysis.specs.Passes.{FilledTo, loopsCheck, placeAt}
-
--- the statement of a place decides
-abbrev loopEnds : Stmt → Bool
-loopEnds w = endsAtOnce (at 0 0 empty w)
-
-ends-by : (x : Place) → endsAtOnce x ≡ loopEnds (stmtOf x)
-ends-by (at d t S (leaf l)) = refl
-ends-by (at d t S (one (signal s) p)) = refl
-ends-by (at d t S (one (suspend s) p)) = refl
-ends-by (at d t S (one loop p)) = refl
-ends-by (at d t S (one trap p)) = refl
-ends-by (at d t S (two b p q)) = refl
-
-pub place-statement : (p : Stmt) (i : ℕ) → stmtOf (placeAt p i) ≡ statementAt (nodes p) i
-place-statement p i =
-    sym (List·getD-map stmtOf (placesOf p) i (at 0 0 empty (leaf nothing))) ∙ ap (λ l. getD l i (leaf nothing)) (statements p 1 0 empty)
-
-ends-at : (p : Stmt) (i : ℕ) → endsAtOnce (placeAt p i) ≡ loopEnds (statementAt (nodes p) i)
-ends-at p i = ends-by (placeAt p i) ∙ ap loopEnds (place-statement p i)
 
 -- by its kind: a loop, and its body's K has 0; or no loop
 data Ending (w : Stmt) : Bool → Type 0 where

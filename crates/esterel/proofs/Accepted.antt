@@ -6,15 +6,16 @@ use mathlib.Core.List.{List, [], _∷_, _++_, map, map-append}
 use Prim.Native.Nat.{ℕ, zero, suc, _+_, _≤_, _<_}
 use native.Mathlib.Omega.{arith}
 use lib.Dec.{leb, nleb→lt}
-use lib.ListN.{getD, List·getD-map}
+use lib.ListN.{length, getD, length-map, List·getD-map}
 use Rattle.codes.proofs.Bools.{toNot}
-use Rattle.esterel.specs.Statement.{Leaf, nothing, pause, emit, exit, Unary, loop, Binary, Stmt, leaf, one, two, nodes, trapsUnder}
+use Rattle.esterel.specs.Statement.{Leaf, nothing, pause, emit, exit, Unary, loop, Binary, Stmt, leaf, one, two, size, nodes, trapsUnder}
 use Rattle.esterel.specs.Codes.{Codes, empty}
 use Rattle.esterel.specs.Sets.{startSet, Place, at, places, placesOf, under, underLeft, underRight}
 use Rattle.esterel.specs.Table.{Verdict, passed, refused, read, postfix}
 use Rattle.esterel.specs.Checks.{tooDeep, tooManyTraps, uncaught, endsAtOnce, firstNode, refuseAt, checkPlaces, checkProgram}
 use Rattle.esterel.specs.Outcome.{statementAt}
 use Rattle.esterel.specs.Theorems.{Accepted, Acceptance}
+use Rattle.esterel.proofs.Sizes.{length-nodes}
 use Rattle.esterel.proofs.Reading.{reads-only}
 use Rattle.esterel.proofs.Every.{Every, none, also, every-left, every-right, every-at}
 use Rattle.esterel.proofs.Low.{Exits}
@@ -76,6 +77,9 @@ pub statements : (p : Stmt) (d t : ℕ) (P : Codes) → map stmtOf (places d t P
 statements (leaf l) d t P = refl
 statements (one u p) d t P = simp (map-append, statements p)
 statements (two b p q) d t P = simp (map-append, statements p, statements q)
+
+pub length-places : (p : Stmt) (d t : ℕ) (P : Codes) → length (places d t P p) ≡ size p
+length-places p d t P = sym (length-map (places d t P p) stmtOf) ∙ ap length (statements p d t P) ∙ length-nodes p
 
 no-end : (x : Place) (b : Stmt) → endsAtOnce x ≡ false → stmtOf x ≡ one loop b → startSet b 0 ≡ true → ⊥
 no-end (at d t S p) b f e c =

@@ -11,6 +11,8 @@ pub mod Admitted
 pub mod Reading
 pub mod Every
 pub mod Accepted
+pub mod LoopCheck
+pub mod Refusals
 pub mod Caught
 pub mod Ranges
 pub mod Subtrees

@@ -113,7 +113,7 @@ push-is (names2 b is) (q ∷ (p ∷ stack)) st e =
     rw (← z, w, bytes-append ((unused stack ++ nodes p) ++ nodes q) (two b p q ∷ []), is p q .0, is p q .1)
 push-is (names-none number) stack st e = cc
 
-scan-is : (bytes : List ℕ) (n : ℕ) (stack : List Stmt) (p : Stmt) → scan bytes n stack ≡ passed p → bytesOf (unused stack) ++ bytes ≡ postfix p
+pub scan-is : (bytes : List ℕ) (n : ℕ) (stack : List Stmt) (p : Stmt) → scan bytes n stack ≡ passed p → bytesOf (unused stack) ++ bytes ≡ postfix p
 scan-is [] n [] p e = cc
 scan-is [] n (q ∷ []) p e = let z : q ≡ p = cc in rw (append-nil, z)
 scan-is [] n (q ∷ (r ∷ stack)) p e = cc

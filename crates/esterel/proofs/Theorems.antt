@@ -12,7 +12,7 @@ use Rattle.esterel.specs.Sets.{startSet}
 use Rattle.esterel.specs.Checks.{planned}
 use Rattle.esterel.specs.Instant.{Entry, Result, closed, starved, stuck, zeros, holds, start, resume, admitted}
 use Rattle.esterel.specs.Outcome.{statementAt, taken}
-use Rattle.esterel.specs.Theorems.{Reading, Exactness, Decides, LeftOver, Accepted, Closed, Closes, Demand3, NeedsMore, Starving}
+use Rattle.esterel.specs.Theorems.{Reading, Exactness, EndedInK, EndsAtOnce, LoopCheck, Decides, LeftOver, Accepted, Closed, Closes, Demand3, NeedsMore, Starving}
 use Rattle.esterel.proofs.Sizes.{load, size-load, load-planned, load-bound}
 use Rattle.esterel.proofs.Held.{Fits, fits-length, none-zeros}
 use Rattle.esterel.proofs.Nodes.{Part, sits, sits-own}
@@ -24,6 +24,7 @@ use Rattle.esterel.proofs.Answers.{Reaches, reach, start-decides, resum
 use Rattle.esterel.proofs.Admitted.{admitted-holds, admitted-fits, admits}
 use Rattle.esterel.proofs.Reading.{reads-only, reads-back}
 use Rattle.esterel.proofs.Accepted.{ends-not, exits-in}
+use Rattle.esterel.proofs.LoopCheck.{refuses-lowest, accepts-none, lowest-as, none-as}
 use Rattle.esterel.proofs.Subtrees.{all-go-on}
 
 pub reading : Reading
@@ -49,6 +50,27 @@ exactness p first k = (
   λ e. let c = reach p first k e in (c .used ++ [], c .trail, c .held, [], c .is .is []),
   λ (answers, t, h, r, e). run-code {C = In (startSet p)} (rw e at (started-run p first answers .1)),
 )
+
+-- Refusal for a loop: a body has 0 in K exactly if it can end at once.
+
+ended-ends : (first : ℕ) (q : Stmt) → EndedInK first q → EndsAtOnce first q
+ended-ends first q = exactness q first 0 .0
+
+ends-ended : (first : ℕ) (q : Stmt) → EndsAtOnce first q → EndedInK first q
+ends-ended first q = exactness q first 0 .1
+
+pub loopCheck : LoopCheck
+loopCheck =
+    record {
+      refuses = λ bytes p w i. refuses-lowest w i;
+      refusesExactly = λ bytes p w i.
+          (let (there, back) = refuses-lowest w i in
+          (λ e. lowest-as ended-ends ends-ended (there e), λ l. back (lowest-as ends-ended ended-ends l)));
+      accepts = λ bytes p w. accepts-none w;
+      acceptsExactly = λ bytes p w.
+          (let (there, back) = accepts-none w in
+          (λ e. none-as ended-ends ends-ended p (there e), λ f. back (none-as ends-ended ended-ends p f)));
+    }
 
 pub leftOver : LeftOver
 leftOver = record { starts = start-decides; resumes = resume-decides }

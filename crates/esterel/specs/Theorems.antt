@@ -2,14 +2,15 @@
 use mathlib.Core.Path.{_≡_}
 use mathlib.Core.Logic.{_↔_}
 use mathlib.Core.Bool.{Bool, true, false}
+use mathlib.Core.Option.{none}
 use mathlib.Core.List.{List, [], _∷_, _++_, map}
 use Prim.Native.Nat.{ℕ, suc, _+_, _-_, _*_, _≤_, _<_}
 use lib.ListN.{length, getD}
 use Rattle.esterel.specs.Limits.{maxNodes}
-use Rattle.esterel.specs.Statement.{Unary, Binary, Stmt, leaf, one, two, kind, field, size, nodes, loopsAround}
+use Rattle.esterel.specs.Statement.{Unary, loop, Binary, Stmt, leaf, one, two, kind, field, size, nodes, loopsAround}
 use Rattle.esterel.specs.Sets.{startSet, placesOf}
-use Rattle.esterel.specs.Table.{Verdict, passed, read, postfix}
-use Rattle.esterel.specs.Checks.{checkPlaces, verdict, planned}
+use Rattle.esterel.specs.Table.{Verdict, passed, refused, read, postfix}
+use Rattle.esterel.specs.Checks.{tooDeep, tooManyTraps, uncaught, firstNode, checkPlaces, verdict, planned}
 use Rattle.esterel.specs.Instant.{Entry, Result, closed, starved, stuck, zeros, start, resume, admitted}
 use Rattle.esterel.specs.Outcome.{statementAt, taken, allIn, allGoOn}
 
@@ -40,6 +41,43 @@ Finishes run k = (answers : List ℕ) × (trail : List Entry) × (held rest : Li
 
 abbrev pub Exactness : Type 0
 Exactness = (p : Stmt) (first k : ℕ) → (startSet p k ≡ true) ↔ Finishes (start first p) k
+
+-- Demand 2, refusal for a loop. The table of p passes checks 1, 2 and 4 to 10
+pub record WellFormed (bytes : List ℕ) (p : Stmt) : Type 0 where
+  pub reads : read bytes ≡ passed p
+  pub depths : firstNode tooDeep (placesOf p) 0 ≡ none
+  pub traps : firstNode tooManyTraps (placesOf p) 0 ≡ none
+  pub exits : firstNode uncaught (placesOf p) 0 ≡ none
+
+-- what is asked of a loop's body, whose first node is given too: it has code 0 in K; or some answers make it, started, finish with 0
+abbrev pub EndedInK : ℕ → Stmt → Type 0
+EndedInK first q = startSet q 0 ≡ true
+
+abbrev pub EndsAtOnce : ℕ → Stmt → Type 0
+EndsAtOnce first q = Finishes (start first q) 0
+
+-- node i is the lowest of p's loops whose body is such
+pub record LowestLoop (p : Stmt) (Such : ℕ → Stmt → Type 0) (i : ℕ) : Type 0 where
+  pub body : Stmt
+  pub isLoop : statementAt (nodes p) i ≡ one loop body
+  pub such : Such (i - size body) body
+  pub lowest : (j : ℕ) (q : Stmt) → j < i → statementAt (nodes p) j ≡ one loop q → Such (j - size q) q → ⊥
+
+-- p has no loop whose body is such
+abbrev pub NoLoop : (p : Stmt) → (ℕ → Stmt → Type 0) → Type 0
+NoLoop p Such = (j : ℕ) (q : Stmt) → statementAt (nodes p) j ≡ one loop q → Such (j - size q) q → ⊥
+
+-- such a table is refused, at the lowest such loop, exactly if a body has 0 in K, hence exactly if a body can end at once; else it is
+-- accepted
+pub record LoopCheck : Type 0 where
+  pub refuses : (bytes : List ℕ) (p : Stmt) → WellFormed bytes p → (i : ℕ) → (verdict bytes ≡ refused 11 i) ↔ LowestLoop p EndedInK i
+  pub refusesExactly : (bytes : List ℕ) (p : Stmt) → WellFormed bytes p → (i : ℕ) → (verdict bytes ≡ refused 11 i) ↔ LowestLoop p EndsAtOnce i
+  pub accepts : (bytes : List ℕ) (p : Stmt) → WellFormed bytes p → (verdict bytes ≡ passed p) ↔ NoLoop p EndedInK
+  pub acceptsExactly : (bytes : List ℕ) (p : Stmt) → WellFormed bytes p → (verdict bytes ≡ passed p) ↔ NoLoop p EndsAtOnce
+
+-- A refusal of a table has a number from 1 to 11 and a node that a table can have.
+abbrev pub Refusals : Type 0
+Refusals = (bytes : List ℕ) (number node : ℕ) → verdict bytes ≡ refused number node → (1 ≤ number) × (number ≤ 11) × (node < maxNodes)
 
 -- Answers left over are not looked at: the taken ones alone decide, whatever follows them.
 abbrev pub Decides : (List ℕ → Result) → Type 0

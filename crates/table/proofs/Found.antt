@@ -11,6 +11,7 @@ use Rattle.esterel.specs.Limits.{maxNodes}
 use Rattle.esterel.specs.Statement.{Unary, signal, suspend, loop, trap, Stmt, leaf, one, two, loopsUnder, loopDepth, loopsAround}
 use Rattle.esterel.specs.Sets.{Place}
 use Rattle.esterel.specs.Checks.{tooDeep, tooManyTraps, uncaught, firstNode}
+use Rattle.esterel.proofs.Refusals.{Below, first-below}
 use Rattle.table.specs.Check.{refuseFound, lowest, refuseBelow, placesCheck}
 use Rattle.table.specs.declared.Check.{Check}
 use Rattle.table.specs.declared.Check.the-variants.{Passed, Refused}
@@ -34,19 +35,6 @@ pub answer-more : (test : Place → Bool) (ps : List Place) (n : ℕ) (x : Place
     → Answer test ps (suc n) r → r′ ≡ cond b n r → Answer test (x ∷ ps) n r′
 answer-more test ps n x b r r′ eb e e′ =
     e′ ∙ ap (λ a. cond b n a) e ∙ ap (λ a. cond a n (lowest (firstNode test ps (suc n)))) eb ∙ lower n (test x) (firstNode test ps (suc n))
-
--- a node that is found is one of the places'
-abbrev Below : ℕ → Option ℕ → Type 0
-Below m none = Unit {0}
-Below m (some k) = k < m
-
-first-below : (test : Place → Bool) (ps : List Place) (n m : ℕ) → n + length ps ≤ m → Below m (firstNode test ps n)
-first-below test [] n m h = tt
-first-below test (x ∷ ps) n m h = go (test x) (first-below test ps (suc n) m (omega arith))
-  where
-    go : (b : Bool) → Below m (firstNode test ps (suc n)) → Below m (cond b (some n) (firstNode test ps (suc n)))
-    go true later = omega arith
-    go false later = later
 
 -- a refusal is told by its node
 pub refused-below : (number k : ℕ) (next : Check) → k < maxNodes → refuseBelow number k next ≡ Refused number k

@@ -24,7 +24,8 @@ use Rattle.table.specs.declared.Check.the-variants.{Passed}
 use Rattle.table.specs.declared.Faults.{Faults}
 use Rattle.table.specs.declared.Nesting.{Nesting}
 use Rattle.table.proofs.View.{table-length, kind-byte, field-byte}
-use Rattle.table.proofs.Walk.{Waiting, Walk, Next, program, begin, next, ended, descend, placeOf, placesIn, length-places}
+use Rattle.table.proofs.Walk.{Waiting, Walk, Next, program, begin, next, ended, descend, placeOf, placesIn}
+use Rattle.esterel.proofs.Accepted.{length-places}
 use Rattle.table.proofs.Stacks.{none, more, Stack, Each, Top, top, descended}
 use Rattle.table.proofs.Said.{said, childrenOf, trapsOf, loopsOf, bit-small, depth-below, traps-below, loops-below, count-below}
 use Rattle.table.proofs.Found.{Answers, answer-more, together, most, most-loops}

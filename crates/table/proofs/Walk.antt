@@ -4,14 +4,14 @@ use mathlib.Core.Path.{_≡_, refl, sym, ap, _∙_}
 use mathlib.Core.List.{List, [], _∷_, _++_, append-assoc, append-nil}
 use Prim.Native.Nat.{ℕ, suc, _+_, _<_}
 use native.Mathlib.Omega.{arith}
-use lib.ListN.{length, getD, length-append, length-map, List·getD-map}
+use lib.ListN.{length, getD, length-append, List·getD-map}
 use lib.Seq.{getD-at}
 use Rattle.esterel.specs.Statement.{nothing, Unary, Binary, Stmt, leaf, one, two, size, nodes, loopsUnder, trapsUnder, loopsAround}
 use Rattle.esterel.specs.Codes.{Codes, empty}
 use Rattle.esterel.specs.Sets.{Place, at, places, placesOf, under, underLeft, underRight}
 use Rattle.esterel.specs.Outcome.{statementAt}
-use Rattle.esterel.proofs.Accepted.{stmtOf, statements}
-use Rattle.esterel.proofs.Sizes.{length-nodes, size-pos}
+use Rattle.esterel.proofs.Accepted.{stmtOf, statements, length-places}
+use Rattle.esterel.proofs.Sizes.{size-pos}
 
 pub record Waiting : Type 0 where
   pub depth : ℕ
@@ -82,9 +82,6 @@ pub record Walk (p : Stmt) (i : ℕ) (ws : List Waiting) : Type 0 where
 -- at the beginning the program waits
 abbrev pub program : Stmt → Waiting
 program p = record { depth = 1; traps = 0; loops = 0; context = empty; root = p }
-
-pub length-places : (p : Stmt) (d t : ℕ) (P : Codes) → length (places d t P p) ≡ size p
-length-places p d t P = sym (length-map (places d t P p) stmtOf) ∙ ap length (statements p d t P) ∙ length-nodes p
 
 unfoldable pub begin : (p : Stmt) → Walk p (size p) (program p ∷ [])
 begin p =
