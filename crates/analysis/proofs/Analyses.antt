@@ -1,6 +1,6 @@
 -- One lemma for each return of `analyse`.
 use mathlib.Core.Path.{_≡_, refl, sym, ap, ap₂, subst, _∙_}
-use mathlib.Core.Bool.{Bool, true, false, not, _&&_}
+use mathlib.Core.Bool.{Bool, true, false, _&&_}
 use mathlib.Core.List.{List, [], _∷_, _++_, map}
 use Prim.Native.Nat.{ℕ, _/_, _≤_}
 use native.Mathlib.Omega.{arith}
@@ -16,11 +16,12 @@ use Rattle.esterel.specs.Table.{Verdict, passed, refused, scan}
 use Rattle.esterel.specs.Checks.{checkProgram, Line, lineOf, listing}
 use Rattle.esterel.proofs.Accepted.{stmtOf, statements}
 use Rattle.table.specs.Program.{programOf}
-use Rattle.table.specs.Check.{refuse, lengthCheck}
+use Rattle.table.specs.Check.{refuse, passIf, lengthCheck}
 use Rattle.table.specs.Check.{answerOf as checkOf}
 use Rattle.table.specs.declared.Check.{Check}
 use Rattle.table.specs.declared.Check.the-variants.{Passed}
 use Rattle.table.specs.declared.Check.the-variants.{Refused as RefusedCheck}
+use Rattle.table.proofs.Found.{pass-true}
 use Rattle.table.proofs.View.{table-length}
 use Rattle.analysis.specs.Steps.{setOfStmt}
 use Rattle.analysis.specs.Passes.{FilledTo, wordsOf, onto, flagsOf, contextWord, contextsOf, marksOf, Ready, Walkable}
@@ -33,6 +34,11 @@ use Rattle.analysis.proofs.Filling.{length-words, words-at, filled-to, 
 
 -- ---- the verdict of a call
 
+-- check 3 by its answer
+room-check : (b : Bool) (next : Verdict) → checkRoom b next ≡ refuse (passIf 3 b) next
+room-check true next = refl
+room-check false next = refl
+
 module _ (t : List ℕ) (room : Bool) where
   abbrev later : Bool → Verdict
   later b = checkRoom b (checkProgram (scan t 0 []))
@@ -44,15 +50,15 @@ module _ (t : List ℕ) (room : Bool) where
   pub length-refused : (c : Check) (number node : ℕ) → c ≡ lengthCheck t → c ≡ RefusedCheck number node → checked room t ≡ refused number node
   length-refused c number node e z = after-length c e ∙ ap (λ x. refuse x (later room)) z
 
-  module _ (c : Check) (e : c ≡ lengthCheck t) (z : c ≡ Passed) (b : Bool) (eb : b ≡ room) where
-    after-room : checked room t ≡ later b
-    after-room = after-length c e ∙ ap (λ x. refuse x (later room)) z ∙ ap later (sym eb)
+  module _ (c : Check) (e : c ≡ lengthCheck t) (z : c ≡ Passed) (r : Check) (er : r ≡ passIf 3 room) where
+    after-room : checked room t ≡ refuse r (checkProgram (scan t 0 []))
+    after-room = after-length c e ∙ ap (λ x. refuse x (later room)) z ∙ room-check room (checkProgram (scan t 0 [])) ∙ ap (λ x. refuse x (checkProgram (scan t 0 []))) (sym er)
 
-    pub room-refused : b ≡ false → checked room t ≡ refused 3 0
-    room-refused f = after-room ∙ ap later f
+    pub room-refused : (number node : ℕ) → r ≡ RefusedCheck number node → checked room t ≡ refused number node
+    room-refused number node f = after-room ∙ ap (λ x. refuse x (checkProgram (scan t 0 []))) f
 
-    pub room-passed : b ≡ true → checked room t ≡ checkProgram (scan t 0 [])
-    room-passed f = after-room ∙ ap later f
+    pub room-passed : r ≡ Passed → checked room t ≡ checkProgram (scan t 0 [])
+    room-passed f = after-room ∙ ap (λ x. refuse x (checkProgram (scan t 0 []))) f
 
 -- a refusal's number and node are its verdict's
 pub verdict-refused : (v : Verdict) (c : Check) (number node : ℕ) → c ≡ checkOf v → c ≡ RefusedCheck number node → v ≡ refused number node
@@ -83,9 +89,9 @@ pub record Room (n k a s m : ℕ) : Type 0 where
   pub contexts : n ≤ s
   pub marks : n ≤ m
 
-pub room-of : (n k a s m : ℕ) (b : Bool) → b ≡ roomFor n k a s m → b ≡ true → Room n k a s m
-room-of n k a s m b e z =
-    let f : roomFor n k a s m ≡ true = sym e ∙ z in
+pub room-of : (n k a s m : ℕ) (r : Check) → r ≡ passIf 3 (roomFor n k a s m) → r ≡ Passed → Room n k a s m
+room-of n k a s m r e z =
+    let f : roomFor n k a s m ≡ true = pass-true 3 _ (sym e ∙ z) in
     let g = left (leb n k && leb n a && leb n s) (leb n m) f in
     let h = left (leb n k && leb n a) (leb n s) g in
     record {
@@ -105,7 +111,7 @@ map-stmts : (f : Stmt → ℕ) (ps : List Place) → map (λ x. f (stmtOf x)) ps
 map-stmts f [] = refl
 map-stmts f (x ∷ ps) = rw (map-stmts f ps)
 
-starts-column : (p : Stmt) → map kOf (listing p) ≡ wordsOf false p
+pub starts-column : (p : Stmt) → map kOf (listing p) ≡ wordsOf false p
 unfolding wordsOf
 starts-column p =
     map-lines kOf (λ x. word (setOfStmt false (stmtOf x))) by (placesOf p) ∙ map-stmts (λ q. word (setOfStmt false q)) (placesOf p) ∙ ap (map (λ q. word (setOfStmt false q))) (statements p 1 0 empty)
@@ -186,11 +192,3 @@ module _ {t sizes sets : List ℕ} (o : Ready t sizes sets) where
         marksAre =
             em′ ∙ ap (onto (marksOf p)) em ∙ onto-onto (marksOf p) (flagsOf p) m (length-marks p ∙ sym (length-flags p)) ∙ column-is markOf p _ _ m z (marks-column p);
       }
-
-pub not-is-true : (b : Bool) → not b ≡ true → b ≡ false
-not-is-true true e = sym e
-not-is-true false e = refl
-
-pub not-is-false : (b : Bool) → not b ≡ false → b ≡ true
-not-is-false true e = refl
-not-is-false false e = sym e

@@ -6,3 +6,4 @@ pub mod Flags
 pub mod Contexts
 pub mod Accepts
 pub mod Analyses
+pub mod Theorems

@@ -12,7 +12,7 @@ ghost use Rattle.esterel.specs.Outcome.{statementAt};
 ghost use Rattle.esterel.specs.Checks.{endsAtOnce};
 ghost use Rattle.table.specs.declared.Kind.the-variants.{Exit};
 ghost use Rattle.table.specs.Program.{programOf, Readable};
-ghost use Rattle.table.specs.Check.{WellSized};
+ghost use Rattle.table.specs.Check.{WellSized, passIf};
 ghost use Rattle.analysis.specs.Steps.{pauseSet, setOfStmt, sequenceOf, codesOf, underFirstOf, underSecondOf, leftOf, rightOf, trapsOf};
 ghost use Rattle.analysis.specs.Passes.{Surveyable, FilledTo, wordsOf, onto, loopsCheck, placeAt, firstEnds, flagsOf, contextsOf, marksOf, Walkable, Accepting};
 ghost use Rattle.analysis.specs.Analysis.{refusalOf, roomFor, Analysis};
@@ -347,11 +347,14 @@ fn refused(check: Check) -> Analysed
     }
 }
 
-// Whether each of four buffers has an entry for each of n nodes.
-fn has_room(n: usize, starts: usize, anys: usize, contexts: usize, marks: usize) -> bool
-    ensures { λ r. ⌜ r ≡ roomFor n starts anys contexts marks ⌝ }
+// Check 3: each of four buffers has an entry for each of n nodes.
+fn check_room(n: usize, starts: usize, anys: usize, contexts: usize, marks: usize) -> Check
+    ensures { λ r. ⌜ r ≡ passIf 3 (roomFor n starts anys contexts marks) ⌝ }
 {
-    (n <= starts) & (n <= anys) & (n <= contexts) & (n <= marks)
+    if (n <= starts) & (n <= anys) & (n <= contexts) & (n <= marks) {
+        return Check::Passed;
+    }
+    Check::Refused { number: 3, node: 0 }
 }
 
 // The analysis of a table: checks 1, 2, 3, 4 to 11, then K, A, S and marks of every node in postorder. A refusal changes
@@ -370,16 +373,16 @@ pub fn analyse(
         return refused(length);
     };
     let n = table.len() / 2;
-    let room = has_room(
+    let room = check_room(
         n,
         start_sets.len(),
         any_sets.len(),
         contexts.len(),
         marks.len(),
     );
-    if !room {
-        return Analysed::Refused { number: 3, node: 0 };
-    }
+    let Check::Passed = room else {
+        return refused(room);
+    };
     let mut sizes = [0u16; esterel::MAX_NODES];
     let mut sets = [0u64; esterel::MAX_NODES];
     let accepted = accept(table, &mut sizes, &mut sets);

@@ -17,7 +17,7 @@ use Rattle.table.specs.Program.{programOf, programIn, Readable}
 use Rattle.table.proofs.View.{field-byte}
 use Rattle.table.proofs.Surveying.{few-nodes}
 use Rattle.analysis.specs.Passes.{placeAt}
-use Rattle.analysis.proofs.Loops.{place-statement}
+use Rattle.esterel.proofs.LoopCheck.{place-statement}
 use Rattle.listing.specs.Text.{lineText, linesFrom, headerText, textOf, maxText}
 use Rattle.listing.specs.Written.{lineAt}
 use Rattle.listing.proofs.Digits.{few-digits, digits-few}

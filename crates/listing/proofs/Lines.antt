@@ -16,7 +16,7 @@ use Rattle.table.proofs.View.{kind-byte, field-byte}
 use Rattle.table.proofs.Surveying.{few-nodes}
 use Rattle.analysis.specs.Passes.{placeAt}
 use Rattle.analysis.specs.Analysis.{kOf, aOf, sOf, markOf}
-use Rattle.analysis.proofs.Loops.{place-statement}
+use Rattle.esterel.proofs.LoopCheck.{place-statement}
 use Rattle.listing.specs.Text.{lineText, linesFrom}
 use Rattle.listing.specs.Written.{Written, lineAt, Columns}
 use Rattle.listing.proofs.Fields.{line-short}

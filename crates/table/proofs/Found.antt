@@ -12,10 +12,15 @@ use Rattle.esterel.specs.Statement.{Unary, signal, suspend, loop, trap, Stmt, l
 use Rattle.esterel.specs.Sets.{Place}
 use Rattle.esterel.specs.Checks.{tooDeep, tooManyTraps, uncaught, firstNode}
 use Rattle.esterel.proofs.Refusals.{Below, first-below}
-use Rattle.table.specs.Check.{refuseFound, lowest, refuseBelow, placesCheck}
+use Rattle.table.specs.Check.{passIf, refuseFound, lowest, refuseBelow, placesCheck}
 use Rattle.table.specs.declared.Check.{Check}
 use Rattle.table.specs.declared.Check.the-variants.{Passed, Refused}
 use Rattle.table.specs.declared.Faults.{Faults}
+
+-- a check that names no node passes if its test holds
+pub pass-true : (number : ℕ) (b : Bool) → passIf number b ≡ Passed → b ≡ true
+pass-true number true e = refl
+pass-true number false e = cc
 
 -- the lowest node at which a check fails
 abbrev pub Answer : (Place → Bool) → List Place → ℕ → ℕ → Type 0

@@ -1,0 +1,165 @@
+-- Demands 1 and 2 of `analyse`: its contract joined with the theory's theorems.
+use mathlib.Core.Path.{_≡_, refl, sym, ap, subst, _∙_}
+use mathlib.Core.Logic.{_↔_}
+use mathlib.Core.Bool.{Bool, true, false}
+use mathlib.Core.Option.{Option, none, some}
+use mathlib.Core.List.{List, []}
+use Prim.Native.Nat.{ℕ, suc, _-_, _/_, _≤_, _<_}
+use native.Mathlib.Decide.{decLt}
+use native.Mathlib.Omega.{arith}
+use borrow.Author.Tests.{le-leb}
+use lib.ListN.{length, getD}
+use Rattle.codes.specs.Codes.{Codes, only, word}
+use Rattle.codes.specs.Words.{_∋_}
+use Rattle.codes.proofs.Bools.{both}
+use Rattle.codes.proofs.Bits.{∋-past}
+use Rattle.codes.proofs.Laws.{word-lt, ∋-word}
+use Rattle.codes.proofs.Members.{only-out}
+use Rattle.esterel.specs.Limits.{maxNodes}
+use Rattle.esterel.specs.Statement.{Stmt, size, nodes, loopDepth}
+use Rattle.esterel.specs.Sets.{startSet}
+use Rattle.esterel.specs.Table.{Verdict, passed, refused, scan, checkLength}
+use Rattle.esterel.specs.Checks.{endsAtOnce, firstNode, refuseAt, checkProgram, verdict}
+use Rattle.esterel.specs.Sets.{placesOf}
+use Rattle.esterel.specs.Outcome.{statementAt}
+use Rattle.esterel.specs.Theorems.{WellFormed, EndedInK, EndsAtOnce, LowestLoop, NoLoop}
+use Rattle.esterel.proofs.Reading.{length-postfix, reads-only, length-passed}
+use Rattle.esterel.proofs.Accepted.{acceptance, passes}
+use Rattle.esterel.proofs.Caught.{codes-few}
+use Rattle.esterel.proofs.LoopCheck.{decides}
+use Rattle.esterel.proofs.Refusals.{Numbered, Told, refuses, told-numbered, length-told, program-told, length-first}
+use Rattle.esterel.proofs.Theorems.{exactness, loopCheck}
+use Rattle.analysis.specs.Steps.{setOfStmt}
+use Rattle.analysis.specs.Passes.{FilledTo, wordsOf, onto}
+use Rattle.analysis.specs.Analysis.{checkRoom, checked, roomFor, verdictFor, answerOf, kOf, aOf, sOf, markOf, column, Analysis}
+use Rattle.analysis.specs.Theorems.{Lent, ByLoops, ExactSets, Unchanged, Demand2OfCall}
+use Rattle.analysis.specs.declared.Analysed.{Analysed}
+use Rattle.analysis.specs.declared.Analysed.the-variants.{Done, Refused}
+use Rattle.analysis.proofs.Filling.{filled-to}
+use Rattle.analysis.proofs.Analyses.{starts-column}
+
+-- ---- the call's verdict and the table's
+
+pub checked-room : (t : List ℕ) → checked true t ≡ verdict t
+unfolding checked
+checked-room t = sym (length-first t (scan t 0 []))
+
+pub checked-passed : (room : Bool) (t : List ℕ) (p : Stmt) → checked room t ≡ passed p → verdict t ≡ passed p
+unfolding checked
+checked-passed true t p e = sym (checked-room t) ∙ e
+checked-passed false t p e = let z = length-passed t (refused 3 0) p e in cc
+
+-- a refusal of checks 1 to 11
+pub checked-told : (room : Bool) (t : List ℕ) → Told (checked room t)
+unfolding checked
+checked-told true t = length-told t _ (program-told t)
+checked-told false t = length-told t _ (λ h. refuses 3 0 record { some = omega arith; known = omega arith; within = omega arith })
+
+-- an answer is of one verdict
+refused-of : (v : Verdict) (number node : ℕ) → Refused number node ≡ answerOf v → v ≡ refused number node
+unfolding answerOf
+refused-of (passed p) number node e = cc
+refused-of (refused a b) number node e = cc
+
+done-of : (v : Verdict) (n d : ℕ) → Done n d ≡ answerOf v → (p : Stmt) × (v ≡ passed p) × (n ≡ size p) × (d ≡ loopDepth p)
+unfolding answerOf
+done-of (passed p) n d e = (p, refl, cc, cc)
+done-of (refused a b) n d e = let z : _≡_ {A = ℕ} 0 1 = cc in absurd (omega arith)
+
+-- ---- refusal for a loop
+
+module _ {t k a s m k′ a′ s′ m′ : List ℕ} {p : Stmt} {r : Analysed} (l : Lent t p k a s m) (o : Analysis t k a s m k′ a′ s′ m′ r) where
+  count : length t / 2 ≡ size p
+  count = omega (arith, ap length (reads-only t p (l .wellFormed .reads)), length-postfix p)
+
+  room : roomFor (length t / 2) (length k) (length a) (length s) (length m) ≡ true
+  room =
+      both (both (both (le-leb _ (length k) (omega (arith, count, l .startsRoom))) (le-leb _ (length a) (omega (arith, count, l .anysRoom)))) (le-leb _ (length s) (omega (arith, count, l .contextsRoom))))
+      (le-leb _ (length m) (omega (arith, count, l .marksRoom)))
+
+  answer-is : r ≡ answerOf (verdict t)
+  answer-is = o .answer ∙ ap answerOf (ap (λ b. checked b t) room ∙ checked-room t)
+
+  refused-as : (i : ℕ) → (r ≡ Refused 11 i) ↔ (verdict t ≡ refused 11 i)
+  unfolding answerOf
+  refused-as i = (λ e. refused-of (verdict t) 11 i (sym e ∙ answer-is), λ e. answer-is ∙ ap answerOf e)
+
+  done-as : (r ≡ Done (size p) (loopDepth p)) ↔ (verdict t ≡ passed p)
+  unfolding answerOf
+  done-as = (λ e. decides (l .wellFormed) ∙ only (firstNode endsAtOnce (placesOf p) 0) (sym e ∙ answer-is ∙ ap answerOf (decides (l .wellFormed))), λ e. answer-is ∙ ap answerOf e)
+    where
+      only : (x : Option ℕ) → Done (size p) (loopDepth p) ≡ answerOf (refuseAt 11 x (passed p)) → refuseAt 11 x (passed p) ≡ passed p
+      only none e = refl
+      only (some i) e = cc
+
+  by-loops : ByLoops p r
+  by-loops =
+      record {
+        refuses = λ i. joined (refused-as i) (loopCheck .refuses t p (l .wellFormed) i);
+        refusesExactly = λ i. joined (refused-as i) (loopCheck .refusesExactly t p (l .wellFormed) i);
+        accepts = joined done-as (loopCheck .accepts t p (l .wellFormed));
+        acceptsExactly = joined done-as (loopCheck .acceptsExactly t p (l .wellFormed));
+      }
+    where
+      joined : {A B C : Type 0} → (A ↔ B) → (B ↔ C) → A ↔ C
+      joined f g = (λ x. g .0 (f .0 x), λ x. f .1 (g .1 x))
+
+-- ---- the bits of the start sets
+
+-- where no code is above 63, the number has each code's bit
+bit-of : (a : Codes) → ((k : ℕ) → a k ≡ true → k < 64) → (k : ℕ) → (word a ∋ k) ≡ a k
+bit-of a low k = go (decLt k 64)
+  where
+    none-past : (b : Bool) → a k ≡ b → (k < 64 → ⊥) → false ≡ b
+    none-past true e h = absurd (h (low k e))
+    none-past false e h = refl
+
+    go : Dec (k < 64) → (word a ∋ k) ≡ a k
+    go (yes h) = ∋-word a k h
+    go (no h) = ∋-past (word a) 64 k (word-lt a) (omega arith) ∙ none-past (a k) refl h
+
+module _ {t k a s m k′ a′ s′ m′ : List ℕ} {n d : ℕ} (o : Analysis t k a s m k′ a′ s′ m′ (Done n d)) where
+  exact-sets : ExactSets t k′ n d
+  unfolding column FilledTo
+  exact-sets =
+      let (p, v, en, ed) = done-of (verdictFor t k a s m) n d (o .answer) in
+      let accepted = checked-passed _ t p v in
+      let sound = acceptance t p accepted .1 in
+      let filled : k′ ≡ onto (wordsOf false p) k = o .startsAre ∙ ap (λ x. column kOf x k) v ∙ ap (λ x. onto x k) (starts-column p) in
+      let low : (i j : ℕ) → startSet (statementAt (nodes p) i) j ≡ true → j < 64 = λ i j e. omega (arith, codes-few p (passes p sound .traps) (passes p sound .exits) (only 1) (λ x z. omega (arith, only-out 1 x z)) i j e) in
+      let entry : (i j : ℕ) → i < n → (getD k′ i 0 ∋ j) ≡ startSet (statementAt (nodes p) i) j = λ i j h. ap (λ x. getD x i 0 ∋ j) filled ∙ ap (λ x. x ∋ j) (filled-to false p k i (omega arith)) ∙ bit-of (startSet (statementAt (nodes p) i)) (low i) j in
+      record {
+        program = p;
+        accepted = accepted;
+        nodesAre = en;
+        loopsAre = ed;
+        bits = λ i j h.
+            (let (there, back) = exactness (statementAt (nodes p) i) (suc i - size (statementAt (nodes p) i)) j in
+            (λ e. there (sym (entry i j h) ∙ e), λ f. entry i j h ∙ back f));
+      }
+
+-- ---- refusals
+
+module _ {t k a s m k′ a′ s′ m′ : List ℕ} {number node : ℕ} (o : Analysis t k a s m k′ a′ s′ m′ (Refused number node)) where
+  unchanged : Unchanged number node k a s m k′ a′ s′ m′
+  unfolding column
+  unchanged =
+      let v = refused-of (verdictFor t k a s m) number node (o .answer) in
+      let told = told-numbered (subst Told v (checked-told _ t)) in
+      record {
+        some = told .some;
+        known = told .known;
+        within = told .within;
+        sameStarts = o .startsAre ∙ ap (λ x. column kOf x k) v;
+        sameAnys = o .anysAre ∙ ap (λ x. column aOf x a) v;
+        sameContexts = o .contextsAre ∙ ap (λ x. column sOf x s) v;
+        sameMarks = o .marksAre ∙ ap (λ x. column markOf x m) v;
+      }
+
+pub demand2OfCall : Demand2OfCall
+demand2OfCall =
+    record {
+      loops = λ t k a s m k′ a′ s′ m′ p r l o. by-loops l o;
+      sets = λ t k a s m k′ a′ s′ m′ n d o. exact-sets o;
+      refusals = λ t k a s m k′ a′ s′ m′ number node o. unchanged o;
+    }
