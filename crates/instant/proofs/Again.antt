@@ -13,8 +13,8 @@ use borrow.Author.Tests.{ltb-true, ltb-false, eqb-true, eqb-false, not-true, not
 use Rattle.esterel.specs.Statement.{Unary, signal, suspend, loop, trap, Binary, present, sequence, parallel, Stmt, one, two, kind, size}
 use Rattle.esterel.specs.Instant.{started, resumed, entry, Result, zeros, enter, body, again, catch, first, second, holds, idle, apart, start, resume}
 use Rattle.esterel.specs.Outcome.{emission}
-use Rattle.table.specs.Kinds.{kindOf, isTrap, isLoop, isSequence}
-use Rattle.instant.specs.Steps.{hasEnded, takenAfter, alone, oneMore, catchRan, catches, both, isSuspend, kept, asked, doneAfter}
+use Rattle.table.specs.Kinds.{kindOf, isTrap, isLoop, isSequence, isSuspend}
+use Rattle.instant.specs.Steps.{hasEnded, takenAfter, alone, oneMore, catchRan, catches, both, kept, asked, doneAfter}
 use Rattle.instant.specs.Run.{stmtAt, RanIs, ran, starves}
 use Rattle.instant.specs.declared.Ran.{Ran}
 use Rattle.instant.specs.declared.Ran.the-variants.{Closed, Starved}

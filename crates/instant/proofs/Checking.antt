@@ -1,6 +1,6 @@
 -- Checks 1 to 11 of a call.
-use mathlib.Core.Path.{_≡_, refl, sym, ap, _∙_}
-use mathlib.Core.Bool.{Bool, true, false}
+use mathlib.Core.Path.{_≡_, sym, ap, _∙_}
+use mathlib.Core.Bool.{true}
 use mathlib.Core.List.{List, []}
 use Prim.Native.Nat.{ℕ, _/_}
 use native.Mathlib.Omega.{arith}
@@ -11,11 +11,12 @@ use Rattle.codes.proofs.Bools.{left, right}
 use Rattle.esterel.specs.Limits.{signals}
 use Rattle.esterel.specs.Table.{refused, scan}
 use Rattle.esterel.specs.Checks.{checkProgram}
-use Rattle.table.specs.Check.{lengthCheck}
+use Rattle.table.specs.Check.{passIf, lengthCheck}
 use Rattle.table.specs.Check.{answerOf as checkOf}
 use Rattle.table.specs.declared.Check.{Check}
 use Rattle.table.specs.declared.Check.the-variants.{Passed}
 use Rattle.table.specs.declared.Check.the-variants.{Refused as RefusedCheck}
+use Rattle.table.proofs.Found.{pass-true}
 use Rattle.analysis.specs.Passes.{Accepting}
 use Rattle.analysis.specs.declared.Acceptance.{Acceptance}
 use Rattle.analysis.proofs.Accepts.{well-sized}
@@ -30,13 +31,13 @@ module _ (t : List ℕ) (state emissions : ℕ) (sizes : List ℕ) where
     pub length-fails : (number node : ℕ) → c ≡ RefusedCheck number node → CallChecked t state emissions sizes c
     length-fails number node z = not-ready number node (length-refused t _ c number node e z) z
 
-    module _ (z : c ≡ Passed) {b : Bool} (eb : b ≡ roomFor (length t / 2) state emissions) where
-      pub room-fails : b ≡ false → CallChecked t state emissions sizes (RefusedCheck 3 0)
-      room-fails f = not-ready 3 0 (room-refused t _ c e z b eb f) refl
+    module _ (z : c ≡ Passed) {b : Check} (eb : b ≡ passIf 3 (roomFor (length t / 2) state emissions)) where
+      pub room-fails : (number node : ℕ) → b ≡ RefusedCheck number node → CallChecked t state emissions sizes b
+      room-fails number node f = not-ready number node (room-refused t _ c e z b eb number node f) f
 
-      module _ (f : b ≡ true) {sets : List ℕ} {r : Acceptance} (o : Accepting t sizes sets r) where
+      module _ (f : b ≡ Passed) {sets : List ℕ} {r : Acceptance} (o : Accepting t sizes sets r) where
         enough : roomFor (length t / 2) state emissions ≡ true
-        enough = sym eb ∙ f
+        enough = pass-true 3 _ (sym eb ∙ f)
 
         same : verdictFor t state emissions ≡ checkProgram (scan t 0 [])
         same = room-passed t _ c e z b eb f

@@ -1,7 +1,7 @@
 -- What a run over a program's last node makes of the call's buffers.
 use mathlib.Core.Path.{_≡_, refl, sym, ap, ap₂, subst, _∙_}
 use Rattle.codes.proofs.Bools.{left, right}
-use mathlib.Core.Bool.{Bool, true, false, not}
+use mathlib.Core.Bool.{true, false}
 use mathlib.Core.List.{List, _++_}
 use Prim.Native.Nat.{ℕ, zero, suc, _+_, _-_, _/_, _≤_, _<_}
 use native.Mathlib.Omega.{arith}
@@ -20,11 +20,14 @@ use Rattle.esterel.proofs.Sizes.{size-pos}
 use Rattle.esterel.proofs.Theorems.{demand3}
 use Rattle.instant.proofs.Algebra.{length-marked}
 use Rattle.table.specs.Program.{programOf}
+use Rattle.table.specs.Check.{passIf}
 use Rattle.table.specs.Check.{answerOf as checkOf}
 use Rattle.table.specs.declared.Check.{Check}
+use Rattle.table.specs.declared.Check.the-variants.{Passed}
 use Rattle.table.specs.declared.Check.the-variants.{Refused as RefusedCheck}
+use Rattle.table.proofs.Found.{pass-true, pass-false}
 use Rattle.table.proofs.View.{table-length}
-use Rattle.analysis.proofs.Analyses.{verdict-refused, not-is-true, not-is-false}
+use Rattle.analysis.proofs.Analyses.{verdict-refused}
 use Rattle.instant.specs.Run.{stmtAt, firstAt, bytesAt, Clear, Holding, RanIs, ran, starves, Started, Resumed}
 use Rattle.instant.specs.declared.Ran.{Ran}
 use Rattle.instant.specs.declared.Ran.the-variants.{Closed as ClosedRan}
@@ -113,10 +116,11 @@ module _ {t sizes : List ℕ} {a b : ℕ} (o : Ready t a b sizes) where
     is-passed : verdictFor t (length state) (length emissions) ≡ passed (programOf t)
     is-passed = ap₂ (verdictFor t) (sym ea) (sym eb) ∙ o .verdict
 
-    pub not-admitted : {x : Bool} → x ≡ admitted (programOf t) (take (size (programOf t)) state) → not x ≡ true → Reacts (resumeCall (verdictFor t (length state) (length emissions)) state answers) state emissions state emissions (Refused 12 0)
+    pub not-admitted : {x : Check} {r : Reaction} → x ≡ passIf 12 (admitted (programOf t) (take (size (programOf t)) state)) → (number node : ℕ) → x ≡ RefusedCheck number node → r ≡ refusalOf x → Reacts (resumeCall (verdictFor t (length state) (length emissions)) state answers) state emissions state emissions r
     unfolding resumeCall
-    not-admitted {x} ex e =
-        rw (is-passed, ← ex, not-is-true x e) (record { answer = refl; stateIs = refl; emissionsAre = refl })
+    not-admitted {x} ex number node e y =
+        let fails = pass-false 12 (admitted (programOf t) (take (size (programOf t)) state)) number node (sym ex ∙ e) in
+        rw (is-passed, fails) (record { answer = y ∙ ap refusalOf (ex ∙ ap (passIf 12) fails); stateIs = refl; emissionsAre = refl })
 
     module _ {n : ℕ} (en : n ≡ size (programOf t)) (held : List ℕ) (room : size (programOf t) ≤ length held) where
       -- a fact about the statement at the last node is one about the program
@@ -134,9 +138,9 @@ module _ {t sizes : List ℕ} {a b : ℕ} (o : Ready t a b sizes) where
           (at-root (λ i q. RanIs t answers i held held′ (zeros signals) marks′ (start i q answers) r) w))
 
       -- an admitted state, whose bytes are those that are resumed
-      module _ {x : Bool} (ex : x ≡ admitted (programOf t) (take (size (programOf t)) state)) (e : not x ≡ false) (same : take n held ≡ take n state) where
+      module _ {x : Check} (ex : x ≡ passIf 12 (admitted (programOf t) (take (size (programOf t)) state))) (e : x ≡ Passed) (same : take n held ≡ take n state) where
         fits : admitted (programOf t) (take (size (programOf t)) state) ≡ true
-        fits = sym ex ∙ not-is-false x e
+        fits = pass-true 12 _ (sym ex ∙ e)
 
         own : take (size (programOf t)) held ≡ take (size (programOf t)) state
         own = rw en at same

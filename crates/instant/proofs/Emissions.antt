@@ -6,11 +6,15 @@ use Prim.Native.Nat.{ℕ, zero, suc, _+_, _<_}
 use native.Mathlib.Omega.{arith}
 use borrow.Author.Tests.{eq-eqb, ne-eqb}
 use lib.Dec.{eqb}
-use lib.ListN.{set}
+use lib.ListN.{length, set}
 use Rattle.esterel.specs.Codes.{bit}
 use Rattle.esterel.specs.Instant.{zeros}
 use Rattle.esterel.specs.Outcome.{member, emissionBytes}
 use Rattle.instant.specs.Steps.{marked}
+
+pub length-emissions : (xs : List ℕ) (s n : ℕ) → length (emissionBytes xs s n) ≡ n
+length-emissions xs s zero = refl
+length-emissions xs s (suc n) = ap suc (length-emissions xs (suc s) n)
 
 -- the bytes depend on the members only
 same-members : (a b : List ℕ) → ((s : ℕ) → member s a ≡ member s b) → (s n : ℕ) → emissionBytes a s n ≡ emissionBytes b s n

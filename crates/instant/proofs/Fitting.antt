@@ -13,12 +13,12 @@ use Rattle.esterel.specs.Instant.{holds, apart}
 use Rattle.esterel.specs.Outcome.{statementAt}
 use Rattle.esterel.proofs.Sizes.{size-pos}
 use Rattle.esterel.proofs.Subtrees.{two-children}
-use Rattle.table.specs.Kinds.{kindOf}
+use Rattle.table.specs.Kinds.{kindOf, isPause}
 use Rattle.table.specs.Program.{programOf}
 use Rattle.table.specs.declared.Kind.{Kind}
 use Rattle.table.proofs.View.{kind-byte}
 use Rattle.analysis.specs.Passes.{Surveyable}
-use Rattle.instant.specs.Admission.{countHeld, Counted, byteFits, childrenApart, nodeFits, isPause, byteFitsKind, isExclusive}
+use Rattle.instant.specs.Admission.{countHeld, Counted, byteFits, childrenApart, nodeFits, byteFitsKind, isExclusive}
 use Rattle.instant.proofs.Admits.{part-holds, count-rises}
 
 -- a statement by whether it holds pauses in at most one child

@@ -14,11 +14,11 @@ use Rattle.esterel.specs.Instant.{resumed, entry, first, second, holds, apart, 
 use Rattle.esterel.proofs.Sizes.{load}
 use Rattle.esterel.proofs.Held.{Fits, fits-two, first-two, second-two, child-fits, child-holds, left-fits, right-fits, right-holds, leaf-holds}
 use Rattle.esterel.proofs.Admitted.{admitted-fits, admitted-holds, admits}
-use Rattle.table.specs.Kinds.{kindOf, arityOf, isLoop, isSequence}
+use Rattle.table.specs.Kinds.{kindOf, arityOf, isLoop, isSequence, isSuspend}
 use Rattle.table.specs.Program.{programOf}
 use Rattle.table.specs.declared.Kind.{Kind}
 use Rattle.table.proofs.Surveying.{few-nodes}
-use Rattle.instant.specs.Steps.{entriesOf, hasEnded, takenAfter, alone, oneMore, Left, both, isSuspend, asked, holdsBeneath, doneAfter}
+use Rattle.instant.specs.Steps.{entriesOf, hasEnded, takenAfter, alone, oneMore, Left, both, asked, holdsBeneath, doneAfter}
 use Rattle.instant.specs.Run.{stmtAt, firstAt, bytesAt, Runnable, Room, Clear, Holding, RanIs, ran, Started, Resumed}
 use Rattle.instant.specs.declared.Ran.{Ran}
 use Rattle.instant.specs.declared.Ran.the-variants.{Closed, Starved}

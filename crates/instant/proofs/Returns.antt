@@ -11,12 +11,12 @@ use lib.Seq.{sets, drop-cons}
 use borrow.Author.Tests.{ne-eqb}
 use Rattle.esterel.specs.Statement.{Leaf, nothing, pause, emit, exit, Unary, Binary, present, sequence, parallel, Stmt, leaf, one, two, kind, field, size}
 use Rattle.esterel.specs.Instant.{Result, zeros, start}
-use Rattle.table.specs.Kinds.{kindOf, arityOf, isTrap}
+use Rattle.table.specs.Kinds.{kindOf, arityOf, isTrap, isPresent}
 use Rattle.table.specs.Program.{programOf}
 use Rattle.table.specs.declared.Kind.{Kind}
 use Rattle.table.proofs.Surveying.{few-nodes}
 use Rattle.table.proofs.View.{field-byte}
-use Rattle.instant.specs.Steps.{entriesOf, takenAfter, oneMore, catchRan, catches, Left, both, isPresent, doneAfter, leafOf, LeafRan}
+use Rattle.instant.specs.Steps.{entriesOf, takenAfter, oneMore, catchRan, catches, Left, both, doneAfter, leafOf, LeafRan}
 use Rattle.instant.specs.Run.{stmtAt, firstAt, Runnable, Room, Clear, RanIs, starves, Started}
 use Rattle.instant.specs.declared.Ran.{Ran}
 use Rattle.instant.specs.declared.Ran.the-variants.{Closed, Starved}

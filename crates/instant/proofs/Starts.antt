@@ -12,8 +12,8 @@ use Rattle.esterel.specs.Statement.{Leaf, nothing, pause, emit, exit, Unary, si
 use Rattle.esterel.specs.Instant.{Mode, started, entry, Result, single, enter, body, start, zeros}
 use Rattle.esterel.specs.Outcome.{emission}
 use Rattle.esterel.proofs.Sizes.{size-pos}
-use Rattle.table.specs.Kinds.{kindOf, isTrap}
-use Rattle.instant.specs.Steps.{marked, takenAfter, oneMore, catchRan, catches, both, isPresent, doneAfter, LeafRan}
+use Rattle.table.specs.Kinds.{kindOf, isTrap, isPresent}
+use Rattle.instant.specs.Steps.{marked, takenAfter, oneMore, catchRan, catches, both, doneAfter, LeafRan}
 use Rattle.instant.specs.Run.{stmtAt, firstAt, Runnable, Room, Clear, RanIs, ran, starves}
 use Rattle.instant.specs.declared.Ran.{Ran}
 use Rattle.instant.specs.declared.Ran.the-variants.{Closed, Starved}

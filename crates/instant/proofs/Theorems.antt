@@ -3,63 +3,55 @@ use mathlib.Core.Path.{_≡_, refl, sym, ap, subst, _∙_}
 use mathlib.Core.Logic.{_↔_}
 use mathlib.Core.Bool.{Bool, true, false, cond}
 use mathlib.Core.List.{List, []}
-use Prim.Native.Nat.{ℕ, _/_, _≤_}
+use Prim.Native.Nat.{ℕ, _/_, _≤_, _<_}
 use native.Mathlib.Omega.{arith}
 use borrow.Author.Tests.{le-leb}
 use lib.ListN.{length, take, drop, length-append, length-drop}
-use lib.Seq.{take-at}
+use lib.Seq.{take-at, drop-at}
 use Rattle.codes.proofs.Bools.{both}
-use Rattle.esterel.specs.Limits.{signals}
-use Rattle.esterel.specs.Statement.{Stmt, size}
-use Rattle.esterel.specs.Table.{Verdict, passed, scan}
-use Rattle.esterel.specs.Checks.{checkProgram}
-use Rattle.esterel.specs.Instant.{Result, closed, starved, stuck, start, resume, admitted}
-use Rattle.esterel.specs.Outcome.{outcome}
+use Rattle.esterel.specs.Limits.{maxNodes, signals}
+use Rattle.esterel.specs.Statement.{Stmt, size, nodes}
+use Rattle.esterel.specs.Table.{Verdict, passed, refused}
+use Rattle.esterel.specs.Instant.{Entry, Result, closed, starved, stuck, start, resume, admitted}
+use Rattle.esterel.specs.Outcome.{emitted, emissionBytes, outcome}
 use Rattle.esterel.specs.Theorems.{Accepted, Closes, NeedsMore}
 use Rattle.esterel.proofs.Reading.{length-postfix}
 use Rattle.esterel.proofs.Accepted.{acceptance}
+use Rattle.esterel.proofs.Refusals.{Numbered, Told, told-numbered}
 use Rattle.esterel.proofs.Theorems.{demand3, starving}
-use Rattle.table.specs.Check.{lengthCheck, refuse}
-use Rattle.table.specs.declared.Check.{Check}
-use Rattle.table.specs.declared.Check.the-variants.{Passed}
-use Rattle.table.specs.declared.Check.the-variants.{Refused as RefusedCheck}
 use Rattle.analysis.specs.Analysis.{checked}
-use Rattle.analysis.proofs.Accepts.{length-law}
+use Rattle.analysis.proofs.Theorems.{checked-room, checked-passed, checked-told}
 use Rattle.instant.specs.declared.Reaction.{Reaction}
 use Rattle.instant.specs.declared.Reaction.the-variants.{Closed, Refused}
-use Rattle.instant.specs.Calls.{roomFor, verdictFor, closing, refuses, answerOf, emissionsAfter, startCall, resumeCall, Reacts, Starting, Resuming}
-use Rattle.instant.specs.Theorems.{Lent, Ends, closes, starves, Instant, Demand3OfCalls}
+use Rattle.instant.specs.Calls.{roomFor, verdictFor, Call, closing, refuses, answerOf, stateAfter, emissionsAfter, startCall, resumeCall, Reacts, Starting, Resuming}
+use Rattle.instant.specs.Calls.{closes as closesCall}
+use Rattle.instant.specs.Theorems.{Lent, Ends, closes, starves, Instant, Unchanged, Demand3OfCalls}
+use Rattle.instant.proofs.Emissions.{length-emissions}
 use Rattle.instant.proofs.Closing.{held-length, reacts-as}
-
--- a refusal by the length comes first, whichever checks follow
-length-first : (t : List ℕ) (v : Verdict) → checkProgram (refuse (lengthCheck t) v) ≡ refuse (lengthCheck t) (checkProgram v)
-length-first t v = go (lengthCheck t)
-  where
-    go : (c : Check) → checkProgram (refuse c v) ≡ refuse c (checkProgram v)
-    go Passed = refl
-    go (RefusedCheck number node) = refl
 
 module _ {t state emissions : List ℕ} {p : Stmt} (l : Lent t p state emissions) where
   nodes-are : length t / 2 ≡ size p
   nodes-are = omega (arith, ap length (acceptance t p (l .accepted) .0), length-postfix p)
 
   passes : verdictFor t (length state) (length emissions) ≡ passed p
-  unfolding checked
   passes =
       let enough : roomFor (length t / 2) (length state) (length emissions) ≡ true = both (le-leb (length t / 2) (length state) (omega (arith, nodes-are, l .places))) (le-leb signals (length emissions) (l .marks)) in
-      rw enough
-      (length-law t (checkProgram (scan t 0 [])) ∙ sym (length-first t (scan t 0 [])) ∙ sym (ap checkProgram (length-law t (scan t 0 []))) ∙ l .accepted)
+      ap (λ b. checked b t) enough ∙ checked-room t ∙ l .accepted
 
   sound : Accepted p
   sound = acceptance t p (l .accepted) .1
 
 -- a call that comes to the rules' outcome of x
 module _ (p : Stmt) (run : List ℕ → Result) (answers state emissions state′ emissions′ : List ℕ) (room : size p ≤ length state) where
-  instant-of : (x : Result) {r : Reaction} → run answers ≡ x → Closes p answers x → ((run answers ≡ starved) ↔ NeedsMore p run answers) → Reacts (closing (outcome p x)) state emissions state′ emissions′ r → Instant p run answers state state′ r
+  instant-of : (x : Result) {r : Reaction} → run answers ≡ x → Closes p answers x → ((run answers ≡ starved) ↔ NeedsMore p run answers) → Reacts (closing (outcome p x)) state emissions state′ emissions′ r → Instant p run answers state emissions state′ emissions′ r
   instant-of (closed c u h rest) {r} e sure st o =
       let long = held-length sure in
       let own : take (size p) state′ ≡ h = ap (take (size p)) (o .stateIs) ∙ take-at h (drop (length h) state) (size p) long in
+      let bytes = emissionBytes (emitted (nodes p) u) 0 signals in
+      let wide : length bytes ≡ signals = length-emissions (emitted (nodes p) u) 0 signals in
       record {
+        pastState = ap (drop (size p)) (o .stateIs) ∙ drop-at h (drop (length h) state) (size p) long ∙ ap (λ i. drop i state) long;
+        pastEmissions = ap (drop signals) (o .emissionsAre) ∙ drop-at bytes (drop (length bytes) emissions) signals wide ∙ ap (λ i. drop i emissions) wide;
         sameLength = ap length (o .stateIs) ∙ length-append h (drop (length h) state) ∙ (let z = length-drop (length h) state in omega arith);
         ends = subst Ends (sym (o .answer)) (closes c _ _ (sure .code));
         needs = (λ z. absurd (let a = o .answer in let x : _≡_ {A = ℕ} 0 1 = cc in omega arith), λ z. absurd (let a = st .1 z in let x : _≡_ {A = ℕ} 0 1 = cc in omega arith));
@@ -71,6 +63,9 @@ module _ (p : Stmt) (run : List ℕ → Result) (answers state emissions state�
           answersTaken = let a = o .answer in cc;
           entriesAre = let a = o .answer in cc;
           fewEntries = let a = o .answer in let b : entries ≡ length u = cc in omega (arith, sure .entries);
+          emissionsAre = ap (take signals) (o .emissionsAre) ∙ take-at bytes (drop (length bytes) emissions) signals wide;
+          inK = sure .inK;
+          bodies = sure .bodies;
         };
         ended = λ k entries z. own ∙ sure .ended (let a = o .answer in cc);
         paused = λ k entries z. ap (admitted p) own ∙ sure .paused (let a = o .answer in cc);
@@ -78,6 +73,8 @@ module _ (p : Stmt) (run : List ℕ → Result) (answers state emissions state�
   instant-of starved {r} e sure st o =
       record {
         sameLength = ap length (o .stateIs);
+        pastState = ap (drop (size p)) (o .stateIs);
+        pastEmissions = ap (drop signals) (o .emissionsAre);
         ends = subst Ends (sym (o .answer)) starves;
         needs = (λ z. st .0 e, λ z. o .answer);
         enough = λ z y. omega (arith, sure);
@@ -92,7 +89,7 @@ module _ (t answers state emissions state′ emissions′ : List ℕ) (p : Stmt)
   unfolding startCall
   starts-as = ap (λ v. startCall v answers) (passes l)
 
-  starts-instant : Starting t answers state emissions state′ emissions′ r → Instant p (start 0 p) answers state state′ r
+  starts-instant : Starting t answers state emissions state′ emissions′ r → Instant p (start 0 p) answers state emissions state′ emissions′ r
   starts-instant o =
       instant-of p (start 0 p) answers state emissions state′ emissions′ (l .places) (start 0 p answers) refl (demand3 .starts p (sound l) answers) (starving .starts p (sound l) answers) (reacts-as starts-as o)
 
@@ -101,12 +98,81 @@ module _ (t answers state emissions state′ emissions′ : List ℕ) (p : Stmt)
     unfolding resumeCall
     resumes-as = ap (λ v. resumeCall v state answers) (passes l) ∙ ap (λ x. cond x (closing (outcome p (resume 0 p (take (size p) state) answers))) (refuses 12 0)) a
 
-  resumes-instant : admitted p (take (size p) state) ≡ true → Resuming t answers state emissions state′ emissions′ r → Instant p (resume 0 p (take (size p) state)) answers state state′ r
+  resumes-instant : admitted p (take (size p) state) ≡ true → Resuming t answers state emissions state′ emissions′ r → Instant p (resume 0 p (take (size p) state)) answers state emissions state′ emissions′ r
   resumes-instant a o =
       instant-of p (resume 0 p (take (size p) state)) answers state emissions state′ emissions′ (l .places) (resume 0 p (take (size p) state) answers) refl (demand3 .resumes p (sound l) (take (size p) state) answers a) (starving .resumes p (sound l) (take (size p) state) answers a) (reacts-as (resumes-as a) o)
 
   resumes-refused : admitted p (take (size p) state) ≡ false → Resuming t answers state emissions state′ emissions′ r → r ≡ Refused 12 0
   resumes-refused a o = reacts-as (resumes-as a) o .answer
+
+-- ---- refusals
+
+-- the pauses of two equal results
+held-of : {k j : ℕ} {t u : List Entry} {h g r s : List ℕ} → closed k t h r ≡ closed j u g s → h ≡ g
+held-of e = cc
+
+-- a call that is refused with this number and node
+abbrev Numbers : (number node : ℕ) → Type 0
+Numbers number node = (1 ≤ number) × (number ≤ 13) × (node < maxNodes)
+
+module _ (number node : ℕ) where
+  closing-told : (p : Stmt) (answers : List ℕ) (x : Result) → Closes p answers x → closing (outcome p x) ≡ refuses number node → Numbers number node
+  closing-told p answers (closed c u h rest) sure e = let z : _≡_ {A = ℕ} 0 1 = cc in absurd (omega arith)
+  closing-told p answers starved sure e =
+      let a : 13 ≡ number = cc in
+      let b : 0 ≡ node = cc in
+      (omega arith, omega arith, omega arith)
+  closing-told p answers stuck sure e = absurd sure
+
+  refused-told : {a b : ℕ} → Numbered a b → refuses a b ≡ refuses number node → Numbers number node
+  refused-told {a} {b} o e =
+      let x : a ≡ number = cc in
+      let y : b ≡ node = cc in
+      (omega (arith, o .some), omega (arith, o .known), omega (arith, o .within))
+
+module _ (t answers state emissions : List ℕ) (number node : ℕ) where
+  -- a program that the call accepts passes all checks
+  sound-of : {p : Stmt} → verdictFor t (length state) (length emissions) ≡ passed p → Accepted p
+  sound-of {p} e = acceptance t p (checked-passed _ t p e) .1
+
+  start-told : startCall (verdictFor t (length state) (length emissions)) answers ≡ refuses number node → Numbers number node
+  unfolding startCall
+  start-told = go (verdictFor t (length state) (length emissions)) refl (checked-told _ t)
+    where
+      go : (v : Verdict) → verdictFor t (length state) (length emissions) ≡ v → Told v → startCall v answers ≡ refuses number node → Numbers number node
+      go (passed p) ev o e = closing-told number node p answers (start 0 p answers) (demand3 .starts p (sound-of ev) answers) e
+      go (refused a b) ev o e = refused-told number node (told-numbered o) e
+
+  resume-told : resumeCall (verdictFor t (length state) (length emissions)) state answers ≡ refuses number node → Numbers number node
+  unfolding resumeCall
+  resume-told = go (verdictFor t (length state) (length emissions)) refl (checked-told _ t)
+    where
+      by : (p : Stmt) → Accepted p → (b : Bool) → admitted p (take (size p) state) ≡ b → cond b (closing (outcome p (resume 0 p (take (size p) state) answers))) (refuses 12 0) ≡ refuses number node → Numbers number node
+      by p a true z e = closing-told number node p answers (resume 0 p (take (size p) state) answers) (demand3 .resumes p a (take (size p) state) answers z) e
+      by p a false z e =
+          let x : 12 ≡ number = cc in
+          let y : 0 ≡ node = cc in
+          (omega arith, omega arith, omega arith)
+
+      go : (v : Verdict) → verdictFor t (length state) (length emissions) ≡ v → Told v → resumeCall v state answers ≡ refuses number node → Numbers number node
+      go (passed p) ev o e = by p (sound-of ev) (admitted p (take (size p) state)) refl e
+      go (refused a b) ev o e = refused-told number node (told-numbered o) e
+
+-- an answer is of one call
+refused-call : (call : Call) (number node : ℕ) → Refused number node ≡ answerOf call → call ≡ refuses number node
+refused-call (refuses a b) number node e = cc
+refused-call (closesCall code taken entries state emissions) number node e = cc
+
+unchanged : {call : Call} {state emissions state′ emissions′ : List ℕ} {number node : ℕ} → (call ≡ refuses number node → Numbers number node) → Reacts call state emissions state′ emissions′ (Refused number node) → Unchanged number node state emissions state′ emissions′
+unchanged {call} {state} {emissions} {state′} {emissions′} {number} {node} told o =
+    let e = refused-call call number node (o .answer) in
+    record {
+      some = told e .0;
+      known = told e .1;
+      within = told e .2;
+      sameState = o .stateIs ∙ ap (λ c. stateAfter c state) e;
+      sameEmissions = o .emissionsAre ∙ ap (λ c. emissionsAfter c emissions) e;
+    }
 
 pub demand3OfCalls : Demand3OfCalls
 demand3OfCalls =
@@ -119,7 +185,17 @@ demand3OfCalls =
           omega (arith, x .entriesAre, demand3 .startEntries p answers code (x .trail) _ (x .rest) (x .rules)));
       blind = λ t answers state other emissions state′ other′ emissions′ emissions″ r s e o w.
           (let same : startCall (verdictFor t (length state) (length emissions)) answers ≡ startCall (verdictFor t (length other) (length emissions)) answers = ap (λ i. startCall (verdictFor t i (length emissions)) answers) e in
-          (o .answer ∙ ap answerOf same ∙ sym (w .answer), o .emissionsAre ∙ ap (λ c. emissionsAfter c emissions) same ∙ sym (w .emissionsAre)));
-      onward = λ t answers state emissions state′ more next state″ next′ p run k entries r l i m o.
+          let alike : r ≡ s = o .answer ∙ ap answerOf same ∙ sym (w .answer) in (
+            alike,
+            o .emissionsAre ∙ ap (λ c. emissionsAfter c emissions) same ∙ sym (w .emissionsAre),
+            λ p code k entries l z.
+                (let l′ : Lent t p other emissions = record { accepted = l .accepted; places = omega (arith, l .places); marks = l .marks } in
+                let x = starts-instant t answers state emissions state′ emissions′ p r l o .exact code k entries z in
+                let y = starts-instant t answers other emissions other′ emissions″ p s l′ w .exact code k entries (sym alike ∙ z) in
+                held-of (sym (x .rules) ∙ y .rules)),
+          ));
+      onward = λ t answers state emissions state′ emissions′ more next state″ next′ p run k entries r l i m o.
           resumes-instant t more state′ next state″ next′ p r (record { accepted = l .accepted; places = omega (arith, l .places, i .sameLength); marks = m }) (i .paused k entries refl) o;
+      startRefusals = λ t answers state emissions state′ emissions′ number node o. unchanged (start-told t answers state emissions number node) o;
+      resumeRefusals = λ t answers state emissions state′ emissions′ number node o. unchanged (resume-told t answers state emissions number node) o;
     }

@@ -5,12 +5,11 @@ use mathlib.Core.Bool.{Bool, true, false, _&&_, _||_}
 use mathlib.Core.List.{List, [], _∷_}
 use lib.Dec.{eqb}
 use lib.ListN.{length, getD, take, drop}
-use Rattle.esterel.specs.Statement.{nothing, pause, emit, exit, present, sequence, parallel, Stmt, leaf, one, two, kind, size}
+use Rattle.esterel.specs.Statement.{Stmt, leaf, one, two, kind, size}
 use Rattle.esterel.specs.Instant.{holds, apart}
 use Rattle.esterel.specs.Outcome.{statementAt}
-use Rattle.esterel.specs.Table.{Node, takes0, takes1, takes2, faulty}
 use Rattle.table.specs.declared.Kind.{Kind}
-use Rattle.table.specs.Kinds.{headOf}
+use Rattle.table.specs.Kinds.{isPause, isSequence, isPresent}
 
 -- the number of bytes that are not 0
 abbrev pub countHeld : List ℕ → ℕ
@@ -38,28 +37,8 @@ abbrev pub nodeFits : List Stmt → List ℕ → ℕ → Bool
 nodeFits ps h i = byteFits (statementAt ps i) (getD h i 0) && childrenApart (statementAt ps i) h i
 
 -- the same by the kind: a pause may hold, and a sequence or present holds pauses in one child at most
-abbrev pub pauses : Node → Bool
-pauses (takes0 nothing) = false
-pauses (takes0 pause) = true
-pauses (takes0 (emit s)) = false
-pauses (takes0 (exit level)) = false
-pauses (takes1 u) = false
-pauses (takes2 b) = false
-pauses (faulty number) = false
-
-abbrev pub isPause : Kind → Bool
-isPause k = pauses (headOf k 0)
-
 abbrev pub byteFitsKind : Kind → ℕ → Bool
 byteFitsKind k b = eqb b 0 || eqb b 1 && isPause k
 
-abbrev pub excludes : Node → Bool
-excludes (takes0 l) = false
-excludes (takes1 u) = false
-excludes (takes2 (present s)) = true
-excludes (takes2 sequence) = true
-excludes (takes2 parallel) = false
-excludes (faulty number) = false
-
 abbrev pub isExclusive : Kind → Bool
-isExclusive k = excludes (headOf k 0)
+isExclusive k = isSequence k || isPresent k

@@ -6,7 +6,7 @@ use mathlib.Core.List.{List, [], _∷_}
 use lib.Dec.{eqb, ltb}
 use lib.ListN.{length, getD, set}
 use lib.Seq.{sets}
-use Rattle.esterel.specs.Statement.{Leaf, nothing, pause, emit, exit, leaf, signal, suspend, loop, trap, present, sequence, parallel}
+use Rattle.esterel.specs.Statement.{Leaf, nothing, pause, emit, exit, leaf}
 use Rattle.esterel.specs.Codes.{catchCode}
 use Rattle.esterel.specs.Table.{Node, takes0, takes1, takes2, faulty}
 use Rattle.esterel.specs.Instant.{zeros}
@@ -70,31 +70,6 @@ besides code entries Starved = Starved
 abbrev pub both : Ran → Ran → Ran
 both (Closed code taken entries) right = besides code entries right
 both Starved right = Starved
-
--- the nodes that ask at their start
-abbrev pub tests : Node → Bool
-tests (takes0 l) = false
-tests (takes1 u) = false
-tests (takes2 (present s)) = true
-tests (takes2 sequence) = false
-tests (takes2 parallel) = false
-tests (faulty number) = false
-
-abbrev pub isPresent : Kind → Bool
-isPresent k = tests (headOf k 0)
-
--- and at their resumption
-abbrev pub waits : Node → Bool
-waits (takes0 l) = false
-waits (takes1 (signal s)) = false
-waits (takes1 (suspend s)) = true
-waits (takes1 loop) = false
-waits (takes1 trap) = false
-waits (takes2 b) = false
-waits (faulty number) = false
-
-abbrev pub isSuspend : Kind → Bool
-isSuspend k = waits (headOf k 0)
 
 -- what a suspend makes of an answer: its child is resumed for 0
 abbrev pub kept : (answer taken : ℕ) → Ran

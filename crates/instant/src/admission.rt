@@ -6,48 +6,18 @@ ghost use lib.ListN.{length, take};
 ghost use Rattle.esterel.specs.Instant.{admitted};
 ghost use Rattle.esterel.specs.Limits.{maxNodes};
 ghost use Rattle.esterel.specs.Statement.{size, nodes};
+ghost use Rattle.table.specs.Check.{passIf};
 ghost use Rattle.table.specs.Program.{programOf};
 ghost use Rattle.analysis.specs.Passes.{Surveyable};
-ghost use Rattle.instant.specs.Admission.{countHeld, Counted, isExclusive, isPause, byteFitsKind, nodeFits};
+ghost use Rattle.instant.specs.Admission.{countHeld, Counted, isExclusive, byteFitsKind, nodeFits};
+use table::Check;
 use table::Kind;
 
 // Whether a kind holds pauses in at most one of its two children.
 fn is_exclusive(kind: Kind) -> bool
     ensures { λ r. ⌜ r ≡ isExclusive kind ⌝ }
 {
-    match kind {
-        Kind::Nothing => false,
-        Kind::Pause => false,
-        Kind::Emit => false,
-        Kind::Exit => false,
-        Kind::Signal => false,
-        Kind::Present => true,
-        Kind::Suspend => false,
-        Kind::Loop => false,
-        Kind::Sequence => true,
-        Kind::Parallel => false,
-        Kind::Trap => false,
-        Kind::Unknown => false,
-    }
-}
-
-fn is_pause(kind: Kind) -> bool
-    ensures { λ r. ⌜ r ≡ isPause kind ⌝ }
-{
-    match kind {
-        Kind::Nothing => false,
-        Kind::Pause => true,
-        Kind::Emit => false,
-        Kind::Exit => false,
-        Kind::Signal => false,
-        Kind::Present => false,
-        Kind::Suspend => false,
-        Kind::Loop => false,
-        Kind::Sequence => false,
-        Kind::Parallel => false,
-        Kind::Trap => false,
-        Kind::Unknown => false,
-    }
+    table::is_sequence(kind) | table::is_present(kind)
 }
 
 // Whether a kind may have this byte: 0, or 1 at a pause.
@@ -58,7 +28,7 @@ fn byte_fits(kind: Kind, byte: u8) -> bool
         return true;
     }
     if byte == 1 {
-        return is_pause(kind);
+        return table::is_pause(kind);
     }
     false
 }
@@ -106,20 +76,26 @@ fn node_fits(table: &[u8], sizes: &[u16], counts: &[u16], state: &[u8], node: us
 }
 
 // Check 12.
-pub fn is_admitted(table: &[u8], sizes: &[u16], counts: &[u16], state: &[u8]) -> bool
+pub fn check_state(table: &[u8], sizes: &[u16], counts: &[u16], state: &[u8]) -> Check
     requires { ⌜ Surveyable (now table) (now sizes) × (size (programOf (now table)) ≤ length (now state)) × Counted (now state) (now counts) (size (programOf (now table))) ⌝ }
-    ensures { λ r. ⌜ r ≡ admitted (programOf (now (table .entry))) (take (size (programOf (now (table .entry)))) (now (state .entry))) ⌝ }
+    ensures { λ r. ⌜ r ≡ passIf 12 (admitted (programOf (now (table .entry))) (take (size (programOf (now (table .entry)))) (now (state .entry)))) ⌝ }
 {
     let n = table.len() / 2;
     if counts[n] == 0 {
-        return false;
+        return Check::Refused {
+            number: 12,
+            node: 0,
+        };
     }
     let mut i: usize = 0;
     while i < n {
         if !node_fits(table, sizes, counts, state, i) {
-            return false;
+            return Check::Refused {
+                number: 12,
+                node: 0,
+            };
         }
         i += 1;
     }
-    true
+    Check::Passed
 }

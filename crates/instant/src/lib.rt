@@ -8,6 +8,7 @@ ghost use mathlib.Core.List.{_++_};
 ghost use Prim.Native.Nat.{_≤_};
 ghost use lib.ListN.{drop, length, take};
 ghost use Rattle.esterel.specs.Limits.{maxNodes, signals};
+ghost use Rattle.table.specs.Check.{passIf};
 ghost use Rattle.instant.specs.Calls.{roomFor, CallChecked, refusalOf, handed, Reacts, Starting, Resuming};
 use table::Check;
 
@@ -47,10 +48,13 @@ fn refused(check: Check) -> Reaction
 }
 
 // Check 3: a byte of state for each node, and one for each signal.
-fn has_room(n: usize, state: usize, emissions: usize) -> bool
-    ensures { λ r. ⌜ r ≡ roomFor n state emissions ⌝ }
+fn check_room(n: usize, state: usize, emissions: usize) -> Check
+    ensures { λ r. ⌜ r ≡ passIf 3 (roomFor n state emissions) ⌝ }
 {
-    (n <= state) & (esterel::SIGNALS <= emissions)
+    if (n <= state) & (esterel::SIGNALS <= emissions) {
+        return Check::Passed;
+    }
+    Check::Refused { number: 3, node: 0 }
 }
 
 // Checks 1, 2, 3 and 4 to 11, with the sizes of all subtrees.
@@ -62,9 +66,10 @@ fn check_call(table: &[u8], state: usize, emissions: usize, sizes: &mut [u16]) -
     let Check::Passed = length else {
         return length;
     };
-    if !has_room(table.len() / 2, state, emissions) {
-        return Check::Refused { number: 3, node: 0 };
-    }
+    let room = check_room(table.len() / 2, state, emissions);
+    let Check::Passed = room else {
+        return room;
+    };
     let mut sets = [0u64; esterel::MAX_NODES];
     let accepted = analysis::accept(table, sizes, &mut sets);
     accepted.check
@@ -142,12 +147,10 @@ pub fn resume(table: &[u8], answers: &[u8], state: &mut [u8], emissions: &mut [u
     let n = table.len() / 2;
     let mut counts = [0u16; esterel::MAX_NODES + 1];
     admission::count_held(state, &mut counts, n);
-    if !admission::is_admitted(table, &sizes, &counts, state) {
-        return Reaction::Refused {
-            number: 12,
-            node: 0,
-        };
-    }
+    let admitted = admission::check_state(table, &sizes, &counts, state);
+    let Check::Passed = admitted else {
+        return refused(admitted);
+    };
     let mut held = [0u8; esterel::MAX_NODES];
     copy(state, &mut held, n);
     let mut marks = [0u8; esterel::SIGNALS];

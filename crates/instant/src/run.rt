@@ -28,7 +28,7 @@ pub fn start_at(
         return steps::leave(kind, inner, held, node - size, node);
     }
     let first = last - size;
-    if steps::is_present(kind) {
+    if table::is_present(kind) {
         if answers.len() <= taken {
             return Ran::Starved;
         }

@@ -7,47 +7,10 @@ ghost use lib.ListN.{length, getD};
 ghost use lib.Seq.{sets};
 ghost use Rattle.esterel.specs.Codes.{catchCode};
 ghost use Rattle.esterel.specs.Instant.{zeros};
-ghost use Rattle.instant.specs.Steps.{alone, entriesOf, hasEnded, takenAfter, oneMore, Left, both, isPresent, isSuspend, asked, holdsBeneath, doneAfter, leafOf, LeafRan};
+ghost use Rattle.table.specs.Kinds.{isSuspend};
+ghost use Rattle.instant.specs.Steps.{alone, entriesOf, hasEnded, takenAfter, oneMore, Left, both, asked, holdsBeneath, doneAfter, leafOf, LeafRan};
 use crate::Ran;
 use table::Kind;
-
-pub fn is_present(kind: Kind) -> bool
-    ensures { λ r. ⌜ r ≡ isPresent kind ⌝ }
-{
-    match kind {
-        Kind::Nothing => false,
-        Kind::Pause => false,
-        Kind::Emit => false,
-        Kind::Exit => false,
-        Kind::Signal => false,
-        Kind::Present => true,
-        Kind::Suspend => false,
-        Kind::Loop => false,
-        Kind::Sequence => false,
-        Kind::Parallel => false,
-        Kind::Trap => false,
-        Kind::Unknown => false,
-    }
-}
-
-fn is_suspend(kind: Kind) -> bool
-    ensures { λ r. ⌜ r ≡ isSuspend kind ⌝ }
-{
-    match kind {
-        Kind::Nothing => false,
-        Kind::Pause => false,
-        Kind::Emit => false,
-        Kind::Exit => false,
-        Kind::Signal => false,
-        Kind::Present => false,
-        Kind::Suspend => true,
-        Kind::Loop => false,
-        Kind::Sequence => false,
-        Kind::Parallel => false,
-        Kind::Trap => false,
-        Kind::Unknown => false,
-    }
-}
 
 // The branch of a present that an answer takes: the second for 0.
 pub fn branch(answer: u8, first: usize, last: usize) -> usize
@@ -248,7 +211,7 @@ pub fn start_leaf(
 pub fn ask(kind: Kind, answers: &[u8], taken: usize) -> Ran
     ensures { λ r. ⌜ r ≡ asked (isSuspend kind) (now (answers .entry)) taken ⌝ }
 {
-    if !is_suspend(kind) {
+    if !table::is_suspend(kind) {
         return Ran::Closed {
             code: 0,
             taken,

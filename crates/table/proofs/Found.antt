@@ -22,6 +22,10 @@ pub pass-true : (number : ℕ) (b : Bool) → passIf number b ≡ Passed → b �
 pass-true number true e = refl
 pass-true number false e = cc
 
+pub pass-false : (number : ℕ) (b : Bool) (i j : ℕ) → passIf number b ≡ Refused i j → b ≡ false
+pass-false number true i j e = cc
+pass-false number false i j e = refl
+
 -- the lowest node at which a check fails
 abbrev pub Answer : (Place → Bool) → List Place → ℕ → ℕ → Type 0
 Answer test ps n r = r ≡ lowest (firstNode test ps n)

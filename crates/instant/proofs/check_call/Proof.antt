@@ -1,11 +1,9 @@
 -- `instant::check_call` meets its contract: each return answers the first failed check.
 use borrow.Author.Needs.{needs}
 use native.Mathlib.Omega.{arith}
-use native.Mathlib.Omega.{arith}
 use mathlib.Core.Path.{sym, _∙_}
 use denote.Ref.{now}
 use Rattle.analysis.proofs.Accepts.{well-sized}
-use Rattle.analysis.proofs.Analyses.{not-is-true, not-is-false}
 use Rattle.instant.proofs.Checking.{length-fails, room-fails, accepts}
 use Rattle.instant.proofs.check_call.Statement.{statement}
 use Rattle.instant.proofs.check_call.Tie as tie
@@ -22,23 +20,29 @@ enum-told-2 c = search needs
 returns : tie.Need-returns
 returns c = length-fails (now (c .before .before .before .before .before .args .table)) (c .before .before .before .before .before .args .state) (c .before .before .before .before .before .args .emissions) _ (c .before .before .check-length .ensures) _ _ (c .enum-told2 .given .1)
 
-has-room-requires : tie.Need-has-room-requires
-has-room-requires c κs = search needs
+check-room-requires : tie.Need-check-room-requires
+check-room-requires c κs = search needs
+
+enum-told-3 : tie.Need-enum-told-3
+enum-told-3 c = search needs
+
+enum-told-4 : tie.Need-enum-told-4
+enum-told-4 c = search needs
 
 returns-2 : tie.Need-returns-2
-returns-2 c = room-fails (now (c .before .before .before .before .before .before .before .args .table)) (c .before .before .before .before .before .before .before .args .state) (c .before .before .before .before .before .before .before .args .emissions) _ (c .before .before .before .before .check-length .ensures) (c .before .before .enum-told .given .1) (c .before .has-room .ensures) (not-is-true _ (c .if1 .taken))
+returns-2 c = room-fails (now (c .before .before .before .before .before .before .before .before .args .table)) (c .before .before .before .before .before .before .before .before .args .state) (c .before .before .before .before .before .before .before .before .args .emissions) _ (c .before .before .before .before .before .check-length .ensures) (c .before .before .before .enum-told .given .1) (c .before .before .check-room .ensures) _ _ (c .enum-told4 .given .1)
 
 slice-aggregate-accept : tie.Need-slice-aggregate-accept
 slice-aggregate-accept c = search needs
 
 accept-requires : tie.Need-accept-requires
-accept-requires c κs = (well-sized (now (c .before .before .before .before .before .before .before .before .before .args .table)) (sym (c .before .before .before .before .before .before .check-length .ensures) ∙ c .before .before .before .before .enum-told .given .1), c .before .before .before .before .before .before .before .before .before .pre, omega arith)
+accept-requires c κs = (well-sized (now (c .before .before .before .before .before .before .before .before .before .before .args .table)) (sym (c .before .before .before .before .before .before .before .check-length .ensures) ∙ c .before .before .before .before .before .enum-told .given .1), c .before .before .before .before .before .before .before .before .before .before .pre, omega arith)
 
 same-length : tie.Need-same-length
 same-length c = search needs
 
 returns-3 : tie.Need-returns-3
-returns-3 c = accepts (now (c .before .before .before .before .before .before .before .before .before .before .before .before .before .args .table)) (c .before .before .before .before .before .before .before .before .before .before .before .before .before .args .state) (c .before .before .before .before .before .before .before .before .before .before .before .before .before .args .emissions) _ (c .before .before .before .before .before .before .before .before .before .before .check-length .ensures) (c .before .before .before .before .before .before .before .before .enum-told .given .1) (c .before .before .before .before .before .before .before .has-room .ensures) (not-is-false _ (c .before .before .before .before .before .before .if1 .left)) (c .before .before .before .accept .ensures)
+returns-3 c = accepts (now (c .before .before .before .before .before .before .before .before .before .before .before .before .before .before .args .table)) (c .before .before .before .before .before .before .before .before .before .before .before .before .before .before .args .state) (c .before .before .before .before .before .before .before .before .before .before .before .before .before .before .args .emissions) _ (c .before .before .before .before .before .before .before .before .before .before .before .check-length .ensures) (c .before .before .before .before .before .before .before .before .before .enum-told .given .1) (c .before .before .before .before .before .before .before .before .check-room .ensures) (c .before .before .before .before .before .before .enum-told3 .given .1) (c .before .before .before .accept .ensures)
 
 pub check-call-spec : {M : Type 1} → statement M
 check-call-spec =
@@ -48,7 +52,9 @@ check-call-spec =
     enum-told
     enum-told-2
     returns
-    has-room-requires
+    check-room-requires
+    enum-told-3
+    enum-told-4
     returns-2
     slice-aggregate-accept
     accept-requires

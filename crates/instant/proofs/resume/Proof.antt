@@ -34,28 +34,43 @@ slice-aggregate-count-held : tie.Need-slice-aggregate-count-held
 slice-aggregate-count-held c = search needs
 
 count-held-requires : tie.Need-count-held-requires
-count-held-requires c κs = (omega (arith, nodes-are (c .before .before .before .before .before .check-call .ensures .ready (c .before .before .enum-told .given .1)), size-pos (programOf (now (c .before .before .before .before .before .before .before .before .before .before .before .args .table))), (c .before .before .before .before .before .check-call .ensures .ready (c .before .before .enum-told .given .1)) .places), omega (arith, nodes-are (c .before .before .before .before .before .check-call .ensures .ready (c .before .before .enum-told .given .1)), size-pos (programOf (now (c .before .before .before .before .before .before .before .before .before .before .before .args .table))), (c .before .before .before .before .before .check-call .ensures .ready (c .before .before .enum-told .given .1)) .few), omega (arith, nodes-are (c .before .before .before .before .before .check-call .ensures .ready (c .before .before .enum-told .given .1)), size-pos (programOf (now (c .before .before .before .before .before .before .before .before .before .before .before .args .table))), (c .before .before .before .before .before .check-call .ensures .ready (c .before .before .enum-told .given .1)) .few))
+count-held-requires c κs =
+    let ready = c .before .before .before .before .before .check-call .ensures .ready (c .before .before .enum-told .given .1) in
+    (omega (arith, nodes-are ready, size-pos (programOf (now (c .before .before .before .before .before .before .before .before .before .before .before .args .table))), ready .places), omega (arith, nodes-are ready, size-pos (programOf (now (c .before .before .before .before .before .before .before .before .before .before .before .args .table))), ready .few), omega (arith, nodes-are ready, size-pos (programOf (now (c .before .before .before .before .before .before .before .before .before .before .before .args .table))), ready .few))
 
-slice-aggregate-is-admitted : tie.Need-slice-aggregate-is-admitted
-slice-aggregate-is-admitted c = search needs
+slice-aggregate-check-state : tie.Need-slice-aggregate-check-state
+slice-aggregate-check-state c = search needs
 
-slice-aggregate-is-admitted-2 : tie.Need-slice-aggregate-is-admitted-2
-slice-aggregate-is-admitted-2 c = search needs
+slice-aggregate-check-state-2 : tie.Need-slice-aggregate-check-state-2
+slice-aggregate-check-state-2 c = search needs
 
-is-admitted-requires : tie.Need-is-admitted-requires
-is-admitted-requires c κs = ((c .before .before .before .before .before .before .before .before .before .before .check-call .ensures .ready (c .before .before .before .before .before .before .before .enum-told .given .1)) .runnable .surveyable, omega (arith, (c .before .before .before .before .before .before .before .before .before .before .check-call .ensures .ready (c .before .before .before .before .before .before .before .enum-told .given .1)) .places), (subst (Counted (now (c .before .before .before .before .before .before .before .before .before .before .before .before .before .before .before .before .args .state)) _) (omega (arith, nodes-are (c .before .before .before .before .before .before .before .before .before .before .check-call .ensures .ready (c .before .before .before .before .before .before .before .enum-told .given .1)))) (c .before .before .before .before .count-held .ensures)))
+check-state-requires : tie.Need-check-state-requires
+check-state-requires c κs =
+    let ready = c .before .before .before .before .before .before .before .before .before .before .check-call .ensures .ready (c .before .before .before .before .before .before .before .enum-told .given .1) in
+    (ready .runnable .surveyable, omega (arith, ready .places), (subst (Counted (now (c .before .before .before .before .before .before .before .before .before .before .before .before .before .before .before .before .args .state)) _) (omega (arith, nodes-are ready)) (c .before .before .before .before .count-held .ensures)))
+
+enum-told-3 : tie.Need-enum-told-3
+enum-told-3 c = search needs
+
+enum-told-4 : tie.Need-enum-told-4
+enum-told-4 c = search needs
+
+refused-requires-2 : tie.Need-refused-requires-2
+refused-requires-2 c κs = search needs
 
 same-length : tie.Need-same-length
 same-length c = search needs
 
 returns-2 : tie.Need-returns-2
-returns-2 c = not-admitted (c .before .before .before .before .before .before .before .before .before .before .before .before .check-call .ensures .ready (c .before .before .before .before .before .before .before .before .before .enum-told .given .1)) (now (c .before .before .before .before .before .before .before .before .before .before .before .before .before .before .before .before .before .before .args .answers)) (now (c .before .before .before .before .before .before .before .before .before .before .before .before .before .before .before .before .before .before .args .state)) (now (c .before .before .before .before .before .before .before .before .before .before .before .before .before .before .before .before .before .before .args .emissions)) refl refl (c .before .is-admitted .ensures) (c .if1 .taken)
+returns-2 c = not-admitted (c .before .before .before .before .before .before .before .before .before .before .before .before .before .before .check-call .ensures .ready (c .before .before .before .before .before .before .before .before .before .before .before .enum-told .given .1)) (now (c .before .before .before .before .before .before .before .before .before .before .before .before .before .before .before .before .before .before .before .before .args .answers)) (now (c .before .before .before .before .before .before .before .before .before .before .before .before .before .before .before .before .before .before .before .before .args .state)) (now (c .before .before .before .before .before .before .before .before .before .before .before .before .before .before .before .before .before .before .before .before .args .emissions)) refl refl (c .before .before .before .check-state .ensures) _ _ (c .before .enum-told4 .given .1) (c .refused2 .ensures)
 
 slice-aggregate-copy : tie.Need-slice-aggregate-copy
 slice-aggregate-copy c = search needs
 
 copy-requires : tie.Need-copy-requires
-copy-requires c κs = (omega (arith, nodes-are (c .before .before .before .before .before .before .before .before .before .before .before .before .before .before .check-call .ensures .ready (c .before .before .before .before .before .before .before .before .before .before .before .enum-told .given .1)), size-pos (programOf (now (c .before .before .before .before .before .before .before .before .before .before .before .before .before .before .before .before .before .before .before .before .args .table))), (c .before .before .before .before .before .before .before .before .before .before .before .before .before .before .check-call .ensures .ready (c .before .before .before .before .before .before .before .before .before .before .before .enum-told .given .1)) .places), omega (arith, nodes-are (c .before .before .before .before .before .before .before .before .before .before .before .before .before .before .check-call .ensures .ready (c .before .before .before .before .before .before .before .before .before .before .before .enum-told .given .1)), size-pos (programOf (now (c .before .before .before .before .before .before .before .before .before .before .before .before .before .before .before .before .before .before .before .before .args .table))), (c .before .before .before .before .before .before .before .before .before .before .before .before .before .before .check-call .ensures .ready (c .before .before .before .before .before .before .before .before .before .before .before .enum-told .given .1)) .few))
+copy-requires c κs =
+    let ready = c .before .before .before .before .before .before .before .before .before .before .before .before .before .before .before .check-call .ensures .ready (c .before .before .before .before .before .before .before .before .before .before .before .before .enum-told .given .1) in
+    (omega (arith, nodes-are ready, size-pos (programOf (now (c .before .before .before .before .before .before .before .before .before .before .before .before .before .before .before .before .before .before .before .before .before .args .table))), ready .places), omega (arith, nodes-are ready, size-pos (programOf (now (c .before .before .before .before .before .before .before .before .before .before .before .before .before .before .before .before .before .before .before .before .before .args .table))), ready .few))
 
 slice-aggregate-resume-at : tie.Need-slice-aggregate-resume-at
 slice-aggregate-resume-at c = search needs
@@ -64,7 +79,7 @@ slice-aggregate-resume-at-2 : tie.Need-slice-aggregate-resume-at-2
 slice-aggregate-resume-at-2 c = search needs
 
 sub-resume-at : tie.Need-sub-resume-at
-sub-resume-at c = omega (arith, nodes-are (c .before .before .before .before .before .before .before .before .before .before .before .before .before .before .before .before .before .before .check-call .ensures .ready (c .before .before .before .before .before .before .before .before .before .before .before .before .before .before .before .enum-told .given .1)), size-pos (programOf (now (c .before .before .before .before .before .before .before .before .before .before .before .before .before .before .before .before .before .before .before .before .before .before .before .before .args .table))))
+sub-resume-at c = omega (arith, nodes-are (c .before .before .before .before .before .before .before .before .before .before .before .before .before .before .before .before .before .before .before .check-call .ensures .ready (c .before .before .before .before .before .before .before .before .before .before .before .before .before .before .before .before .enum-told .given .1)), size-pos (programOf (now (c .before .before .before .before .before .before .before .before .before .before .before .before .before .before .before .before .before .before .before .before .before .before .before .before .before .args .table))))
 
 slice-aggregate-resume-at-3 : tie.Need-slice-aggregate-resume-at-3
 slice-aggregate-resume-at-3 c = search needs
@@ -73,7 +88,9 @@ slice-aggregate-resume-at-4 : tie.Need-slice-aggregate-resume-at-4
 slice-aggregate-resume-at-4 c = search needs
 
 resume-at-requires : tie.Need-resume-at-requires
-resume-at-requires c κs = ((c .before .before .before .before .before .before .before .before .before .before .before .before .before .before .before .before .before .before .before .before .check-call .ensures .ready (c .before .before .before .before .before .before .before .before .before .before .before .before .before .before .before .before .before .enum-told .given .1)) .runnable, record { within = omega (arith, nodes-are (c .before .before .before .before .before .before .before .before .before .before .before .before .before .before .before .before .before .before .before .before .check-call .ensures .ready (c .before .before .before .before .before .before .before .before .before .before .before .before .before .before .before .before .before .enum-told .given .1)), size-pos (programOf (now (c .before .before .before .before .before .before .before .before .before .before .before .before .before .before .before .before .before .before .before .before .before .before .before .before .before .before .args .table)))); places = omega (arith, (c .before .before .before .before .before .before .before .before .before .before .before .before .before .before .before .before .before .before .before .before .check-call .ensures .ready (c .before .before .before .before .before .before .before .before .before .before .before .before .before .before .before .before .before .enum-told .given .1)) .few, c .before .before .before .before .held2 .given); marks = omega arith; lent = omega arith }, root-holding (c .before .before .before .before .before .before .before .before .before .before .before .before .before .before .before .before .before .before .before .before .check-call .ensures .ready (c .before .before .before .before .before .before .before .before .before .before .before .before .before .before .before .before .before .enum-told .given .1)) (now (c .before .before .before .before .before .before .before .before .before .before .before .before .before .before .before .before .before .before .before .before .before .before .before .before .before .before .args .answers)) (now (c .before .before .before .before .before .before .before .before .before .before .before .before .before .before .before .before .before .before .before .before .before .before .before .before .before .before .args .state)) (now (c .before .before .before .before .before .before .before .before .before .before .before .before .before .before .before .before .before .before .before .before .before .before .before .before .before .before .args .emissions)) refl refl (omega (arith, nodes-are (c .before .before .before .before .before .before .before .before .before .before .before .before .before .before .before .before .before .before .before .before .check-call .ensures .ready (c .before .before .before .before .before .before .before .before .before .before .before .before .before .before .before .before .before .enum-told .given .1)))) _ (omega (arith, (c .before .before .before .before .before .before .before .before .before .before .before .before .before .before .before .before .before .before .before .before .check-call .ensures .ready (c .before .before .before .before .before .before .before .before .before .before .before .before .before .before .before .before .before .enum-told .given .1)) .few, c .before .before .before .before .held2 .given)) (c .before .before .before .before .before .before .before .before .before .is-admitted .ensures) (c .before .before .before .before .before .before .before .before .if1 .left) (front-same (now (c .before .before .before .before .before .before .before .before .before .before .before .before .before .before .before .before .before .before .before .before .before .before .before .before .before .before .args .state)) _ (length (now (c .before .before .before .before .before .before .before .before .before .before .before .before .before .before .before .before .before .before .before .before .before .before .before .before .before .before .args .table)) / 2) (omega (arith, nodes-are (c .before .before .before .before .before .before .before .before .before .before .before .before .before .before .before .before .before .before .before .before .check-call .ensures .ready (c .before .before .before .before .before .before .before .before .before .before .before .before .before .before .before .before .before .enum-told .given .1)), size-pos (programOf (now (c .before .before .before .before .before .before .before .before .before .before .before .before .before .before .before .before .before .before .before .before .before .before .before .before .before .before .args .table))), (c .before .before .before .before .before .before .before .before .before .before .before .before .before .before .before .before .before .before .before .before .check-call .ensures .ready (c .before .before .before .before .before .before .before .before .before .before .before .before .before .before .before .before .before .enum-told .given .1)) .places)) (c .before .before .before .before .before .copy .ensures)) _ (subst (Counted (now (c .before .before .before .before .before .before .before .before .before .before .before .before .before .before .before .before .before .before .before .before .before .before .before .before .before .before .args .state)) _) (omega (arith, nodes-are (c .before .before .before .before .before .before .before .before .before .before .before .before .before .before .before .before .before .before .before .before .check-call .ensures .ready (c .before .before .before .before .before .before .before .before .before .before .before .before .before .before .before .before .before .enum-told .given .1)))) (c .before .before .before .before .before .before .before .before .before .before .before .before .before .before .count-held .ensures)))
+resume-at-requires c κs =
+    let ready = c .before .before .before .before .before .before .before .before .before .before .before .before .before .before .before .before .before .before .before .before .before .check-call .ensures .ready (c .before .before .before .before .before .before .before .before .before .before .before .before .before .before .before .before .before .before .enum-told .given .1) in
+    (ready .runnable, record { within = omega (arith, nodes-are ready, size-pos (programOf (now (c .before .before .before .before .before .before .before .before .before .before .before .before .before .before .before .before .before .before .before .before .before .before .before .before .before .before .before .args .table)))); places = omega (arith, ready .few, c .before .before .before .before .held2 .given); marks = omega arith; lent = omega arith }, root-holding ready (now (c .before .before .before .before .before .before .before .before .before .before .before .before .before .before .before .before .before .before .before .before .before .before .before .before .before .before .before .args .answers)) (now (c .before .before .before .before .before .before .before .before .before .before .before .before .before .before .before .before .before .before .before .before .before .before .before .before .before .before .before .args .state)) (now (c .before .before .before .before .before .before .before .before .before .before .before .before .before .before .before .before .before .before .before .before .before .before .before .before .before .before .before .args .emissions)) refl refl (omega (arith, nodes-are ready)) _ (omega (arith, ready .few, c .before .before .before .before .held2 .given)) (c .before .before .before .before .before .before .before .before .before .before .check-state .ensures) (c .before .before .before .before .before .before .before .before .enum-told3 .given .1) (front-same (now (c .before .before .before .before .before .before .before .before .before .before .before .before .before .before .before .before .before .before .before .before .before .before .before .before .before .before .before .args .state)) _ (length (now (c .before .before .before .before .before .before .before .before .before .before .before .before .before .before .before .before .before .before .before .before .before .before .before .before .before .before .before .args .table)) / 2) (omega (arith, nodes-are ready, size-pos (programOf (now (c .before .before .before .before .before .before .before .before .before .before .before .before .before .before .before .before .before .before .before .before .before .before .before .before .before .before .before .args .table))), ready .places)) (c .before .before .before .before .before .copy .ensures)) _ (subst (Counted (now (c .before .before .before .before .before .before .before .before .before .before .before .before .before .before .before .before .before .before .before .before .before .before .before .before .before .before .before .args .state)) _) (omega (arith, nodes-are ready)) (c .before .before .before .before .before .before .before .before .before .before .before .before .before .before .before .count-held .ensures)))
 
 slice-aggregate-hand-over : tie.Need-slice-aggregate-hand-over
 slice-aggregate-hand-over c = search needs
@@ -82,7 +99,9 @@ slice-aggregate-hand-over-2 : tie.Need-slice-aggregate-hand-over-2
 slice-aggregate-hand-over-2 c = search needs
 
 hand-over-requires : tie.Need-hand-over-requires
-hand-over-requires c κs = (omega (arith, nodes-are (c .before .before .before .before .before .before .before .before .before .before .before .before .before .before .before .before .before .before .before .before .before .before .before .before .before .before .before .check-call .ensures .ready (c .before .before .before .before .before .before .before .before .before .before .before .before .before .before .before .before .before .before .before .before .before .before .before .before .enum-told .given .1)), size-pos (programOf (now (c .before .before .before .before .before .before .before .before .before .before .before .before .before .before .before .before .before .before .before .before .before .before .before .before .before .before .before .before .before .before .before .before .before .args .table))), (c .before .before .before .before .before .before .before .before .before .before .before .before .before .before .before .before .before .before .before .before .before .before .before .before .before .before .before .check-call .ensures .ready (c .before .before .before .before .before .before .before .before .before .before .before .before .before .before .before .before .before .before .before .before .before .before .before .before .enum-told .given .1)) .few, c .before .before .before .before .before .held4 .given), omega (arith, c .before .before .before .before .marks2 .given), omega (arith, nodes-are (c .before .before .before .before .before .before .before .before .before .before .before .before .before .before .before .before .before .before .before .before .before .before .before .before .before .before .before .check-call .ensures .ready (c .before .before .before .before .before .before .before .before .before .before .before .before .before .before .before .before .before .before .before .before .before .before .before .before .enum-told .given .1)), size-pos (programOf (now (c .before .before .before .before .before .before .before .before .before .before .before .before .before .before .before .before .before .before .before .before .before .before .before .before .before .before .before .before .before .before .before .before .before .args .table))), (c .before .before .before .before .before .before .before .before .before .before .before .before .before .before .before .before .before .before .before .before .before .before .before .before .before .before .before .check-call .ensures .ready (c .before .before .before .before .before .before .before .before .before .before .before .before .before .before .before .before .before .before .before .before .before .before .before .before .enum-told .given .1)) .places), omega (arith, (c .before .before .before .before .before .before .before .before .before .before .before .before .before .before .before .before .before .before .before .before .before .before .before .before .before .before .before .check-call .ensures .ready (c .before .before .before .before .before .before .before .before .before .before .before .before .before .before .before .before .before .before .before .before .before .before .before .before .enum-told .given .1)) .marks))
+hand-over-requires c κs =
+    let ready = c .before .before .before .before .before .before .before .before .before .before .before .before .before .before .before .before .before .before .before .before .before .before .before .before .before .before .before .before .check-call .ensures .ready (c .before .before .before .before .before .before .before .before .before .before .before .before .before .before .before .before .before .before .before .before .before .before .before .before .before .enum-told .given .1) in
+    (omega (arith, nodes-are ready, size-pos (programOf (now (c .before .before .before .before .before .before .before .before .before .before .before .before .before .before .before .before .before .before .before .before .before .before .before .before .before .before .before .before .before .before .before .before .before .before .args .table))), ready .few, c .before .before .before .before .before .held4 .given), omega (arith, c .before .before .before .before .marks2 .given), omega (arith, nodes-are ready, size-pos (programOf (now (c .before .before .before .before .before .before .before .before .before .before .before .before .before .before .before .before .before .before .before .before .before .before .before .before .before .before .before .before .before .before .before .before .before .before .args .table))), ready .places), omega (arith, ready .marks))
 
 same-length-2 : tie.Need-same-length-2
 same-length-2 c = search needs
@@ -91,7 +110,9 @@ same-length-3 : tie.Need-same-length-3
 same-length-3 c = search needs
 
 returns-3 : tie.Need-returns-3
-returns-3 c = reacts-as (resume-hands (c .before .before .before .before .before .before .before .before .before .before .before .before .before .before .before .before .before .before .before .before .before .before .before .before .before .before .before .before .before .before .before .before .check-call .ensures .ready (c .before .before .before .before .before .before .before .before .before .before .before .before .before .before .before .before .before .before .before .before .before .before .before .before .before .before .before .before .before .enum-told .given .1)) (now (c .before .before .before .before .before .before .before .before .before .before .before .before .before .before .before .before .before .before .before .before .before .before .before .before .before .before .before .before .before .before .before .before .before .before .before .before .before .before .args .answers)) (now (c .before .before .before .before .before .before .before .before .before .before .before .before .before .before .before .before .before .before .before .before .before .before .before .before .before .before .before .before .before .before .before .before .before .before .before .before .before .before .args .state)) (now (c .before .before .before .before .before .before .before .before .before .before .before .before .before .before .before .before .before .before .before .before .before .before .before .before .before .before .before .before .before .before .before .before .before .before .before .before .before .before .args .emissions)) refl refl (omega (arith, nodes-are (c .before .before .before .before .before .before .before .before .before .before .before .before .before .before .before .before .before .before .before .before .before .before .before .before .before .before .before .before .before .before .before .before .check-call .ensures .ready (c .before .before .before .before .before .before .before .before .before .before .before .before .before .before .before .before .before .before .before .before .before .before .before .before .before .before .before .before .before .enum-told .given .1)))) _ (omega (arith, (c .before .before .before .before .before .before .before .before .before .before .before .before .before .before .before .before .before .before .before .before .before .before .before .before .before .before .before .before .before .before .before .before .check-call .ensures .ready (c .before .before .before .before .before .before .before .before .before .before .before .before .before .before .before .before .before .before .before .before .before .before .before .before .before .before .before .before .before .enum-told .given .1)) .few, c .before .before .before .before .before .before .before .before .before .before .before .before .before .before .before .before .held2 .given)) (c .before .before .before .before .before .before .before .before .before .before .before .before .before .before .before .before .before .before .before .before .before .is-admitted .ensures) (c .before .before .before .before .before .before .before .before .before .before .before .before .before .before .before .before .before .before .before .before .if1 .left) (front-same (now (c .before .before .before .before .before .before .before .before .before .before .before .before .before .before .before .before .before .before .before .before .before .before .before .before .before .before .before .before .before .before .before .before .before .before .before .before .before .before .args .state)) _ (length (now (c .before .before .before .before .before .before .before .before .before .before .before .before .before .before .before .before .before .before .before .before .before .before .before .before .before .before .before .before .before .before .before .before .before .before .before .before .before .before .args .table)) / 2) (omega (arith, nodes-are (c .before .before .before .before .before .before .before .before .before .before .before .before .before .before .before .before .before .before .before .before .before .before .before .before .before .before .before .before .before .before .before .before .check-call .ensures .ready (c .before .before .before .before .before .before .before .before .before .before .before .before .before .before .before .before .before .before .before .before .before .before .before .before .before .before .before .before .before .enum-told .given .1)), size-pos (programOf (now (c .before .before .before .before .before .before .before .before .before .before .before .before .before .before .before .before .before .before .before .before .before .before .before .before .before .before .before .before .before .before .before .before .before .before .before .before .before .before .args .table))), (c .before .before .before .before .before .before .before .before .before .before .before .before .before .before .before .before .before .before .before .before .before .before .before .before .before .before .before .before .before .before .before .before .check-call .ensures .ready (c .before .before .before .before .before .before .before .before .before .before .before .before .before .before .before .before .before .before .before .before .before .before .before .before .before .before .before .before .before .enum-told .given .1)) .places)) (c .before .before .before .before .before .before .before .before .before .before .before .before .before .before .before .before .before .copy .ensures)) (c .before .before .before .before .before .before .before .before .before .before .before .resume-at .ensures)) (c .before .before .before .before .hand-over .ensures)
+returns-3 c =
+    let ready = c .before .before .before .before .before .before .before .before .before .before .before .before .before .before .before .before .before .before .before .before .before .before .before .before .before .before .before .before .before .before .before .before .before .check-call .ensures .ready (c .before .before .before .before .before .before .before .before .before .before .before .before .before .before .before .before .before .before .before .before .before .before .before .before .before .before .before .before .before .before .enum-told .given .1) in
+    reacts-as (resume-hands ready (now (c .before .before .before .before .before .before .before .before .before .before .before .before .before .before .before .before .before .before .before .before .before .before .before .before .before .before .before .before .before .before .before .before .before .before .before .before .before .before .before .args .answers)) (now (c .before .before .before .before .before .before .before .before .before .before .before .before .before .before .before .before .before .before .before .before .before .before .before .before .before .before .before .before .before .before .before .before .before .before .before .before .before .before .before .args .state)) (now (c .before .before .before .before .before .before .before .before .before .before .before .before .before .before .before .before .before .before .before .before .before .before .before .before .before .before .before .before .before .before .before .before .before .before .before .before .before .before .before .args .emissions)) refl refl (omega (arith, nodes-are ready)) _ (omega (arith, ready .few, c .before .before .before .before .before .before .before .before .before .before .before .before .before .before .before .before .held2 .given)) (c .before .before .before .before .before .before .before .before .before .before .before .before .before .before .before .before .before .before .before .before .before .before .check-state .ensures) (c .before .before .before .before .before .before .before .before .before .before .before .before .before .before .before .before .before .before .before .before .enum-told3 .given .1) (front-same (now (c .before .before .before .before .before .before .before .before .before .before .before .before .before .before .before .before .before .before .before .before .before .before .before .before .before .before .before .before .before .before .before .before .before .before .before .before .before .before .before .args .state)) _ (length (now (c .before .before .before .before .before .before .before .before .before .before .before .before .before .before .before .before .before .before .before .before .before .before .before .before .before .before .before .before .before .before .before .before .before .before .before .before .before .before .before .args .table)) / 2) (omega (arith, nodes-are ready, size-pos (programOf (now (c .before .before .before .before .before .before .before .before .before .before .before .before .before .before .before .before .before .before .before .before .before .before .before .before .before .before .before .before .before .before .before .before .before .before .before .before .before .before .before .args .table))), ready .places)) (c .before .before .before .before .before .before .before .before .before .before .before .before .before .before .before .before .before .copy .ensures)) (c .before .before .before .before .before .before .before .before .before .before .before .resume-at .ensures)) (c .before .before .before .before .hand-over .ensures)
 
 pub resume-spec : {M : Type 1} → statement M
 resume-spec =
@@ -105,9 +126,12 @@ resume-spec =
     returns
     slice-aggregate-count-held
     count-held-requires
-    slice-aggregate-is-admitted
-    slice-aggregate-is-admitted-2
-    is-admitted-requires
+    slice-aggregate-check-state
+    slice-aggregate-check-state-2
+    check-state-requires
+    enum-told-3
+    enum-told-4
+    refused-requires-2
     same-length
     returns-2
     slice-aggregate-copy

@@ -4,7 +4,7 @@ use native.Mathlib.Omega.{arith}
 use native.Mathlib.Omega.{arith}
 use denote.Ref.{now}
 use Rattle.table.proofs.View.{table-length}
-use Rattle.analysis.proofs.Analyses.{not-is-true, not-is-false}
+use Rattle.instant.proofs.Small.{not-is-true, not-is-false}
 use Rattle.instant.proofs.Fitting.{misfit, no-sides, some-before, second-inside, first-inside, first-idle, second-idle}
 use Rattle.instant.proofs.admission.node_fits.Statement.{statement}
 use Rattle.instant.proofs.admission.node_fits.Tie as tie

@@ -7,13 +7,13 @@ use Rattle.instant.proofs.run.start_at.Kinds as start-at-kinds
 use Rattle.instant.proofs.run.+start_at.Lts-start_at as start-at-lts
 use Rattle.instant.proofs.steps.branch.Reads as branch-reads
 use Rattle.instant.proofs.steps.done_after.Reads as done-after-reads
-use Rattle.instant.proofs.steps.is_present.Reads as is-present-reads
 use Rattle.instant.proofs.steps.join.Reads as join-reads
 use Rattle.instant.proofs.steps.leave.Reads as leave-reads
 use Rattle.instant.proofs.steps.one_more.Reads as one-more-reads
 use Rattle.instant.proofs.steps.start_leaf.Reads as start-leaf-reads
 use Rattle.instant.proofs.steps.taken_after.Reads as taken-after-reads
 use Rattle.table.proofs.arity.Reads as arity-reads
+use Rattle.table.proofs.is_present.Reads as is-present-reads
 use Rattle.table.proofs.kind_at.Reads as kind-at-reads
 use Rattle.table.proofs.size_at.Reads as size-at-reads
 

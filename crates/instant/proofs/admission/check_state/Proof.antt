@@ -1,18 +1,17 @@
--- `instant::admission::is_admitted` meets its contract: all nodes before `i` fit.
-use borrow.Author.Needs.{needs}
-use native.Mathlib.Omega.{arith}
+-- `instant::admission::check_state` meets its contract: all nodes before `i` fit.
 use borrow.Author.Needs.{needs}
 use native.Mathlib.Omega.{arith}
 use Prim.Native.Nat.{_-_}
-use mathlib.Core.Path.{sym, _∙_}
+use mathlib.Core.Path.{sym, ap, _∙_}
 use denote.Ref.{now}
 use Rattle.esterel.specs.Statement.{size}
+use Rattle.table.specs.Check.{passIf}
 use Rattle.table.specs.Program.{programOf}
 use Rattle.table.proofs.View.{table-length}
-use Rattle.analysis.proofs.Analyses.{not-is-true, not-is-false}
+use Rattle.instant.proofs.Small.{not-is-true, not-is-false}
 use Rattle.instant.proofs.Admits.{FitsTo, fits-begin, fits-next, not-admitted, nothing-held, is-admitted}
-use Rattle.instant.proofs.admission.is_admitted.Statement.{statement}
-use Rattle.instant.proofs.admission.is_admitted.Tie as tie
+use Rattle.instant.proofs.admission.check_state.Statement.{statement}
+use Rattle.instant.proofs.admission.check_state.Tie as tie
 
 abbrev Inv-loop : tie.InvT-loop
 Inv-loop table sizes counts state n i₀ i = FitsTo (programOf table) state i
@@ -27,7 +26,7 @@ shared-slice-read-if1 : tie.Need-shared-slice-read-if1 Inv-loop μ-loop
 shared-slice-read-if1 c = omega (arith, table-length (now (c .before .before .before .before .before .args .table)) (c .before .before .before .before .before .pre .0 .readable), c .before .before .before .before .before .pre .2 .long)
 
 returns : tie.Need-returns Inv-loop μ-loop
-returns c = nothing-held (programOf (now (c .before .before .before .before .before .before .args .table))) (now (c .before .before .before .before .before .before .args .state)) (c .before .before .before .before .before .before .pre .1) (c .before .before .before .before .before .before .pre .2) (omega (arith, table-length (now (c .before .before .before .before .before .before .args .table)) (c .before .before .before .before .before .before .pre .0 .readable))) (c .if1 .taken)
+returns c = ap (passIf 12) (nothing-held (programOf (now (c .before .before .before .before .before .before .args .table))) (now (c .before .before .before .before .before .before .args .state)) (c .before .before .before .before .before .before .pre .1) (c .before .before .before .before .before .before .pre .2) (omega (arith, table-length (now (c .before .before .before .before .before .before .args .table)) (c .before .before .before .before .before .before .pre .0 .readable))) (c .if1 .taken))
 
 loop-holds : tie.Need-loop-holds Inv-loop μ-loop
 loop-holds c = fits-begin
@@ -36,7 +35,7 @@ node-fits-requires : tie.Need-node-fits-requires Inv-loop μ-loop
 node-fits-requires c κs = (c .before .before .before .before .before .before .before .before .pre .0, (omega (arith, table-length (now (c .before .before .before .before .before .before .before .before .args .table)) (c .before .before .before .before .before .before .before .before .pre .0 .readable))), c .before .before .before .before .before .before .before .before .pre .1, c .before .before .before .before .before .before .before .before .pre .2)
 
 returns-2 : tie.Need-returns-2 Inv-loop μ-loop
-returns-2 c = not-admitted (programOf (now (c .before .before .before .before .before .before .before .before .before .before .args .table))) (now (c .before .before .before .before .before .before .before .before .before .before .args .state)) (c .before .before .before .before .before .before .before .before .before .before .pre .1) (c .before .before .before .loop .i) (omega (arith, table-length (now (c .before .before .before .before .before .before .before .before .before .before .args .table)) (c .before .before .before .before .before .before .before .before .before .before .pre .0 .readable))) (sym (c .before .node-fits .ensures) ∙ not-is-true _ (c .if2 .taken))
+returns-2 c = ap (passIf 12) (not-admitted (programOf (now (c .before .before .before .before .before .before .before .before .before .before .args .table))) (now (c .before .before .before .before .before .before .before .before .before .before .args .state)) (c .before .before .before .before .before .before .before .before .before .before .pre .1) (c .before .before .before .loop .i) (omega (arith, table-length (now (c .before .before .before .before .before .before .before .before .before .before .args .table)) (c .before .before .before .before .before .before .before .before .before .before .pre .0 .readable))) (sym (c .before .node-fits .ensures) ∙ not-is-true _ (c .if2 .taken)))
 
 add-i : tie.Need-add-i Inv-loop μ-loop
 add-i c = omega (arith, table-length (now (c .before .before .before .before .before .before .before .before .before .before .args .table)) (c .before .before .before .before .before .before .before .before .before .before .pre .0 .readable))
@@ -48,10 +47,10 @@ loop-again : tie.Need-loop-again Inv-loop μ-loop
 loop-again c = fits-next (c .before .before .before .loop .inv) (omega (arith, table-length (now (c .before .before .before .before .before .before .before .before .before .before .args .table)) (c .before .before .before .before .before .before .before .before .before .before .pre .0 .readable))) (sym (c .before .node-fits .ensures) ∙ not-is-false _ (c .if2 .left))
 
 returns-3 : tie.Need-returns-3 Inv-loop μ-loop
-returns-3 c = is-admitted (programOf (now (c .before .before .before .before .before .before .before .before .args .table))) (now (c .before .before .before .before .before .before .before .before .args .state)) (c .before .before .before .before .before .before .before .before .pre .1) (c .before .before .before .before .before .before .before .before .pre .2) (omega (arith, table-length (now (c .before .before .before .before .before .before .before .before .args .table)) (c .before .before .before .before .before .before .before .before .pre .0 .readable))) (c .before .before .if1 .left) (c .before .loop .inv) (omega (arith, table-length (now (c .before .before .before .before .before .before .before .before .args .table)) (c .before .before .before .before .before .before .before .before .pre .0 .readable)))
+returns-3 c = ap (passIf 12) (is-admitted (programOf (now (c .before .before .before .before .before .before .before .before .args .table))) (now (c .before .before .before .before .before .before .before .before .args .state)) (c .before .before .before .before .before .before .before .before .pre .1) (c .before .before .before .before .before .before .before .before .pre .2) (omega (arith, table-length (now (c .before .before .before .before .before .before .before .before .args .table)) (c .before .before .before .before .before .before .before .before .pre .0 .readable))) (c .before .before .if1 .left) (c .before .loop .inv) (omega (arith, table-length (now (c .before .before .before .before .before .before .before .before .args .table)) (c .before .before .before .before .before .before .before .before .pre .0 .readable))))
 
-pub is-admitted-spec : {M : Type 1} → statement M
-is-admitted-spec =
+pub check-state-spec : {M : Type 1} → statement M
+check-state-spec =
     tie.close
     (tie.spec
     Inv-loop
