@@ -4,10 +4,12 @@ use mathlib.Core.List.{List}
 use Prim.Native.Nat.{ℕ, _+_, _-_, _*_, _<_, _≤_}
 use native.Mathlib.Omega.{arith}
 use lib.ListN.{length, getD}
+use Rattle.esterel.specs.Limits.{maxNodes}
 use Rattle.esterel.specs.Statement.{Leaf, Unary, Binary, Stmt, leaf, one, two, kind, size}
 use Rattle.table.specs.Kinds.{kindOf, arityOf}
 use Rattle.table.specs.Program.{programOf}
 use Rattle.table.specs.declared.Kind.{Kind}
+use Rattle.table.proofs.Surveying.{few-nodes}
 use Rattle.table.proofs.View.{childCount, arity-of, kind-byte, table-length}
 use Rattle.instant.specs.Run.{stmtAt, Runnable}
 use Rattle.instant.proofs.Nodes.{Over, over, Both, both}
@@ -15,6 +17,10 @@ use Rattle.instant.proofs.Nodes.{Over, over, Both, both}
 module _ {t sizes : List ℕ} {node : ℕ} (ok : Runnable t sizes) (h : node < size (programOf t)) where
   pub in-table : 2 * node + 1 < length t
   in-table = omega (arith, table-length t (ok .surveyable .readable))
+
+  -- it has a place in the arrays of a call
+  pub in-place : node < maxNodes
+  in-place = omega (arith, few-nodes t (ok .surveyable .readable))
 
   -- the kind that was read, and the children that it has
   module _ {k : Kind} {n : ℕ} (ek : k ≡ kindOf (getD t (2 * node) 0)) (en : n ≡ arityOf k) where

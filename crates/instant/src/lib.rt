@@ -90,13 +90,13 @@ fn copy(from: &[u8], to: &mut [u8], n: usize)
 // The end of a call. A closed run hands its bytes over; after a starved one the lent buffers are as they were.
 fn hand_over(
     ran: Ran,
-    held: &[u8],
-    marks: &[u8],
+    held: &[u8; esterel::MAX_NODES],
+    marks: &[u8; esterel::SIGNALS],
     n: usize,
     state: &mut [u8],
     emissions: &mut [u8],
 ) -> Reaction
-    requires { ⌜ (n ≤ length (now held)) × (signals ≤ length (now marks)) × (n ≤ length (now state)) × (signals ≤ length (now emissions)) ⌝ }
+    requires { ⌜ (n ≤ maxNodes) × (n ≤ length (now state)) × (signals ≤ length (now emissions)) ⌝ }
     ensures { λ r. ⌜ Reacts (handed ran (take n (now (held .entry))) (take signals (now (marks .entry)))) (now (state .entry)) (now (emissions .entry)) (now (state .exit)) (now (emissions .exit)) r ⌝ }
 {
     let Ran::Closed {

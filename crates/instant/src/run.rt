@@ -1,4 +1,5 @@
-// A run of a statement: each call is upon a child.
+// A run of a statement: each call is upon a child. The call's own buffers are lent as arrays: a frame keeps one word of each,
+// and of a slice two words for itself and two for every call that it makes.
 ghost use Rattle.instant.specs.Run.{Runnable, Room, Clear, Started, Holding, Resumed};
 use crate::Ran;
 use crate::steps;
@@ -6,12 +7,12 @@ use crate::steps;
 // The statement at a node is started, where nothing is held beneath it. So no byte is cleared, but by a trap that catches.
 pub fn start_at(
     table: &[u8],
-    sizes: &[u16],
+    sizes: &[u16; esterel::MAX_NODES],
     answers: &[u8],
     node: usize,
     taken: usize,
-    held: &mut [u8],
-    emissions: &mut [u8],
+    held: &mut [u8; esterel::MAX_NODES],
+    emissions: &mut [u8; esterel::SIGNALS],
 ) -> Ran
     requires { ⌜ Runnable (now table) (now sizes) × Room (now table) (now answers) (now held) (now emissions) node taken × Clear (now table) (now held) node ⌝ }
     ensures { λ r. ⌜ Started (now (table .entry)) (now (answers .entry)) (now (held .entry)) (now (held .exit)) (now (emissions .entry)) (now (emissions .exit)) node taken r ⌝ }
@@ -49,13 +50,13 @@ pub fn start_at(
 // beneath a node are those that were counted until it is resumed.
 pub fn resume_at(
     table: &[u8],
-    sizes: &[u16],
-    counts: &[u16],
+    sizes: &[u16; esterel::MAX_NODES],
+    counts: &[u16; esterel::MAX_NODES + 1],
     answers: &[u8],
     node: usize,
     taken: usize,
-    held: &mut [u8],
-    emissions: &mut [u8],
+    held: &mut [u8; esterel::MAX_NODES],
+    emissions: &mut [u8; esterel::SIGNALS],
 ) -> Ran
     requires { ⌜ Runnable (now table) (now sizes) × Room (now table) (now answers) (now held) (now emissions) node taken × Holding (now table) (now counts) (now held) node ⌝ }
     ensures { λ r. ⌜ Resumed (now (table .entry)) (now (answers .entry)) (now (held .entry)) (now (held .exit)) (now (emissions .entry)) (now (emissions .exit)) node taken r ⌝ }

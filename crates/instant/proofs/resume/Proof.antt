@@ -72,36 +72,18 @@ copy-requires c κs =
     let ready = c .before .before .before .before .before .before .before .before .before .before .before .before .before .before .before .check-call .ensures .ready (c .before .before .before .before .before .before .before .before .before .before .before .before .enum-told .given .1) in
     (omega (arith, nodes-are ready, size-pos (programOf (now (c .before .before .before .before .before .before .before .before .before .before .before .before .before .before .before .before .before .before .before .before .before .args .table))), ready .places), omega (arith, nodes-are ready, size-pos (programOf (now (c .before .before .before .before .before .before .before .before .before .before .before .before .before .before .before .before .before .before .before .before .before .args .table))), ready .few))
 
-slice-aggregate-resume-at : tie.Need-slice-aggregate-resume-at
-slice-aggregate-resume-at c = search needs
-
-slice-aggregate-resume-at-2 : tie.Need-slice-aggregate-resume-at-2
-slice-aggregate-resume-at-2 c = search needs
-
 sub-resume-at : tie.Need-sub-resume-at
 sub-resume-at c = omega (arith, nodes-are (c .before .before .before .before .before .before .before .before .before .before .before .before .before .before .before .before .before .before .before .check-call .ensures .ready (c .before .before .before .before .before .before .before .before .before .before .before .before .before .before .before .before .enum-told .given .1)), size-pos (programOf (now (c .before .before .before .before .before .before .before .before .before .before .before .before .before .before .before .before .before .before .before .before .before .before .before .before .before .args .table))))
-
-slice-aggregate-resume-at-3 : tie.Need-slice-aggregate-resume-at-3
-slice-aggregate-resume-at-3 c = search needs
-
-slice-aggregate-resume-at-4 : tie.Need-slice-aggregate-resume-at-4
-slice-aggregate-resume-at-4 c = search needs
 
 resume-at-requires : tie.Need-resume-at-requires
 resume-at-requires c κs =
     let ready = c .before .before .before .before .before .before .before .before .before .before .before .before .before .before .before .before .before .before .before .before .before .check-call .ensures .ready (c .before .before .before .before .before .before .before .before .before .before .before .before .before .before .before .before .before .before .enum-told .given .1) in
     (ready .runnable, record { within = omega (arith, nodes-are ready, size-pos (programOf (now (c .before .before .before .before .before .before .before .before .before .before .before .before .before .before .before .before .before .before .before .before .before .before .before .before .before .before .before .args .table)))); places = omega (arith, ready .few, c .before .before .before .before .held2 .given); marks = omega arith; lent = omega arith }, root-holding ready (now (c .before .before .before .before .before .before .before .before .before .before .before .before .before .before .before .before .before .before .before .before .before .before .before .before .before .before .before .args .answers)) (now (c .before .before .before .before .before .before .before .before .before .before .before .before .before .before .before .before .before .before .before .before .before .before .before .before .before .before .before .args .state)) (now (c .before .before .before .before .before .before .before .before .before .before .before .before .before .before .before .before .before .before .before .before .before .before .before .before .before .before .before .args .emissions)) refl refl (omega (arith, nodes-are ready)) _ (omega (arith, ready .few, c .before .before .before .before .held2 .given)) (c .before .before .before .before .before .before .before .before .before .before .check-state .ensures) (c .before .before .before .before .before .before .before .before .enum-told3 .given .1) (front-same (now (c .before .before .before .before .before .before .before .before .before .before .before .before .before .before .before .before .before .before .before .before .before .before .before .before .before .before .before .args .state)) _ (length (now (c .before .before .before .before .before .before .before .before .before .before .before .before .before .before .before .before .before .before .before .before .before .before .before .before .before .before .before .args .table)) / 2) (omega (arith, nodes-are ready, size-pos (programOf (now (c .before .before .before .before .before .before .before .before .before .before .before .before .before .before .before .before .before .before .before .before .before .before .before .before .before .before .before .args .table))), ready .places)) (c .before .before .before .before .before .copy .ensures)) _ (subst (Counted (now (c .before .before .before .before .before .before .before .before .before .before .before .before .before .before .before .before .before .before .before .before .before .before .before .before .before .before .before .args .state)) _) (omega (arith, nodes-are ready)) (c .before .before .before .before .before .before .before .before .before .before .before .before .before .before .before .count-held .ensures)))
 
-slice-aggregate-hand-over : tie.Need-slice-aggregate-hand-over
-slice-aggregate-hand-over c = search needs
-
-slice-aggregate-hand-over-2 : tie.Need-slice-aggregate-hand-over-2
-slice-aggregate-hand-over-2 c = search needs
-
 hand-over-requires : tie.Need-hand-over-requires
 hand-over-requires c κs =
-    let ready = c .before .before .before .before .before .before .before .before .before .before .before .before .before .before .before .before .before .before .before .before .before .before .before .before .before .before .before .before .check-call .ensures .ready (c .before .before .before .before .before .before .before .before .before .before .before .before .before .before .before .before .before .before .before .before .before .before .before .before .before .enum-told .given .1) in
-    (omega (arith, nodes-are ready, size-pos (programOf (now (c .before .before .before .before .before .before .before .before .before .before .before .before .before .before .before .before .before .before .before .before .before .before .before .before .before .before .before .before .before .before .before .before .before .before .args .table))), ready .few, c .before .before .before .before .before .held4 .given), omega (arith, c .before .before .before .before .marks2 .given), omega (arith, nodes-are ready, size-pos (programOf (now (c .before .before .before .before .before .before .before .before .before .before .before .before .before .before .before .before .before .before .before .before .before .before .before .before .before .before .before .before .before .before .before .before .before .before .args .table))), ready .places), omega (arith, ready .marks))
+    let ready = c .before .before .before .before .before .before .before .before .before .before .before .before .before .before .before .before .before .before .before .before .before .before .before .before .before .before .check-call .ensures .ready (c .before .before .before .before .before .before .before .before .before .before .before .before .before .before .before .before .before .before .before .before .before .before .before .enum-told .given .1) in
+    (omega (arith, nodes-are ready, size-pos (programOf (now (c .before .before .before .before .before .before .before .before .before .before .before .before .before .before .before .before .before .before .before .before .before .before .before .before .before .before .before .before .before .before .before .before .args .table))), ready .few), omega (arith, nodes-are ready, size-pos (programOf (now (c .before .before .before .before .before .before .before .before .before .before .before .before .before .before .before .before .before .before .before .before .before .before .before .before .before .before .before .before .before .before .before .before .args .table))), ready .places), omega (arith, ready .marks))
 
 same-length-2 : tie.Need-same-length-2
 same-length-2 c = search needs
@@ -111,8 +93,8 @@ same-length-3 c = search needs
 
 returns-3 : tie.Need-returns-3
 returns-3 c =
-    let ready = c .before .before .before .before .before .before .before .before .before .before .before .before .before .before .before .before .before .before .before .before .before .before .before .before .before .before .before .before .before .before .before .before .before .check-call .ensures .ready (c .before .before .before .before .before .before .before .before .before .before .before .before .before .before .before .before .before .before .before .before .before .before .before .before .before .before .before .before .before .before .enum-told .given .1) in
-    reacts-as (resume-hands ready (now (c .before .before .before .before .before .before .before .before .before .before .before .before .before .before .before .before .before .before .before .before .before .before .before .before .before .before .before .before .before .before .before .before .before .before .before .before .before .before .before .args .answers)) (now (c .before .before .before .before .before .before .before .before .before .before .before .before .before .before .before .before .before .before .before .before .before .before .before .before .before .before .before .before .before .before .before .before .before .before .before .before .before .before .before .args .state)) (now (c .before .before .before .before .before .before .before .before .before .before .before .before .before .before .before .before .before .before .before .before .before .before .before .before .before .before .before .before .before .before .before .before .before .before .before .before .before .before .before .args .emissions)) refl refl (omega (arith, nodes-are ready)) _ (omega (arith, ready .few, c .before .before .before .before .before .before .before .before .before .before .before .before .before .before .before .before .held2 .given)) (c .before .before .before .before .before .before .before .before .before .before .before .before .before .before .before .before .before .before .before .before .before .before .check-state .ensures) (c .before .before .before .before .before .before .before .before .before .before .before .before .before .before .before .before .before .before .before .before .enum-told3 .given .1) (front-same (now (c .before .before .before .before .before .before .before .before .before .before .before .before .before .before .before .before .before .before .before .before .before .before .before .before .before .before .before .before .before .before .before .before .before .before .before .before .before .before .before .args .state)) _ (length (now (c .before .before .before .before .before .before .before .before .before .before .before .before .before .before .before .before .before .before .before .before .before .before .before .before .before .before .before .before .before .before .before .before .before .before .before .before .before .before .before .args .table)) / 2) (omega (arith, nodes-are ready, size-pos (programOf (now (c .before .before .before .before .before .before .before .before .before .before .before .before .before .before .before .before .before .before .before .before .before .before .before .before .before .before .before .before .before .before .before .before .before .before .before .before .before .before .before .args .table))), ready .places)) (c .before .before .before .before .before .before .before .before .before .before .before .before .before .before .before .before .before .copy .ensures)) (c .before .before .before .before .before .before .before .before .before .before .before .resume-at .ensures)) (c .before .before .before .before .hand-over .ensures)
+    let ready = c .before .before .before .before .before .before .before .before .before .before .before .before .before .before .before .before .before .before .before .before .before .before .before .before .before .before .before .before .before .before .before .check-call .ensures .ready (c .before .before .before .before .before .before .before .before .before .before .before .before .before .before .before .before .before .before .before .before .before .before .before .before .before .before .before .before .enum-told .given .1) in
+    reacts-as (resume-hands ready (now (c .before .before .before .before .before .before .before .before .before .before .before .before .before .before .before .before .before .before .before .before .before .before .before .before .before .before .before .before .before .before .before .before .before .before .before .before .before .args .answers)) (now (c .before .before .before .before .before .before .before .before .before .before .before .before .before .before .before .before .before .before .before .before .before .before .before .before .before .before .before .before .before .before .before .before .before .before .before .before .before .args .state)) (now (c .before .before .before .before .before .before .before .before .before .before .before .before .before .before .before .before .before .before .before .before .before .before .before .before .before .before .before .before .before .before .before .before .before .before .before .before .before .args .emissions)) refl refl (omega (arith, nodes-are ready)) _ (omega (arith, ready .few, c .before .before .before .before .before .before .before .before .before .before .before .before .before .before .held2 .given)) (c .before .before .before .before .before .before .before .before .before .before .before .before .before .before .before .before .before .before .before .before .check-state .ensures) (c .before .before .before .before .before .before .before .before .before .before .before .before .before .before .before .before .before .before .enum-told3 .given .1) (front-same (now (c .before .before .before .before .before .before .before .before .before .before .before .before .before .before .before .before .before .before .before .before .before .before .before .before .before .before .before .before .before .before .before .before .before .before .before .before .before .args .state)) _ (length (now (c .before .before .before .before .before .before .before .before .before .before .before .before .before .before .before .before .before .before .before .before .before .before .before .before .before .before .before .before .before .before .before .before .before .before .before .before .before .args .table)) / 2) (omega (arith, nodes-are ready, size-pos (programOf (now (c .before .before .before .before .before .before .before .before .before .before .before .before .before .before .before .before .before .before .before .before .before .before .before .before .before .before .before .before .before .before .before .before .before .before .before .before .before .args .table))), ready .places)) (c .before .before .before .before .before .before .before .before .before .before .before .before .before .before .before .copy .ensures)) (c .before .before .before .before .before .before .before .before .before .resume-at .ensures)) (c .before .before .before .before .hand-over .ensures)
 
 pub resume-spec : {M : Type 1} → statement M
 resume-spec =
@@ -136,14 +118,8 @@ resume-spec =
     returns-2
     slice-aggregate-copy
     copy-requires
-    slice-aggregate-resume-at
-    slice-aggregate-resume-at-2
     sub-resume-at
-    slice-aggregate-resume-at-3
-    slice-aggregate-resume-at-4
     resume-at-requires
-    slice-aggregate-hand-over
-    slice-aggregate-hand-over-2
     hand-over-requires
     same-length-2
     same-length-3

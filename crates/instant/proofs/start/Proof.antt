@@ -30,29 +30,14 @@ refused-requires c κs = search needs
 returns : tie.Need-returns
 returns c = start-refused (now (c .before .before .before .before .before .before .before .before .before .before .args .table)) (now (c .before .before .before .before .before .before .before .before .before .before .args .state)) (now (c .before .before .before .before .before .before .before .before .before .before .args .emissions)) (now (c .before .before .before .before .before .before .before .before .before .before .args .answers)) _ _ (c .before .before .before .before .check-call .ensures .answer) (c .before .enum-told2 .given .1) (c .refused .ensures)
 
-slice-aggregate-start-at : tie.Need-slice-aggregate-start-at
-slice-aggregate-start-at c = search needs
-
 sub-start-at : tie.Need-sub-start-at
 sub-start-at c = omega (arith, nodes-are (c .before .before .before .before .check-call .ensures .ready (c .before .enum-told .given .1)), size-pos (programOf (now (c .before .before .before .before .before .before .before .before .before .before .args .table))))
-
-slice-aggregate-start-at-2 : tie.Need-slice-aggregate-start-at-2
-slice-aggregate-start-at-2 c = search needs
-
-slice-aggregate-start-at-3 : tie.Need-slice-aggregate-start-at-3
-slice-aggregate-start-at-3 c = search needs
 
 start-at-requires : tie.Need-start-at-requires
 start-at-requires c κs = ((c .before .before .before .before .before .before .check-call .ensures .ready (c .before .before .before .enum-told .given .1)) .runnable, record { within = omega (arith, nodes-are (c .before .before .before .before .before .before .check-call .ensures .ready (c .before .before .before .enum-told .given .1)), size-pos (programOf (now (c .before .before .before .before .before .before .before .before .before .before .before .before .args .table)))); places = omega (arith, (c .before .before .before .before .before .before .check-call .ensures .ready (c .before .before .before .enum-told .given .1)) .few); marks = omega arith; lent = omega arith }, root-clear (c .before .before .before .before .before .before .check-call .ensures .ready (c .before .before .before .enum-told .given .1)) (length (now (c .before .before .before .before .before .before .before .before .before .before .before .before .args .table)) / 2) (omega (arith, nodes-are (c .before .before .before .before .before .before .check-call .ensures .ready (c .before .before .before .enum-told .given .1)))) maxNodes)
 
-slice-aggregate-hand-over : tie.Need-slice-aggregate-hand-over
-slice-aggregate-hand-over c = search needs
-
-slice-aggregate-hand-over-2 : tie.Need-slice-aggregate-hand-over-2
-slice-aggregate-hand-over-2 c = search needs
-
 hand-over-requires : tie.Need-hand-over-requires
-hand-over-requires c κs = (omega (arith, nodes-are (c .before .before .before .before .before .before .before .before .before .before .before .before .before .check-call .ensures .ready (c .before .before .before .before .before .before .before .before .before .before .enum-told .given .1)), size-pos (programOf (now (c .before .before .before .before .before .before .before .before .before .before .before .before .before .before .before .before .before .before .before .args .table))), (c .before .before .before .before .before .before .before .before .before .before .before .before .before .check-call .ensures .ready (c .before .before .before .before .before .before .before .before .before .before .enum-told .given .1)) .few, c .before .before .before .before .before .held2 .given), omega (arith, c .before .before .before .before .marks2 .given), omega (arith, nodes-are (c .before .before .before .before .before .before .before .before .before .before .before .before .before .check-call .ensures .ready (c .before .before .before .before .before .before .before .before .before .before .enum-told .given .1)), size-pos (programOf (now (c .before .before .before .before .before .before .before .before .before .before .before .before .before .before .before .before .before .before .before .args .table))), (c .before .before .before .before .before .before .before .before .before .before .before .before .before .check-call .ensures .ready (c .before .before .before .before .before .before .before .before .before .before .enum-told .given .1)) .places), omega (arith, (c .before .before .before .before .before .before .before .before .before .before .before .before .before .check-call .ensures .ready (c .before .before .before .before .before .before .before .before .before .before .enum-told .given .1)) .marks))
+hand-over-requires c κs = (omega (arith, nodes-are (c .before .before .before .before .before .before .before .before .before .before .before .check-call .ensures .ready (c .before .before .before .before .before .before .before .before .enum-told .given .1)), size-pos (programOf (now (c .before .before .before .before .before .before .before .before .before .before .before .before .before .before .before .before .before .args .table))), (c .before .before .before .before .before .before .before .before .before .before .before .check-call .ensures .ready (c .before .before .before .before .before .before .before .before .enum-told .given .1)) .few), omega (arith, nodes-are (c .before .before .before .before .before .before .before .before .before .before .before .check-call .ensures .ready (c .before .before .before .before .before .before .before .before .enum-told .given .1)), size-pos (programOf (now (c .before .before .before .before .before .before .before .before .before .before .before .before .before .before .before .before .before .args .table))), (c .before .before .before .before .before .before .before .before .before .before .before .check-call .ensures .ready (c .before .before .before .before .before .before .before .before .enum-told .given .1)) .places), omega (arith, (c .before .before .before .before .before .before .before .before .before .before .before .check-call .ensures .ready (c .before .before .before .before .before .before .before .before .enum-told .given .1)) .marks))
 
 same-length : tie.Need-same-length
 same-length c = search needs
@@ -61,7 +46,7 @@ same-length-2 : tie.Need-same-length-2
 same-length-2 c = search needs
 
 returns-2 : tie.Need-returns-2
-returns-2 c = reacts-as (start-hands (c .before .before .before .before .before .before .before .before .before .before .before .before .before .before .before .before .before .before .check-call .ensures .ready (c .before .before .before .before .before .before .before .before .before .before .before .before .before .before .before .enum-told .given .1)) (now (c .before .before .before .before .before .before .before .before .before .before .before .before .before .before .before .before .before .before .before .before .before .before .before .before .args .answers)) (now (c .before .before .before .before .before .before .before .before .before .before .before .before .before .before .before .before .before .before .before .before .before .before .before .before .args .state)) (now (c .before .before .before .before .before .before .before .before .before .before .before .before .before .before .before .before .before .before .before .before .before .before .before .before .args .emissions)) refl refl (omega (arith, nodes-are (c .before .before .before .before .before .before .before .before .before .before .before .before .before .before .before .before .before .before .check-call .ensures .ready (c .before .before .before .before .before .before .before .before .before .before .before .before .before .before .before .enum-told .given .1)))) _ (omega (arith, (c .before .before .before .before .before .before .before .before .before .before .before .before .before .before .before .before .before .before .check-call .ensures .ready (c .before .before .before .before .before .before .before .before .before .before .before .before .before .before .before .enum-told .given .1)) .few)) (c .before .before .before .before .before .before .before .before .before .before .before .start-at .ensures)) (c .before .before .before .before .hand-over .ensures)
+returns-2 c = reacts-as (start-hands (c .before .before .before .before .before .before .before .before .before .before .before .before .before .before .before .before .check-call .ensures .ready (c .before .before .before .before .before .before .before .before .before .before .before .before .before .enum-told .given .1)) (now (c .before .before .before .before .before .before .before .before .before .before .before .before .before .before .before .before .before .before .before .before .before .before .args .answers)) (now (c .before .before .before .before .before .before .before .before .before .before .before .before .before .before .before .before .before .before .before .before .before .before .args .state)) (now (c .before .before .before .before .before .before .before .before .before .before .before .before .before .before .before .before .before .before .before .before .before .before .args .emissions)) refl refl (omega (arith, nodes-are (c .before .before .before .before .before .before .before .before .before .before .before .before .before .before .before .before .check-call .ensures .ready (c .before .before .before .before .before .before .before .before .before .before .before .before .before .enum-told .given .1)))) _ (omega (arith, (c .before .before .before .before .before .before .before .before .before .before .before .before .before .before .before .before .check-call .ensures .ready (c .before .before .before .before .before .before .before .before .before .before .before .before .before .enum-told .given .1)) .few)) (c .before .before .before .before .before .before .before .before .before .start-at .ensures)) (c .before .before .before .before .hand-over .ensures)
 
 pub start-spec : {M : Type 1} → statement M
 start-spec =
@@ -73,13 +58,8 @@ start-spec =
     enum-told-2
     refused-requires
     returns
-    slice-aggregate-start-at
     sub-start-at
-    slice-aggregate-start-at-2
-    slice-aggregate-start-at-3
     start-at-requires
-    slice-aggregate-hand-over
-    slice-aggregate-hand-over-2
     hand-over-requires
     same-length
     same-length-2
