@@ -66,7 +66,7 @@
  *
  * The functions keep no state of their own and allocate nothing: any number of threads may call
  * them at once, each with buffers of its own to be written.
- * stack: up to about 170 KiB
+ * stack: up to about 110 KiB
  */
 #ifndef BAVZHRONO_H
 #define BAVZHRONO_H
