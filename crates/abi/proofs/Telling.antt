@@ -1,10 +1,29 @@
--- Three stores at the front of an answer, and the two ways in which an exported function returns.
+-- Three stores at the front of an answer, what fits in 32 bits, and the two ways in which an exported function returns.
 use mathlib.Core.Path.{_≡_, refl, sym, subst}
+use mathlib.Core.Bool.{Bool, true, false, _||_, cond}
 use mathlib.Core.List.{List, [], _∷_, _++_}
-use Prim.Native.Nat.{ℕ, _≤_, _<_}
+use Prim.Native.Nat.{ℕ, _*_, _%_, _≤_, _<_}
 use native.Mathlib.Omega.{arith}
+use lib.Dec.{eqb, ltb}
 use lib.ListN.{length, drop, set}
-use Rattle.abi.specs.Exported.{Told, Tells, Exported}
+use Rattle.esterel.specs.Limits.{maxNodes}
+use Rattle.table.specs.Check.{lengthCheck}
+use Rattle.table.specs.declared.Check.{Check}
+use Rattle.table.specs.declared.Check.the-variants.{Passed, Refused}
+use Rattle.analysis.specs.Analysis.{Analysis}
+use Rattle.analysis.specs.declared.Analysed.{Analysed}
+use Rattle.analysis.specs.declared.Analysed.the-variants.{Done}
+use Rattle.analysis.specs.declared.Analysed.the-variants.{Refused as RefusedTable}
+use Rattle.analysis.proofs.Theorems.{demand2OfCall}
+use Rattle.instant.specs.Calls.{Starting, Resuming}
+use Rattle.instant.specs.declared.Reaction.{Reaction}
+use Rattle.instant.specs.declared.Reaction.the-variants.{Closed}
+use Rattle.instant.specs.declared.Reaction.the-variants.{Refused as RefusedCall}
+use Rattle.instant.proofs.Theorems.{demand3OfCalls}
+use Rattle.listing.specs.declared.Rendered.{Rendered}
+use Rattle.listing.specs.declared.Rendered.the-variants.{Whole, TooShort}
+use Rattle.abi.specs.Exported.{returned, answerAfter, Small, Tells, tellAnalysed, tellReaction, tellRendered, shortAnswer, Exported}
+use Rattle.abi.specs.declared.Told.{Told}
 
 pub three : (l : List ℕ) (a b c : ℕ) → 3 ≤ length l → set (set (set l 0 a) 1 b) 2 c ≡ (a ∷ b ∷ c ∷ []) ++ drop 3 l
 three [] a b c h = absurd (omega arith)
@@ -12,13 +31,46 @@ three (x ∷ []) a b c h = absurd (omega arith)
 three (x ∷ (y ∷ [])) a b c h = absurd (omega arith)
 three (x ∷ (y ∷ (z ∷ l))) a b c h = refl
 
-module _ {A : Type 0} (Same : Type 0) (Call : A → Type 0) (tell : A → Told) where
-  pub too-short : {answer : List ℕ} → length answer < 3 → Same → Exported Same Call tell answer answer 3
-  too-short h same = record { short = λ _. (same, refl, refl); whole = λ k. absurd (omega arith) }
+-- checks 1 and 2 name no node
+pub length-node : (t : List ℕ) (number node : ℕ) → lengthCheck t ≡ Refused number node → 0 ≡ node
+unfolding lengthCheck
+length-node t number node = go (ltb (2 * maxNodes) (length t)) (eqb (length t) 0 || eqb (length t % 2) 1)
+  where
+    go : (a b : Bool) → cond a (Refused 1 0) (cond b (Refused 2 0) Passed) ≡ Refused number node → 0 ≡ node
+    go true b e = cc
+    go false true e = cc
+    go false false e = cc
 
-  pub answered : {answer answer′ : List ℕ} {r : ℕ} (x : A) → 3 ≤ length answer → Call x → Tells (tell x) answer answer′ r → Exported Same Call tell answer answer′ r
-  answered x h call o = record { short = λ k. absurd (omega arith); whole = λ _. (x, call, o) }
+-- the node of a refusal is one of a table's
+pub small-analysed : {t k a s m k′ a′ s′ m′ : List ℕ} (r : Analysed) → Analysis t k a s m k′ a′ s′ m′ r → Small (tellAnalysed r)
+small-analysed (Done n d) o = tt
+small-analysed {t} {k} {a} {s} {m} {k′} {a′} {s′} {m′} (RefusedTable number node) o =
+    omega (arith, demand2OfCall .refusals t k a s m k′ a′ s′ m′ number node o .within)
 
--- what is told of an answer that is known
-pub told-as : {A : Type 0} (tell : A → Told) {x y : A} {answer answer′ : List ℕ} {r : ℕ} → x ≡ y → Tells (tell y) answer answer′ r → Tells (tell x) answer answer′ r
-told-as tell {answer = answer} {answer′ = answer′} {r = r} e = subst (λ z. Tells (tell z) answer answer′ r) (sym e)
+module _ (t answers : List ℕ) {state emissions state′ emissions′ : List ℕ} where
+  pub small-started : (r : Reaction) → Starting t answers state emissions state′ emissions′ r → Small (tellReaction r)
+  small-started (Closed code k entries) o = tt
+  small-started (RefusedCall number node) o =
+      omega (arith, demand3OfCalls .startRefusals t answers state emissions state′ emissions′ number node o .within)
+
+  pub small-resumed : (r : Reaction) → Resuming t answers state emissions state′ emissions′ r → Small (tellReaction r)
+  small-resumed (Closed code k entries) o = tt
+  small-resumed (RefusedCall number node) o =
+      omega (arith, demand3OfCalls .resumeRefusals t answers state emissions state′ emissions′ number node o .within)
+
+pub small-rendered : (r : Rendered) → Small (tellRendered r)
+small-rendered (Whole n) = tt
+small-rendered TooShort = omega arith
+
+-- it changes no answer
+short-same : (before : Check) (answer : List ℕ) → answer ≡ answerAfter (shortAnswer before) answer
+short-same Passed answer = refl
+short-same (Refused number node) answer = refl
+
+module _ {A : Type 0} (before : Check) (Same : Type 0) (Call : A → Type 0) (tell : A → Told) where
+  pub too-short : {answer : List ℕ} {r : ℕ} → length answer < 3 → Same → r ≡ returned (shortAnswer before) → Exported before Same Call tell answer answer r
+  too-short h same e = record { short = λ _. (same, record { returns = e; answered = short-same before _ }); whole = λ k. absurd (omega arith) }
+
+  pub answered : {answer answer′ : List ℕ} {r : ℕ} (x : A) {told : Told} → 3 ≤ length answer → Call x → told ≡ tell x → Tells told answer answer′ r → Exported before Same Call tell answer answer′ r
+  answered {answer} {answer′} {r} x h call e o =
+      record { short = λ k. absurd (omega arith); whole = λ _. (x, call, subst (λ z. Tells z answer answer′ r) e o) }

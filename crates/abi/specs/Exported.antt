@@ -1,9 +1,14 @@
 -- What the exported functions return and leave in the lent buffers.
-use Prim.Native.Nat.{ℕ, _<_, _≤_}
+use Prim.Native.Nat.{ℕ, _+_, _*_, _<_, _≤_}
 use mathlib.Core.Path.{_≡_}
-use mathlib.Core.List.{List, [], _∷_, _++_}
-use lib.ListN.{length, drop}
+use mathlib.Core.List.{List, [], _∷_}
+use lib.ListN.{length}
 use Rattle.esterel.specs.Checks.{verdict}
+use Rattle.table.specs.Check.{lengthCheck}
+use Rattle.table.specs.declared.Check.{Check}
+use Rattle.table.specs.declared.Check.the-variants.{Passed}
+use Rattle.table.specs.declared.Check.the-variants.{Refused as RefusedCheck}
+use Rattle.analysis.specs.Passes.{onto}
 use Rattle.analysis.specs.Analysis.{Analysis}
 use Rattle.analysis.specs.declared.Analysed.{Analysed}
 use Rattle.analysis.specs.declared.Analysed.the-variants.{Done}
@@ -16,53 +21,68 @@ use Rattle.listing.specs.Text.{textOf}
 use Rattle.listing.specs.Rendering.{Rendering}
 use Rattle.listing.specs.declared.Rendered.{Rendered}
 use Rattle.listing.specs.declared.Rendered.the-variants.{Whole, TooShort}
+use Rattle.abi.specs.declared.Told.{Told}
+use Rattle.abi.specs.declared.Told.the-variants.{Figures, Refusal}
 
--- the number that is returned, 0 or the refusal's, and the first three entries of the answer
-pub record Told : Type 0 where
-  pub number : ℕ
-  pub first : ℕ
-  pub second : ℕ
-  pub third : ℕ
+-- what is returned: 0, or number + 256 * node
+abbrev pub returned : Told → ℕ
+returned (Figures first second third) = 0
+returned (Refusal number node) = number + 256 * node
 
-abbrev pub refusing : (number node : ℕ) → Told
-refusing number node = record { number = number; first = node; second = 0; third = 0 }
+-- the answer afterwards: the figures in front, and the old entries past them; after a refusal it is as it was
+abbrev pub answerAfter : Told → List ℕ → List ℕ
+answerAfter (Figures first second third) old = onto (first ∷ second ∷ third ∷ []) old
+answerAfter (Refusal number node) old = old
 
+pub record Tells (told : Told) (answer answer′ : List ℕ) (r : ℕ) : Type 0 where
+  pub returns : r ≡ returned told
+  pub answered : answer′ ≡ answerAfter told answer
+
+-- the most that a node can be with its number in 32 bits
+abbrev pub maxNode : ℕ
+maxNode = 16777215
+
+abbrev pub Small : Told → Type 0
+Small (Figures first second third) = Unit {0}
+Small (Refusal number node) = node ≤ maxNode
+
+-- what each call's answer tells
 abbrev pub tellAnalysed : Analysed → Told
-tellAnalysed (Done nodes loops) = record { number = 0; first = nodes; second = loops; third = 0 }
-tellAnalysed (RefusedTable number node) = refusing number node
+tellAnalysed (Done nodes loops) = Figures nodes loops 0
+tellAnalysed (RefusedTable number node) = Refusal number node
 
 abbrev pub tellReaction : Reaction → Told
-tellReaction (Closed code taken entries) = record { number = 0; first = code; second = taken; third = entries }
-tellReaction (RefusedCall number node) = refusing number node
+tellReaction (Closed code taken entries) = Figures code taken entries
+tellReaction (RefusedCall number node) = Refusal number node
 
 -- too short a text is refused as check 3 refuses too short a buffer
 abbrev pub tellRendered : Rendered → Told
-tellRendered (Whole length) = record { number = 0; first = length; second = 0; third = 0 }
-tellRendered TooShort = refusing 3 0
+tellRendered (Whole length) = Figures length 0 0
+tellRendered TooShort = Refusal 3 0
 
--- the answer and the returned number tell this
-pub record Tells (x : Told) (answer answer′ : List ℕ) (r : ℕ) : Type 0 where
-  pub entries : answer′ ≡ (x .first ∷ x .second ∷ x .third ∷ []) ++ drop 3 answer
-  pub returned : r ≡ x .number
+-- an answer of fewer than three entries fails check 3, which comes after the call's checks before it
+abbrev pub shortAnswer : (before : Check) → Told
+shortAnswer Passed = Refusal 3 0
+shortAnswer (RefusedCheck number node) = Refusal number node
 
--- an answer of fewer than three entries is refused before all else, and every buffer is `Same`; else the call's contract holds, and its
--- answer is told
-pub record Exported {A : Type 0} (Same : Type 0) (Call : A → Type 0) (tell : A → Told) (answer answer′ : List ℕ) (r : ℕ) : Type 0 where
-  pub short : length answer < 3 → Same × (answer′ ≡ answer) × (r ≡ 3)
+-- an exported function over a call whose checks before 3 come to `before`: with too short an answer that is told and every buffer is
+-- `Same`; else the call's own contract holds, and its answer is told
+pub record Exported {A : Type 0} (before : Check) (Same : Type 0) (Call : A → Type 0) (tell : A → Told) (answer answer′ : List ℕ) (r : ℕ) : Type 0 where
+  pub short : length answer < 3 → Same × Tells (shortAnswer before) answer answer′ r
   pub whole : 3 ≤ length answer → (x : A) × Call x × Tells (tell x) answer answer′ r
 
 abbrev pub Analysing : (t k a s m answer k′ a′ s′ m′ answer′ : List ℕ) → ℕ → Type 0
 Analysing t k a s m answer k′ a′ s′ m′ answer′ r =
-    Exported ((k′ ≡ k) × (a′ ≡ a) × (s′ ≡ s) × (m′ ≡ m)) (Analysis t k a s m k′ a′ s′ m′) tellAnalysed answer answer′ r
+    Exported (lengthCheck t) ((k′ ≡ k) × (a′ ≡ a) × (s′ ≡ s) × (m′ ≡ m)) (Analysis t k a s m k′ a′ s′ m′) tellAnalysed answer answer′ r
 
 abbrev pub StartingC : (t answers state emissions answer state′ emissions′ answer′ : List ℕ) → ℕ → Type 0
 StartingC t answers state emissions answer state′ emissions′ answer′ r =
-    Exported ((state′ ≡ state) × (emissions′ ≡ emissions)) (Starting t answers state emissions state′ emissions′) tellReaction answer answer′ r
+    Exported (lengthCheck t) ((state′ ≡ state) × (emissions′ ≡ emissions)) (Starting t answers state emissions state′ emissions′) tellReaction answer answer′ r
 
 abbrev pub ResumingC : (t answers state emissions answer state′ emissions′ answer′ : List ℕ) → ℕ → Type 0
 ResumingC t answers state emissions answer state′ emissions′ answer′ r =
-    Exported ((state′ ≡ state) × (emissions′ ≡ emissions)) (Resuming t answers state emissions state′ emissions′) tellReaction answer answer′ r
+    Exported (lengthCheck t) ((state′ ≡ state) × (emissions′ ≡ emissions)) (Resuming t answers state emissions state′ emissions′) tellReaction answer answer′ r
 
+-- a refused table is a text as any other: no check comes before 3
 abbrev pub RenderingC : (t text answer text′ answer′ : List ℕ) → ℕ → Type 0
-RenderingC t text answer text′ answer′ r =
-    Exported (text′ ≡ text) (Rendering (textOf (verdict t)) text text′) tellRendered answer answer′ r
+RenderingC t text answer text′ answer′ r = Exported Passed (text′ ≡ text) (Rendering (textOf (verdict t)) text text′) tellRendered answer answer′ r

@@ -1,84 +1,125 @@
-// The calls for C and Rust: each buffer is a pointer and a length. The answer is the number returned, 0 or the refusal's, and
-// three figures.
+// The calls for C and Rust: each buffer is a pointer and a length. A function returns 0, and three figures stand in the
+// answer; or number + 256 * node of a refusal, and no buffer has changed, the answer among them.
 ghost use mathlib.Core.Path.{_≡_};
-ghost use mathlib.Core.List.{[], _∷_, _++_};
-ghost use Prim.Native.Nat.{_≤_};
-ghost use lib.ListN.{length, drop};
-ghost use Rattle.abi.specs.Exported.{tellAnalysed, tellReaction, tellRendered, Tells, Analysing, StartingC, ResumingC, RenderingC};
+ghost use mathlib.Core.List.{[], _∷_};
+ghost use Prim.Native.Nat.{_≤_, _<_};
+ghost use lib.ListN.{length};
+ghost use Rattle.table.specs.Check.{lengthCheck};
+ghost use Rattle.analysis.specs.Passes.{onto};
+ghost use Rattle.abi.specs.Exported.{maxNode, returned, Small, Tells, tellAnalysed, tellReaction, tellRendered, shortAnswer, Analysing, StartingC, ResumingC, RenderingC};
 use analysis::Analysed;
 use instant::Reaction;
 use listing::Rendered;
+use table::Check;
+
+// What a call tells: three figures, or the number and the node of a refusal.
+enum Told {
+    Figures {
+        first: usize,
+        second: usize,
+        third: usize,
+    },
+    Refusal {
+        number: u8,
+        node: usize,
+    },
+}
 
 // The entries of an answer.
 const FIGURES: usize = 3;
 
-// An answer buffer that is too short is refused as check 3 refuses the others.
-const SHORT: u32 = 3;
+fn widened(number: u8) -> u32
+    ensures { λ r. ⌜ (r ≡ number) × (r < 256) ⌝ }
+{
+    number as u32
+}
 
-fn tell(answer: &mut [u64], first: usize, second: usize, third: usize)
+// What is returned for a refusal.
+fn refusal(number: u8, node: usize) -> u32
+    requires { ⌜ node ≤ maxNode ⌝ }
+    ensures { λ r. ⌜ r ≡ returned (Told.Refusal number node) ⌝ }
+{
+    widened(number) + 256 * node as u32
+}
+
+fn write_figures(answer: &mut [u64], first: usize, second: usize, third: usize)
     requires { ⌜ 3 ≤ length (now answer) ⌝ }
-    ensures { λ _. ⌜ now (answer .exit) ≡ (first ∷ second ∷ third ∷ []) ++ drop 3 (now (answer .entry)) ⌝ }
+    ensures { λ _. ⌜ now (answer .exit) ≡ onto (first ∷ second ∷ third ∷ []) (now (answer .entry)) ⌝ }
 {
     answer[0] = first as u64;
     answer[1] = second as u64;
     answer[2] = third as u64;
 }
 
-fn widened(number: u8) -> u32
-    ensures { λ r. ⌜ r ≡ number ⌝ }
+// The end of each function: the figures go to the answer, a refusal is returned.
+fn tell(told: Told, answer: &mut [u64]) -> u32
+    requires { ⌜ (3 ≤ length (now answer)) × Small told ⌝ }
+    ensures { λ r. ⌜ Tells told (now (answer .entry)) (now (answer .exit)) r ⌝ }
 {
-    number as u32
-}
-
-fn tell_analysed(analysed: Analysed, answer: &mut [u64]) -> u32
-    requires { ⌜ 3 ≤ length (now answer) ⌝ }
-    ensures { λ r. ⌜ Tells (tellAnalysed analysed) (now (answer .entry)) (now (answer .exit)) r ⌝ }
-{
-    match analysed {
-        Analysed::Done { nodes, loops } => {
-            tell(answer, nodes, loops, 0);
+    match told {
+        Told::Figures {
+            first,
+            second,
+            third,
+        } => {
+            write_figures(answer, first, second, third);
             0
         }
-        Analysed::Refused { number, node } => {
-            tell(answer, node, 0, 0);
-            widened(number)
-        }
+        Told::Refusal { number, node } => refusal(number, node),
     }
 }
 
-fn tell_reaction(reaction: Reaction, answer: &mut [u64]) -> u32
-    requires { ⌜ 3 ≤ length (now answer) ⌝ }
-    ensures { λ r. ⌜ Tells (tellReaction reaction) (now (answer .entry)) (now (answer .exit)) r ⌝ }
+// What an answer that is too short is refused with: checks 1 and 2 of the table come before check 3.
+fn short_answer(table: &[u8]) -> u32
+    ensures { λ r. ⌜ r ≡ returned (shortAnswer (lengthCheck (now (table .entry)))) ⌝ }
+{
+    let length = table::check_length(table);
+    let Check::Refused { number, node } = length else {
+        return refusal(3, 0);
+    };
+    refusal(number, node)
+}
+
+fn tell_analysed(analysed: Analysed) -> Told
+    ensures { λ r. ⌜ r ≡ tellAnalysed analysed ⌝ }
+{
+    match analysed {
+        Analysed::Done { nodes, loops } => Told::Figures {
+            first: nodes,
+            second: loops,
+            third: 0,
+        },
+        Analysed::Refused { number, node } => Told::Refusal { number, node },
+    }
+}
+
+fn tell_reaction(reaction: Reaction) -> Told
+    ensures { λ r. ⌜ r ≡ tellReaction reaction ⌝ }
 {
     match reaction {
         Reaction::Closed {
             code,
             taken,
             entries,
-        } => {
-            tell(answer, code, taken, entries);
-            0
-        }
-        Reaction::Refused { number, node } => {
-            tell(answer, node, 0, 0);
-            widened(number)
-        }
+        } => Told::Figures {
+            first: code,
+            second: taken,
+            third: entries,
+        },
+        Reaction::Refused { number, node } => Told::Refusal { number, node },
     }
 }
 
-fn tell_rendered(rendered: Rendered, answer: &mut [u64]) -> u32
-    requires { ⌜ 3 ≤ length (now answer) ⌝ }
-    ensures { λ r. ⌜ Tells (tellRendered rendered) (now (answer .entry)) (now (answer .exit)) r ⌝ }
+fn tell_rendered(rendered: Rendered) -> Told
+    ensures { λ r. ⌜ r ≡ tellRendered rendered ⌝ }
 {
     match rendered {
-        Rendered::Whole { length } => {
-            tell(answer, length, 0, 0);
-            0
-        }
-        Rendered::TooShort => {
-            tell(answer, 0, 0, 0);
-            SHORT
-        }
+        Rendered::Whole { length } => Told::Figures {
+            first: length,
+            second: 0,
+            third: 0,
+        },
+        Rendered::TooShort => Told::Refusal { number: 3, node: 0 },
     }
 }
 
@@ -94,10 +135,10 @@ pub extern "C" fn bavzhrono_analyse(
     ensures { λ r. ⌜ Analysing (now (table .entry)) (now («start_sets» .entry)) (now («any_sets» .entry)) (now (contexts .entry)) (now (marks .entry)) (now (answer .entry)) (now («start_sets» .exit)) (now («any_sets» .exit)) (now (contexts .exit)) (now (marks .exit)) (now (answer .exit)) r ⌝ }
 {
     if answer.len() < FIGURES {
-        return SHORT;
+        return short_answer(table);
     }
     let analysed = analysis::analyse(table, start_sets, any_sets, contexts, marks);
-    tell_analysed(analysed, answer)
+    tell(tell_analysed(analysed), answer)
 }
 
 #[no_mangle]
@@ -111,10 +152,10 @@ pub extern "C" fn bavzhrono_start(
     ensures { λ r. ⌜ StartingC (now (table .entry)) (now (answers .entry)) (now (state .entry)) (now (emissions .entry)) (now (answer .entry)) (now (state .exit)) (now (emissions .exit)) (now (answer .exit)) r ⌝ }
 {
     if answer.len() < FIGURES {
-        return SHORT;
+        return short_answer(table);
     }
     let reaction = instant::start(table, answers, state, emissions);
-    tell_reaction(reaction, answer)
+    tell(tell_reaction(reaction), answer)
 }
 
 #[no_mangle]
@@ -128,19 +169,20 @@ pub extern "C" fn bavzhrono_resume(
     ensures { λ r. ⌜ ResumingC (now (table .entry)) (now (answers .entry)) (now (state .entry)) (now (emissions .entry)) (now (answer .entry)) (now (state .exit)) (now (emissions .exit)) (now (answer .exit)) r ⌝ }
 {
     if answer.len() < FIGURES {
-        return SHORT;
+        return short_answer(table);
     }
     let reaction = instant::resume(table, answers, state, emissions);
-    tell_reaction(reaction, answer)
+    tell(tell_reaction(reaction), answer)
 }
 
+// A refused table is a text as any other, so that only check 3 refuses this call.
 #[no_mangle]
 pub extern "C" fn bavzhrono_render(table: &[u8], text: &mut [u8], answer: &mut [u64]) -> u32
     ensures { λ r. ⌜ RenderingC (now (table .entry)) (now (text .entry)) (now (answer .entry)) (now (text .exit)) (now (answer .exit)) r ⌝ }
 {
     if answer.len() < FIGURES {
-        return SHORT;
+        return refusal(3, 0);
     }
     let rendered = listing::render(table, text);
-    tell_rendered(rendered, answer)
+    tell(tell_rendered(rendered), answer)
 }

@@ -1,28 +1,38 @@
 -- `abi::tell` meets its contract.
 use borrow.Author.Needs.{needs}
-use native.Mathlib.Omega.{arith}
-use denote.Ref.{now}
-use lib.ListN.{length-set}
-use Rattle.abi.proofs.Telling.{three}
+use mathlib.Core.Path.{refl}
 use Rattle.abi.proofs.tell.Statement.{statement}
 use Rattle.abi.proofs.tell.Tie as tie
 
-slice-write-answer : tie.Need-slice-write-answer
-slice-write-answer c = search needs
+enum-known-told : tie.Need-enum-known-told
+enum-known-told c = search needs
 
-slice-write-answer-2 : tie.Need-slice-write-answer-2
-slice-write-answer-2 c = rw length-set (omega arith)
+write-figures-requires : tie.Need-write-figures-requires
+write-figures-requires c κs = search needs
 
-slice-write-answer-3 : tie.Need-slice-write-answer-3
-slice-write-answer-3 c = search needs
+enum-known-told-2 : tie.Need-enum-known-told-2
+enum-known-told-2 c = search needs
+
+refusal-requires : tie.Need-refusal-requires
+refusal-requires c κs = rw (c .before .told2 .given .1) at (c .before .before .before .before .pre .1)
 
 same-length : tie.Need-same-length
 same-length c = search needs
 
 returns : tie.Need-returns
-returns c = three (now (c .args .answer)) _ _ _ (omega arith)
+returns c = rw (c .before .before .before .before .before .told .given .1) record { returns = refl; answered = c .before .before .write-figures .ensures }
+
+returns-2 : tie.Need-returns-2
+returns-2 c = rw (c .before .before .told2 .given .1) record { returns = c .refusal .ensures; answered = refl }
 
 pub tell-spec : {M : Type 1} → statement M
 tell-spec =
     tie.close
-    (tie.spec slice-write-answer slice-write-answer-2 slice-write-answer-3 same-length returns)
+    (tie.spec
+    enum-known-told
+    write-figures-requires
+    enum-known-told-2
+    refusal-requires
+    same-length
+    returns
+    returns-2)

@@ -1,48 +1,22 @@
 -- `abi::tell_reaction` meets its contract.
 use borrow.Author.Needs.{needs}
-use mathlib.Core.Path.{refl}
+use mathlib.Core.Path.{sym, ap}
 use Rattle.abi.specs.Exported.{tellReaction}
-use Rattle.abi.proofs.Telling.{told-as}
 use Rattle.abi.proofs.tell_reaction.Statement.{statement}
 use Rattle.abi.proofs.tell_reaction.Tie as tie
 
 enum-known-reaction : tie.Need-enum-known-reaction
 enum-known-reaction c = search needs
 
-tell-requires : tie.Need-tell-requires
-tell-requires c κs = search needs
-
 enum-known-reaction-2 : tie.Need-enum-known-reaction-2
 enum-known-reaction-2 c = search needs
 
-tell-requires-2 : tie.Need-tell-requires-2
-tell-requires-2 c κs = search needs
-
-widened-requires : tie.Need-widened-requires
-widened-requires c κs = search needs
-
-same-length : tie.Need-same-length
-same-length c = search needs
-
 returns : tie.Need-returns
-returns c = told-as tellReaction (c .before .before .before .before .before .reaction .given .1) (record { entries = c .before .before .tell .ensures; returned = refl })
-
-same-length-2 : tie.Need-same-length-2
-same-length-2 c = search needs
+returns c = sym (ap tellReaction (c .before .reaction .given .1))
 
 returns-2 : tie.Need-returns-2
-returns-2 c = told-as tellReaction (c .before .before .before .before .before .before .reaction2 .given .1) (record { entries = c .before .before .before .tell2 .ensures; returned = c .widened .ensures })
+returns-2 c = sym (ap tellReaction (c .before .reaction2 .given .1))
 
 pub tell-reaction-spec : {M : Type 1} → statement M
 tell-reaction-spec =
-    tie.close
-    (tie.spec
-    enum-known-reaction
-    tell-requires
-    enum-known-reaction-2
-    tell-requires-2
-    widened-requires
-    same-length
-    returns
-    same-length-2
-    returns-2)
+    tie.close (tie.spec enum-known-reaction enum-known-reaction-2 returns returns-2)
