@@ -63,7 +63,7 @@ small-rendered (Whole n) = tt
 small-rendered TooShort = omega arith
 
 -- it changes no answer
-short-same : (before : Check) (answer : List ℕ) → answer ≡ answerAfter (shortAnswer before) answer
+pub short-same : (before : Check) (answer : List ℕ) → answer ≡ answerAfter (shortAnswer before) answer
 short-same Passed answer = refl
 short-same (Refused number node) answer = refl
 
