@@ -132,7 +132,18 @@ fn write_answer(reaction: Reaction) -> bool {
     }
 }
 
-// Reads the bytes that follow, runs the call and writes what it came to.
+// Whether the bytes that follow the head came whole.
+fn read_call(table: &mut [u8], answers: &mut [u8], state: &mut [u8]) -> bool {
+    if !input::read_full(table) {
+        return false;
+    }
+    if !input::read_full(answers) {
+        return false;
+    }
+    input::read_full(state)
+}
+
+// Reads the bytes that follow, runs the call and writes what it came to; false at the end of the input.
 fn run_call(
     head: &[u8],
     table: &mut [u8],
@@ -142,9 +153,9 @@ fn run_call(
 ) -> bool
     requires { ⌜ 9 < length (now head) ⌝ }
 {
-    io::read_full(libc::STDIN_FILENO, table);
-    io::read_full(libc::STDIN_FILENO, answers);
-    io::read_full(libc::STDIN_FILENO, state);
+    if !read_call(table, answers, state) {
+        return false;
+    }
     fill(emissions, head[9]);
     let reaction = react(head[0], table, answers, state, emissions);
     write_answer(reaction)
@@ -156,8 +167,7 @@ fn run_call(
 // Runs the next call; false at the end of the input.
 fn run_next() -> bool {
     let mut head = [0u8; 10];
-    let got = io::read_full(libc::STDIN_FILENO, &mut head);
-    if got < 10 {
+    if !input::read_full(&mut head) {
         return false;
     }
     let t = length_at(&head, 1);

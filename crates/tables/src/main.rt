@@ -18,8 +18,7 @@ fn list_one(table: &[u8]) -> bool {
 // Reads the next table and lists it; false at the end of the input.
 fn list_next() -> bool {
     let mut head = [0u8; 2];
-    let got = io::read_full(libc::STDIN_FILENO, &mut head);
-    if got < 2 {
+    if !input::read_full(&mut head) {
         return false;
     }
     let length = wide(head[0]) + 256 * wide(head[1]);
@@ -27,8 +26,7 @@ fn list_next() -> bool {
     if table.len() < length {
         return false;
     }
-    let n = io::read_full(libc::STDIN_FILENO, &mut table[..length]);
-    list_one(&table[..n])
+    input::read_full(&mut table[..length]) && list_one(&table[..length])
 }
 
 // A proved loop has to end, so the tables are counted down from more than there are.

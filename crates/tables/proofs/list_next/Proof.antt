@@ -1,9 +1,8 @@
--- `tables::list_next` meets its contract: what is read lies within its buffer.
+-- `tables::list_next` meets its contract: a table is read and listed only where it fits in the buffer.
 use borrow.Author.Needs.{needs}
 use native.Mathlib.Omega.{arith}
 use mathlib.Core.Path.{sym}
-use lib.ListN.{length-append}
-use lib.Seq.{length-take-le}
+use lib.Seq.{length-front, length-take-le}
 use Rattle.tables.proofs.list_next.Statement.{statement}
 use Rattle.tables.proofs.list_next.Tie as tie
 
@@ -29,10 +28,10 @@ wide-requires-2 : tie.Need-wide-requires-2
 wide-requires-2 c κs = search needs
 
 mul-length : tie.Need-mul-length
-mul-length c = omega (arith, c .wide2 .ensures)
+mul-length c = search needs
 
 add-length : tie.Need-add-length
-add-length c = omega (arith, c .before .wide .ensures, c .wide2 .ensures)
+add-length c = search needs
 
 buffer-requires : tie.Need-buffer-requires
 buffer-requires c κs = search needs
@@ -50,16 +49,19 @@ read-full-requires-2 : tie.Need-read-full-requires-2
 read-full-requires-2 c κs = search needs
 
 array-share-prefix-table : tie.Need-array-share-prefix-table
-array-share-prefix-table c = rw length-append (omega (arith, c .before .read-full2 .ensures .0))
+array-share-prefix-table c = rw (length-front _ _ _ (c .before .before .read-full2 .kept .0)) (omega (arith, c .before .before .before .before .if2 .left))
 
 slice-aggregate-list-one : tie.Need-slice-aggregate-list-one
-slice-aggregate-list-one c = sym (length-take-le _ _ (rw length-append (omega (arith, c .before .before .read-full2 .ensures .0))))
+slice-aggregate-list-one c = sym (length-take-le _ _ (array-share-prefix-table (c .before)))
 
 list-one-requires : tie.Need-list-one-requires
 list-one-requires c κs = search needs
 
 returns-3 : tie.Need-returns-3
 returns-3 c = search needs
+
+returns-4 : tie.Need-returns-4
+returns-4 c = search needs
 
 pub list-next-spec : {M : Type 1} → statement M
 list-next-spec =
@@ -82,4 +84,5 @@ list-next-spec =
     array-share-prefix-table
     slice-aggregate-list-one
     list-one-requires
-    returns-3)
+    returns-3
+    returns-4)
