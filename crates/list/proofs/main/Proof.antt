@@ -1,19 +1,19 @@
--- `list::main` meets its contract: what was read and what is written lie within their buffers.
+-- `list::main` meets its contract: the buffer has room for more than a table may have, and the text lies within its own.
 use borrow.Author.Needs.{needs}
-use native.Mathlib.Omega.{arith}
 use mathlib.Core.Path.{sym}
 use lib.Seq.{length-take-le}
+use Rattle.list.proofs.Whole.{end-within}
 use Rattle.list.proofs.main.Statement.{statement}
 use Rattle.list.proofs.main.Tie as tie
 
-slice-aggregate-read-input : tie.Need-slice-aggregate-read-input
-slice-aggregate-read-input c = search needs
+slice-aggregate-list-input : tie.Need-slice-aggregate-list-input
+slice-aggregate-list-input c = search needs
 
-read-input-requires : tie.Need-read-input-requires
-read-input-requires c κs = search needs
+list-input-requires : tie.Need-list-input-requires
+list-input-requires c κs = search needs
 
-enum-known-input : tie.Need-enum-known-input
-enum-known-input c = search needs
+enum-known-listed : tie.Need-enum-known-listed
+enum-known-listed c = search needs
 
 enum-told : tie.Need-enum-told
 enum-told c = search needs
@@ -27,20 +27,11 @@ fail-requires c κs = search needs
 returns : tie.Need-returns
 returns c = search needs
 
-array-share-prefix-table : tie.Need-array-share-prefix-table
-array-share-prefix-table c = omega (arith, (rw (c .before .input .given .1) at (c .before .before .before .before .read-input .ensures)), c .before .before .before .table2 .given)
-
-slice-aggregate-render-whole : tie.Need-slice-aggregate-render-whole
-slice-aggregate-render-whole c = sym (length-take-le _ _ (rw (c .before .before .input .given .1) at (c .before .before .before .before .before .read-input .ensures)))
-
-render-whole-requires : tie.Need-render-whole-requires
-render-whole-requires c κs = search needs
-
 array-share-prefix-text : tie.Need-array-share-prefix-text
-array-share-prefix-text c = search needs
+array-share-prefix-text c = end-within (rw (c .before .listed .given .1) at (c .before .before .before .before .list-input .ensures))
 
 slice-aggregate-write-all : tie.Need-slice-aggregate-write-all
-slice-aggregate-write-all c = sym (length-take-le _ _ (c .before .render-whole .ensures .within))
+slice-aggregate-write-all c = sym (length-take-le _ _ (end-within (rw (c .before .before .listed .given .1) at (c .before .before .before .before .before .list-input .ensures))))
 
 write-all-requires : tie.Need-write-all-requires
 write-all-requires c κs = search needs
@@ -61,16 +52,13 @@ pub main-spec : {M : Type 1} → statement M
 main-spec =
     tie.close
     (tie.spec
-    slice-aggregate-read-input
-    read-input-requires
-    enum-known-input
+    slice-aggregate-list-input
+    list-input-requires
+    enum-known-listed
     enum-told
     slice-aggregate-fail
     fail-requires
     returns
-    array-share-prefix-table
-    slice-aggregate-render-whole
-    render-whole-requires
     array-share-prefix-text
     slice-aggregate-write-all
     write-all-requires
