@@ -48,6 +48,7 @@ test_compare() {
 rt fmt --check || { echo "0 passed, 1 failed"; exit 1; }
 part "rt ci" rt ci
 part examples list_examples
+part input tools/test_input.sh
 rt staticlib abi > "$log" 2>&1 || cat "$log"
 part bindings bindings/test.sh
 part compare test_compare
