@@ -1,11 +1,12 @@
 # Thin, over the toolchain's rt and cargo. Each target does its own set-up.
 .PHONY: run test soak bench archive definitions vectors
 
-# builds the listing program and lists a worked example; TABLE=FILE lists a table of your own
+# builds the listing program and lists a worked example; TABLE=FILE lists a table of your own. Each crate is shown as it is proved, on standard
+# error, and all that rt said if one is not
 TABLE = examples/w1.table
 run:
-	@rt check list > target-run.log 2>&1 || { cat target-run.log; rm -f target-run.log; exit 1; }
-	@rm -f target-run.log
+	@echo "Proving and building the listing program; the first time this takes some minutes" >&2
+	@rt check list 2>&1 | awk '/^rt: / { print; fflush() } { said = said $$0 "\n"; last = $$0 } END { if (last !~ /^rt: ok/) { printf "%s", said; exit 1 } }' >&2
 	@target/bin/list < $(TABLE)
 
 # the gate: everything proved from nothing, every must-fail edit refused, every program's output compared, all formatted
