@@ -27,11 +27,13 @@
  *
  * What comes back
  *
- * Each function returns 0, or the number of the first check that failed. The first three entries
- * of `answer` are always written: with the function's values after 0, with (node, 0, 0) after a
- * refusal, where node is the lowest one that the check fits, and 0 for the checks that name none.
- * A refusal changes no other buffer. Only an `answer` of fewer than 3 entries is not written to:
- * it is refused with 3 before anything else, and nothing at all is changed.
+ * Each function returns 0, or number + 256 * node of a refusal: the number of the first check that
+ * failed, at most 255, and the lowest node that it fits, below 1,024, and 0 for the checks that
+ * name none. BAVZHRONO_NUMBER and BAVZHRONO_NODE take a returned value apart.
+ *
+ * After 0 the function's three values are in the first three entries of `answer`. After a refusal
+ * no buffer has changed, `answer` among them. An `answer` of fewer than 3 entries is a buffer that
+ * is too short, like any other: number 3, once checks 1 and 2 are passed.
  *
  *     number  refused if                                                        names a node
  *          1  the table has more than 2,048 bytes (1,024 nodes)                 no
@@ -80,8 +82,11 @@
 #define BAVZHRONO_SIGNALS 256
 /* A text of so many bytes holds the listing of any table. */
 #define BAVZHRONO_MAX_TEXT 67584
-/* The entries of an answer. */
+/* The entries of an answer that are needed. */
 #define BAVZHRONO_ANSWER 3
+/* The number and the node of a returned value, each a uint32_t; 0 and 0 where nothing is refused. */
+#define BAVZHRONO_NUMBER(r) ((uint32_t)(r) % 256u)
+#define BAVZHRONO_NODE(r) ((uint32_t)(r) / 256u)
 
 #ifdef __cplusplus
 extern "C" {
@@ -150,8 +155,8 @@ uint32_t bavzhrono_resume(const uint8_t *table, size_t table_length,
  *              follows. BAVZHRONO_MAX_TEXT bytes suffice for any table.
  *      answer  (length of the text, 0, 0).
  *
- * Returns 0 for both texts, and 3 if the text does not fit in the buffer (or, as all functions
- * do, if the answer is too short).
+ * Returns 0 for both texts. The only refusal is 3, whatever the table: the text does not fit in
+ * its buffer, or the answer is too short.
  */
 uint32_t bavzhrono_render(const uint8_t *table, size_t table_length,
                           uint8_t *text, size_t text_length,

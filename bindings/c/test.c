@@ -48,10 +48,15 @@ static const uint8_t w5[] = {4, 0};
 static const uint8_t w6[] = {1, 0, 2, 0, 6, 5, 8, 0};
 static const uint8_t w7[] = {1, 0, 2, 0, 10, 0};
 static const uint8_t w8[] = {2, 0, 1, 0, 6, 5, 1, 0, 2, 0, 6, 5, 9, 0, 8, 0};
+static const uint8_t unknown[] = {2, 0, 12, 0};
+static const uint8_t present[] = {3, 5, 2, 0, 6, 1}; /* present 1 then emit 5 else pause */
 static const char w1_listing[] =
     "ok 4 1 8\n0 2 0 2 3 1 1\n1 3 7 1 1 0 0\n2 9 0 2 3 1 1\n3 8 0 2 2 0 0\n";
 
-/* A call writes to `actual`, a test says in `expected` what it must write. */
+/*
+ * A call writes to `actual`, a test says in `expected` what it must write. All is filled anew after
+ * each check.
+ */
 static buffers actual, expected;
 static int failures = 0;
 
@@ -68,12 +73,18 @@ static void expect_answer(uint64_t first, uint64_t second, uint64_t third)
     expected.answer[2] = third;
 }
 
-/* Compares the number returned, and every byte of every buffer. */
-static void check(const char *call, const char *name, uint32_t number, uint32_t expected_number)
+static void report(int passed, const char *call, const char *name)
 {
-    int passed = number == expected_number && memcmp(&actual, &expected, sizeof actual) == 0;
     printf("%s: %s: %s\n", passed ? "ok" : "FAIL", call, name);
     failures += !passed;
+}
+
+/* Compares the value returned, and every byte of every buffer. */
+static void check(const char *call, const char *name, uint32_t returned, uint32_t expected_return)
+{
+    int same = memcmp(&actual, &expected, sizeof actual) == 0;
+    report(returned == expected_return && same, call, name);
+    prepare();
 }
 
 /* No more than the call needs. */
@@ -118,7 +129,6 @@ static void test_sets(const char *name, const uint8_t *table, const node_sets *s
 {
     lengths lent[2] = {needed(nodes, 0), spare()};
     for (int more = 0; more < 2; more++) {
-        prepare();
         for (size_t node = 0; node < nodes; node++) {
             expected.start_sets[node] = sets[node].start_set;
             expected.any_sets[node] = sets[node].any_set;
@@ -206,21 +216,15 @@ static void test_sets_of_edges(void)
 /* Refused tables: by number and node in three functions, as a line of text in the fourth. */
 
 static void test_refused(const char *name, const uint8_t *table, size_t length, uint32_t number,
-                         unsigned node)
+                         uint32_t node)
 {
+    uint32_t refused = number + 256 * node;
     char line[32];
-    int line_length = sprintf(line, "refused %u %u\n", (unsigned)number, node);
+    int line_length = sprintf(line, "refused %u %u\n", (unsigned)number, (unsigned)node);
 
-    prepare();
-    expect_answer(node, 0, 0);
-    check("analyse", name, analyse(table, length, spare()), number);
-    prepare();
-    expect_answer(node, 0, 0);
-    check("start", name, instant(bavzhrono_start, table, length, NULL, 0, spare()), number);
-    prepare();
-    expect_answer(node, 0, 0);
-    check("resume", name, instant(bavzhrono_resume, table, length, NULL, 0, spare()), number);
-    prepare();
+    check("analyse", name, analyse(table, length, spare()), refused);
+    check("start", name, instant(bavzhrono_start, table, length, NULL, 0, spare()), refused);
+    check("resume", name, instant(bavzhrono_resume, table, length, NULL, 0, spare()), refused);
     memcpy(expected.text, line, (size_t)line_length);
     expect_answer((uint64_t)line_length, 0, 0);
     check("render", name, render(table, length, needed(0, (size_t)line_length)), 0);
@@ -228,7 +232,7 @@ static void test_refused(const char *name, const uint8_t *table, size_t length, 
 
 static void test_refused_by_check(void)
 {
-    static const uint8_t unknown[] = {2, 0, 12, 0}, field[] = {2, 0, 8, 1}, alone[] = {9, 0};
+    static const uint8_t field[] = {2, 0, 8, 1}, alone[] = {9, 0};
     static const uint8_t two[] = {2, 0, 2, 0};
     static uint8_t table[2 * BAVZHRONO_MAX_NODES + 2];
     size_t full = full_table(table);
@@ -250,23 +254,53 @@ static void test_refused_by_check(void)
     test_refused("11, W8", w8, sizeof w8, 11, 7);
 }
 
-/* Short buffers: refused with 3, and nothing but the answer is written. */
+/* The highest node that a refusal can name: 1,023. */
+static void test_refused_at_the_last_node(void)
+{
+    static uint8_t table[2 * BAVZHRONO_MAX_NODES];
+    size_t length = full_table(table);
+
+    put(table + length - 2, 12, 0);
+    test_refused("4, the last of 1,024 nodes", table, length, 4, 1023);
+    /* With a nothing for each pause the body can end, but that shows only at the loop. */
+    for (size_t node = 0; node < BAVZHRONO_MAX_NODES; node++)
+        if (table[2 * node] == 2)
+            table[2 * node] = 1;
+    put(table + length - 2, 8, 0);
+    test_refused("11, the last of 1,024 nodes", table, length, 11, 1023);
+}
+
+static void test_macros(void)
+{
+    enum { number = BAVZHRONO_NUMBER(11 + 256 * 7), node = BAVZHRONO_NODE(11 + 256 * 7) };
+    const uint64_t wide = 11 + 256 * 7;
+
+    report(number == 11 && node == 7, "macros", "a constant");
+    report(BAVZHRONO_NUMBER(0) == 0 && BAVZHRONO_NODE(0) == 0, "macros", "0");
+    report(BAVZHRONO_NUMBER(255) == 255 && BAVZHRONO_NODE(255) == 0, "macros", "number 255");
+    report(BAVZHRONO_NUMBER(256 * 1023) == 0 && BAVZHRONO_NODE(256 * 1023) == 1023, "macros",
+           "node 1,023");
+    report(BAVZHRONO_NUMBER(11 | 256) == 11 && BAVZHRONO_NODE(11 | 256) == 1, "macros",
+           "an expression within");
+    report(100 / BAVZHRONO_NUMBER(wide) == 9 && 70 / BAVZHRONO_NODE(wide) == 10, "macros",
+           "an expression around");
+    report(sizeof BAVZHRONO_NUMBER(wide) == 4 && sizeof BAVZHRONO_NODE(wide) == 4 &&
+               BAVZHRONO_NUMBER(0) - 1 == UINT32_MAX && BAVZHRONO_NODE(0) - 1 == UINT32_MAX,
+           "macros", "uint32_t");
+}
+
+/* Short buffers: refused with 3, and nothing is written. */
 
 static void test_short_sets(void)
 {
     static const char *const names[] = {"short start sets", "short any-instant sets",
                                         "short contexts", "short marks"};
-    static const uint8_t unknown[] = {12, 0};
     for (int which = 0; which < 4; which++) {
         lengths lent = needed(sizeof w1 / 2, 0);
         size_t *shortened[] = {&lent.start_sets, &lent.any_sets, &lent.contexts, &lent.marks};
         *shortened[which] -= 1;
-        prepare();
-        expect_answer(0, 0, 0);
         check("analyse", names[which], analyse(w1, sizeof w1, lent), 3);
     }
-    prepare();
-    expect_answer(0, 0, 0);
     check("analyse", "3 before 4", analyse(unknown, sizeof unknown, needed(0, 0)), 3);
 }
 
@@ -276,28 +310,39 @@ static void test_short_instant(const char *name, instant_call *call)
     lengths short_emissions = needed(sizeof w1 / 2, 0);
     short_emissions.emissions -= 1;
 
-    prepare();
-    expect_answer(0, 0, 0);
     check(name, "short state", instant(call, w1, sizeof w1, NULL, 0, short_state), 3);
-    prepare();
-    expect_answer(0, 0, 0);
     check(name, "short emissions", instant(call, w1, sizeof w1, NULL, 0, short_emissions), 3);
 }
 
-/* The empty table would be refused with 2, but an answer that is too short comes before it. */
-static void test_short_answer(void)
+/* An answer that is too short is refused by 3 in its place; for a listing no check comes before. */
+static void test_short_answer(size_t answer_length, const char *table_name, const uint8_t *table,
+                              size_t length, uint32_t number)
 {
+    char name[64];
     lengths lent = spare();
-    for (lent.answer = 0; lent.answer < BAVZHRONO_ANSWER; lent.answer++) {
-        char name[32];
-        sprintf(name, "answer of %u", (unsigned)lent.answer);
-        prepare();
-        check("analyse", name, analyse(NULL, 0, lent), 3);
-        check("start", name, instant(bavzhrono_start, NULL, 0, NULL, 0, lent), 3);
-        check("resume", name, instant(bavzhrono_resume, NULL, 0, NULL, 0, lent), 3);
-        check("render", name, render(NULL, 0, lent), 3);
+    lent.answer = answer_length;
+    sprintf(name, "answer of %u, %s", (unsigned)answer_length, table_name);
+
+    check("analyse", name, analyse(table, length, lent), number);
+    check("start", name, instant(bavzhrono_start, table, length, NULL, 0, lent), number);
+    check("resume", name, instant(bavzhrono_resume, table, length, NULL, 0, lent), number);
+    check("render", name, render(table, length, lent), 3);
+}
+
+static void test_short_answers(void)
+{
+    static uint8_t table[2 * BAVZHRONO_MAX_NODES + 2];
+    size_t full = full_table(table), too_long = full + put(table + full, 8, 0);
+
+    for (size_t answer = 0; answer < BAVZHRONO_ANSWER; answer++) {
+        test_short_answer(answer, "2,050 bytes", table, too_long, 1);
+        test_short_answer(answer, "no byte", NULL, 0, 2);
+        test_short_answer(answer, "odd length", w1, sizeof w1 - 1, 2);
+        test_short_answer(answer, "an unknown kind", unknown, sizeof unknown, 3);
+        test_short_answer(answer, "W1", w1, sizeof w1, 3);
+        test_short_answer(answer, "W2", w2, sizeof w2, 3);
+        test_short_answer(answer, "no answer for a present", present, sizeof present, 3);
     }
-    prepare();
     check("render", "answer NULL",
           bavzhrono_render(w1, sizeof w1, actual.text, sizeof actual.text, NULL, 0), 3);
 }
@@ -342,13 +387,10 @@ static void run_instant(const instant_test *test, lengths lent, const char *how)
     char call[32];
     uint8_t answers[SPARE];
     size_t answers_length = read_digits(answers, test->answers);
-    prepare();
     read_digits(actual.state, test->before);
     read_digits(expected.state, test->before);
     if (test->refused == 0)
         expect_closed(test);
-    else
-        expect_answer(0, 0, 0);
     sprintf(call, "%s%s", test->call == STARTED ? "start" : "resume", how);
     /* Without answers there need be no pointer either. */
     check(call, test->name,
@@ -358,9 +400,8 @@ static void run_instant(const instant_test *test, lengths lent, const char *how)
 }
 
 static const uint8_t emit_255[] = {3, 255};
-static const uint8_t present[] = {3, 5, 2, 0, 6, 1}; /* present 1 then emit 5 else pause */
-static const uint8_t suspend[] = {2, 0, 7, 1};       /* suspend pause when 1 */
-static const uint8_t pauses[] = {2, 0, 2, 0, 9, 0};  /* pause; pause */
+static const uint8_t suspend[] = {2, 0, 7, 1};      /* suspend pause when 1 */
+static const uint8_t pauses[] = {2, 0, 2, 0, 9, 0}; /* pause; pause */
 
 static const instant_test instant_tests[] = {
     {"W9, W1 started", STARTED, w1, 4, "", "", 0, 1, 0, 3, "1000", NONE},
@@ -396,7 +437,6 @@ static void test_render(void)
     size_t length = strlen(w1_listing);
     lengths lent[2] = {needed(0, length), spare()};
     for (int more = 0; more < 2; more++) {
-        prepare();
         memcpy(expected.text, w1_listing, length);
         expect_answer(length, 0, 0);
         check(more ? "render, more lent" : "render", "W1", render(w1, sizeof w1, lent[more]), 0);
@@ -406,27 +446,24 @@ static void test_render(void)
 static void test_short_text(void)
 {
     size_t line_length = strlen("refused 11 1\n");
-    prepare();
-    expect_answer(0, 0, 0);
     check("render", "short text", render(w1, sizeof w1, needed(0, strlen(w1_listing) - 1)), 3);
-    prepare();
-    expect_answer(0, 0, 0);
     check("render", "short line", render(w2, sizeof w2, needed(0, line_length - 1)), 3);
-    prepare();
-    expect_answer(0, 0, 0);
     check("render", "no text",
           bavzhrono_render(w1, sizeof w1, NULL, 0, actual.answer, BAVZHRONO_ANSWER), 3);
 }
 
 int main(void)
 {
+    prepare();
     test_sets_of_table_w();
     test_sets_of_edges();
     test_refused_by_check();
+    test_refused_at_the_last_node();
+    test_macros();
     test_short_sets();
     test_short_instant("start", bavzhrono_start);
     test_short_instant("resume", bavzhrono_resume);
-    test_short_answer();
+    test_short_answers();
     test_instants();
     test_render();
     test_short_text();

@@ -1,5 +1,7 @@
-//! The functions of libabi.a as they are: each returns 0 or the number of a refusal, and writes its
-//! figures to an answer buffer of at least three entries. All of the unsafe code is here.
+//! The functions of libabi.a as they are: each returns 0, or number + 256 * node of a refusal. After
+//! 0 its figures are the first three entries of the answer; after a refusal no buffer has changed.
+//! An answer of fewer than three entries is refused by check 3, like the other buffers that are too
+//! short. All of the unsafe code is here.
 //!
 //! Each slice is lent as its pointer and its length. The functions stay within the lengths and
 //! keep no pointer; the borrows see to it that what is written overlaps nothing else.
@@ -71,7 +73,7 @@ extern "C" {
     ) -> u32;
 }
 
-/// The answer is the nodes, the loop depth and 0, or the node, 0 and 0 of a refusal.
+/// The figures are the nodes, the loop depth and 0.
 pub fn analyse(
     table: &[u8],
     start_sets: &mut [u64],
@@ -99,7 +101,7 @@ pub fn analyse(
     }
 }
 
-/// The answer is the code, the answers taken and the entries, or the node, 0 and 0 of a refusal.
+/// The figures are the code, the answers taken and the entries.
 pub fn start(
     table: &[u8],
     answers: &[u8],
@@ -110,7 +112,7 @@ pub fn start(
     instant(bavzhrono_start, table, answers, state, emissions, answer)
 }
 
-/// The answer is as for [`start`].
+/// The figures are as for [`start`].
 pub fn resume(
     table: &[u8],
     answers: &[u8],
@@ -121,7 +123,7 @@ pub fn resume(
     instant(bavzhrono_resume, table, answers, state, emissions, answer)
 }
 
-/// The answer is the length of the text, 0 and 0; all 0 if the text does not fit.
+/// The figures are the length of the text, 0 and 0. Whatever the table, the only refusal is 3.
 pub fn render(table: &[u8], text: &mut [u8], answer: &mut [u64]) -> u32 {
     // SAFETY: each pointer is followed by the length of its own slice.
     unsafe {

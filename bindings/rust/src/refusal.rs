@@ -40,19 +40,22 @@ impl Refusal {
         }
     }
 
-    /// The figures of a call, which writes them to the answer and returns a number.
+    /// The figures of a call, which writes them to the answer if it returns 0.
     ///
     /// The archive is for x86-64, so a u64 fits in a usize.
     pub(crate) fn or_figures(call: impl FnOnce(&mut [u64]) -> u32) -> Result<[usize; 3], Refusal> {
         let mut answer = [0; 3];
-        let number = call(&mut answer);
-        let figures = answer.map(|figure| figure as usize);
-        match number {
-            0 => Ok(figures),
-            _ => Err(Refusal {
-                number,
-                node: figures[0],
-            }),
+        match call(&mut answer) {
+            0 => Ok(answer.map(|figure| figure as usize)),
+            returned => Err(Refusal::of(returned)),
+        }
+    }
+
+    /// The refusal that is returned as number + 256 * node.
+    fn of(returned: u32) -> Refusal {
+        Refusal {
+            number: returned % 256,
+            node: (returned / 256) as usize,
         }
     }
 

@@ -30,6 +30,7 @@ fn check_2_the_table_is_empty_or_odd() {
 fn check_4_a_kind_is_unknown() {
     assert_refused(&[0, 0], 4, 0);
     assert_refused(&[2, 0, 12, 0], 4, 1);
+    assert_refused(&last_kind_unknown(), 4, 1023);
 }
 
 #[test]
@@ -50,6 +51,7 @@ fn check_7_a_statement_is_left() {
 #[test]
 fn check_8_a_node_is_too_deep() {
     assert_refused(&around([2, 0], [5, 0], 256), 8, 0);
+    assert_refused(&right_sequences(256), 8, 255);
 }
 
 #[test]
@@ -65,6 +67,7 @@ fn check_10_an_exit_without_its_trap() {
 #[test]
 fn check_11_a_body_that_ends_at_once() {
     assert_refused(W2, 11, 1);
+    assert_refused(&full_table_of_nothing(), 11, 1023);
 }
 
 #[test]

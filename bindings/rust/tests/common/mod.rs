@@ -3,7 +3,9 @@
 #![allow(dead_code)] // each test file uses a part of this
 
 use bavzhrono::{analyse, render, resume, start};
-use bavzhrono::{Analysis, Closed, CodeSet, Completion, Mark, Refusal, MAX_TEXT, SIGNALS};
+use bavzhrono::{
+    Analysis, Closed, CodeSet, Completion, Mark, Refusal, MAX_NODES, MAX_TEXT, SIGNALS,
+};
 
 pub const W1: &[u8] = &[2, 0, 3, 7, 9, 0, 8, 0];
 pub const W2: &[u8] = &[1, 0, 8, 0];
@@ -99,6 +101,11 @@ pub fn assert_refused(table: &[u8], number: u32, node: usize) {
     );
 }
 
+/// Sequences whose second is a sequence, with a pause as the first of each and at the end.
+pub fn right_sequences(sequences: usize) -> Vec<u8> {
+    [[2, 0].repeat(sequences + 1), [9, 0].repeat(sequences)].concat()
+}
+
 /// The leaf with the given node after it so many times.
 pub fn around(leaf: [u8; 2], node: [u8; 2], times: usize) -> Vec<u8> {
     [leaf.to_vec(), node.repeat(times)].concat()
@@ -106,7 +113,23 @@ pub fn around(leaf: [u8; 2], node: [u8; 2], times: usize) -> Vec<u8> {
 
 /// 2,048 bytes: a loop around sequences of sequences, down to 512 pauses.
 pub fn full_table() -> Vec<u8> {
-    let mut table = vec![2, 0];
+    full_table_of([2, 0])
+}
+
+/// As the full table, but its body ends at once: refused by 11 at the last node.
+pub fn full_table_of_nothing() -> Vec<u8> {
+    full_table_of([1, 0])
+}
+
+/// As the full table, but with an unknown kind for the loop: refused by 4 at the last node.
+pub fn last_kind_unknown() -> Vec<u8> {
+    let mut table = full_table();
+    table[2 * MAX_NODES - 2] = 12;
+    table
+}
+
+fn full_table_of(leaf: [u8; 2]) -> Vec<u8> {
+    let mut table = leaf.to_vec();
     for _ in 0..9 {
         table = [&table[..], &table[..], &[9, 0]].concat();
     }

@@ -1,0 +1,157 @@
+//! The functions as they are: what is returned, and every entry of every buffer, the answer's too.
+
+mod common;
+
+use bavzhrono::{raw, MAX_NODES, MAX_TEXT, SIGNALS};
+use common::*;
+
+const FILL_NUMBER: u64 = FILL_SET.0;
+
+/// One buffer for each that a function can write to.
+#[derive(Clone, Debug, PartialEq)]
+struct Lent {
+    start_sets: Vec<u64>,
+    any_sets: Vec<u64>,
+    contexts: Vec<u64>,
+    marks: Vec<u8>,
+    state: Vec<u8>,
+    emissions: Vec<u8>,
+    text: Vec<u8>,
+    answer: Vec<u64>,
+}
+
+impl Lent {
+    /// Filled buffers that suffice for any table, with an answer of so many entries.
+    fn with_answer(entries: usize) -> Lent {
+        Lent {
+            start_sets: vec![FILL_NUMBER; MAX_NODES],
+            any_sets: vec![FILL_NUMBER; MAX_NODES],
+            contexts: vec![FILL_NUMBER; MAX_NODES],
+            marks: vec![FILL; MAX_NODES],
+            state: vec![FILL; MAX_NODES],
+            emissions: vec![FILL; SIGNALS],
+            text: vec![FILL; MAX_TEXT],
+            answer: vec![FILL_NUMBER; entries],
+        }
+    }
+
+    fn analyse(&mut self, table: &[u8]) -> u32 {
+        raw::analyse(
+            table,
+            &mut self.start_sets,
+            &mut self.any_sets,
+            &mut self.contexts,
+            &mut self.marks,
+            &mut self.answer,
+        )
+    }
+
+    fn start(&mut self, table: &[u8]) -> u32 {
+        let (state, emissions) = (&mut self.state, &mut self.emissions);
+        raw::start(table, &[], state, emissions, &mut self.answer)
+    }
+
+    fn resume(&mut self, table: &[u8]) -> u32 {
+        let (state, emissions) = (&mut self.state, &mut self.emissions);
+        raw::resume(table, &[], state, emissions, &mut self.answer)
+    }
+
+    fn render(&mut self, table: &[u8]) -> u32 {
+        raw::render(table, &mut self.text, &mut self.answer)
+    }
+}
+
+type Function = fn(&mut Lent, &[u8]) -> u32;
+
+/// The functions that make the table's checks.
+const CHECKING: [Function; 3] = [Lent::analyse, Lent::start, Lent::resume];
+
+fn assert_unchanged(before: Lent, function: Function, table: &[u8], expected: u32) {
+    let mut lent = before.clone();
+    assert_eq!(function(&mut lent, table), expected);
+    assert!(
+        lent == before,
+        "{expected} is returned, and a buffer has changed"
+    );
+}
+
+/// A table for each number that refuses one, with the node.
+fn refused_tables() -> Vec<(Vec<u8>, u32, u32)> {
+    vec![
+        (vec![12; 2050], 1, 0),
+        (vec![], 2, 0),
+        (vec![2, 0, 8], 2, 0),
+        (vec![2, 0, 12, 0], 4, 1),
+        (last_kind_unknown(), 4, 1023),
+        (vec![2, 0, 8, 1], 5, 1),
+        (vec![2, 0, 9, 0], 6, 1),
+        (vec![2, 0, 2, 0], 7, 0),
+        (right_sequences(256), 8, 255),
+        (around([2, 0], [11, 0], 33), 9, 1),
+        (vec![2, 0, 4, 0, 9, 0], 10, 1),
+        (W8.to_vec(), 11, 7),
+        (full_table_of_nothing(), 11, 1023),
+    ]
+}
+
+#[test]
+fn a_refusal_is_number_and_node_and_leaves_the_answer() {
+    for (table, number, node) in refused_tables() {
+        for entries in [3, 4, 8] {
+            for function in CHECKING {
+                let lent = Lent::with_answer(entries);
+                assert_unchanged(lent, function, &table, number + 256 * node);
+            }
+        }
+    }
+}
+
+#[test]
+fn refusals_3_12_and_13_name_no_node_and_leave_the_answer() {
+    let mut short = Lent::with_answer(3);
+    (short.marks, short.state, short.text) = (vec![FILL; 3], vec![FILL; 3], vec![FILL; 3]);
+    for function in CHECKING {
+        assert_unchanged(short.clone(), function, W1, 3);
+    }
+    assert_unchanged(short.clone(), Lent::render, W1, 3);
+    assert_unchanged(short, Lent::render, W2, 3);
+
+    let present = [3, 5, 2, 0, 6, 1];
+    assert_unchanged(Lent::with_answer(3), Lent::resume, &present, 12);
+    assert_unchanged(Lent::with_answer(3), Lent::start, &present, 13);
+}
+
+#[test]
+fn a_short_answer_is_refused_by_3_after_1_and_2() {
+    let mut tables = refused_tables();
+    tables.push((W1.to_vec(), 0, 0));
+    for (table, number, _) in tables {
+        let expected = if matches!(number, 1 | 2) { number } else { 3 };
+        for entries in 0..3 {
+            for function in CHECKING {
+                assert_unchanged(Lent::with_answer(entries), function, &table, expected);
+            }
+            assert_unchanged(Lent::with_answer(entries), Lent::render, &table, 3);
+        }
+    }
+}
+
+#[test]
+fn three_entries_of_the_answer_are_written_and_no_more() {
+    for entries in [3, 4, 8] {
+        let mut lent = Lent::with_answer(entries);
+        assert_figures(&mut lent, Lent::analyse, W1, [4, 1, 0]);
+        assert_figures(&mut lent, Lent::start, W1, [1, 0, 3]);
+        assert_figures(&mut lent, Lent::resume, W1, [1, 0, 6]);
+        assert_figures(&mut lent, Lent::render, W1, [W1_LISTING.len() as u64, 0, 0]);
+        assert_figures(&mut lent, Lent::render, W2, [13, 0, 0]);
+    }
+}
+
+fn assert_figures(lent: &mut Lent, function: Function, table: &[u8], figures: [u64; 3]) {
+    lent.answer.fill(FILL_NUMBER);
+    let mut expected = lent.answer.clone();
+    expected[..3].copy_from_slice(&figures);
+    assert_eq!(function(lent, table), 0);
+    assert_eq!(lent.answer, expected);
+}
