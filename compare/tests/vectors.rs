@@ -1,4 +1,4 @@
-//! The vector files, where they are at hand.
+//! The vector files.
 
 use std::path::PathBuf;
 
@@ -6,22 +6,27 @@ use compare::support::cases::Call;
 use compare::support::vectors::{directory, read_instants, read_listings};
 use compare::{listing, resume_with_trail, start_with_trail};
 
-/// The file, or none with a note if it is not there.
-fn vector_file(name: &str) -> Option<PathBuf> {
+/// A test without its file fails, so that none passes unseen.
+fn vector_file(name: &str) -> PathBuf {
     let file = directory().join(name);
-    if !file.exists() {
-        println!("skipped: there is no {}", file.display());
-        return None;
-    }
-    Some(file)
+    assert!(
+        file.is_file(),
+        "there is no {}: set BAVZHRONO_VECTORS to the directory of the vector files",
+        file.display()
+    );
+    file
+}
+
+#[test]
+#[should_panic(expected = "no such file: set BAVZHRONO_VECTORS")]
+fn a_missing_file_is_a_failure() {
+    vector_file("no such file");
 }
 
 #[test]
 fn listings() {
-    let Some(file) = vector_file("listing_open.jsonl") else {
-        return;
-    };
-    let vectors = read_listings(&file);
+    let vectors = read_listings(&vector_file("listing_open.jsonl"));
+    assert!(!vectors.is_empty());
     for (line, vector) in vectors.iter().enumerate() {
         assert_eq!(listing(&vector.table), vector.listing, "line {}", line + 1);
     }
@@ -30,10 +35,8 @@ fn listings() {
 
 #[test]
 fn instants() {
-    let Some(file) = vector_file("instants_open.jsonl") else {
-        return;
-    };
-    let vectors = read_instants(&file);
+    let vectors = read_instants(&vector_file("instants_open.jsonl"));
+    assert!(!vectors.is_empty());
     for (line, vector) in vectors.iter().enumerate() {
         let call = match vector.call {
             Call::Start => start_with_trail,
