@@ -1,72 +1,134 @@
-//! The calls in the archive's form: numbers returned and figures of the answer.
+//! The calls in the archive's form: what is returned, and the answer.
 
 use compare::support::calls::COMPARE;
-use compare::support::edges::{W1, W8};
+use compare::support::edges::{edges, W1, W2, W8};
 
-#[test]
-fn figures_of_an_accepted_table() {
-    let mut answer = [9; 4];
-    let (mut start_sets, mut any_sets, mut contexts) = ([9; 4], [9; 4], [9; 4]);
-    let mut marks = [9; 4];
-    let returned = (COMPARE.analyse)(
-        W1,
-        &mut start_sets,
-        &mut any_sets,
-        &mut contexts,
-        &mut marks,
-        &mut answer,
-    );
-    assert_eq!((returned, answer), (0, [4, 1, 0, 9]));
-    assert_eq!(start_sets, [2, 1, 2, 2]);
-    assert_eq!(any_sets, [3, 1, 3, 2]);
-    assert_eq!(contexts, [1, 0, 1, 0]);
-    assert_eq!(marks, [1, 0, 1, 0]);
+/// What stands in every lent entry before a call.
+const FILL: u8 = 9;
 
-    let mut state = [9; 4];
-    let returned = (COMPARE.start)(W1, &[], &mut state, &mut [0; 256], &mut answer);
-    assert_eq!((returned, answer), (0, [1, 0, 3, 9]));
-    let returned = (COMPARE.resume)(W1, &[], &mut state, &mut [0; 256], &mut answer);
-    assert_eq!((returned, answer), (0, [1, 0, 6, 9]));
+/// All buffers that a call can write to.
+#[derive(Clone, Debug, PartialEq)]
+struct Lent {
+    sets: [Vec<u64>; 3],
+    marks: Vec<u8>,
+    state: Vec<u8>,
+    emissions: Vec<u8>,
+    text: Vec<u8>,
+    answer: Vec<u64>,
+}
+
+impl Lent {
+    fn new(table: &[u8], answer_length: usize) -> Lent {
+        let nodes = table.len() / 2;
+        Lent {
+            sets: [(); 3].map(|_| vec![u64::from(FILL); nodes]),
+            marks: vec![FILL; nodes],
+            state: vec![FILL; nodes],
+            emissions: vec![FILL; 256],
+            text: vec![FILL; 90],
+            answer: vec![u64::from(FILL); answer_length],
+        }
+    }
+
+    fn analyse(&mut self, table: &[u8]) -> u32 {
+        let [start_sets, any_sets, contexts] = &mut self.sets;
+        let (marks, answer) = (&mut self.marks, &mut self.answer);
+        (COMPARE.analyse)(table, start_sets, any_sets, contexts, marks, answer)
+    }
+
+    fn start(&mut self, table: &[u8]) -> u32 {
+        let (state, emissions) = (&mut self.state, &mut self.emissions);
+        (COMPARE.start)(table, &[], state, emissions, &mut self.answer)
+    }
+
+    fn resume(&mut self, table: &[u8]) -> u32 {
+        let (state, emissions) = (&mut self.state, &mut self.emissions);
+        (COMPARE.resume)(table, &[], state, emissions, &mut self.answer)
+    }
+
+    fn render(&mut self, table: &[u8]) -> u32 {
+        (COMPARE.render)(table, &mut self.text, &mut self.answer)
+    }
+
+    /// What analyse, start and resume return.
+    fn judge(&mut self, table: &[u8]) -> [u32; 3] {
+        [self.analyse(table), self.start(table), self.resume(table)]
+    }
 }
 
 #[test]
-fn figures_of_a_refusal() {
-    let mut answer = [9; 3];
-    let mut state = [9; 8];
-    let returned = (COMPARE.start)(W8, &[], &mut state, &mut [0; 256], &mut answer);
-    assert_eq!((returned, answer, state), (11, [7, 0, 0], [9; 8]));
+fn figures_of_an_accepted_table() {
+    let mut lent = Lent::new(W1, 4);
+    assert_eq!(lent.analyse(W1), 0);
+    assert_eq!(lent.answer, [4, 1, 0, 9]);
+    let sets = [[2, 1, 2, 2], [3, 1, 3, 2], [1, 0, 1, 0]];
+    assert_eq!(lent.sets, sets);
+    assert_eq!(lent.marks, [1, 0, 1, 0]);
+
+    assert_eq!(lent.start(W1), 0);
+    assert_eq!(lent.answer, [1, 0, 3, 9]);
+    assert_eq!(lent.resume(W1), 0);
+    assert_eq!(lent.answer, [1, 0, 6, 9]);
+}
+
+#[test]
+fn a_refusal_is_its_number_and_node_and_changes_nothing() {
+    for edge in edges() {
+        let Some(refusal) = edge.refusal else {
+            continue;
+        };
+        let before = Lent::new(&edge.table, 4);
+        let mut lent = before.clone();
+        let expected = refusal.number + 256 * refusal.node as u32;
+        assert_eq!(lent.judge(&edge.table), [expected; 3], "{}", edge.name);
+        assert_eq!(lent, before, "{}", edge.name);
+    }
+}
+
+#[test]
+fn instants_are_refused_without_a_node() {
+    let present = [2, 0, 2, 0, 6, 0];
+    let before = Lent::new(&present, 3);
+    let mut lent = before.clone();
+    assert_eq!((lent.start(&present), lent.resume(&present)), (13, 12));
+    assert_eq!(lent, before);
 }
 
 #[test]
 fn a_text_is_the_listing_or_the_refusal() {
-    let mut answer = [9; 3];
-    let mut text = [b'#'; 14];
-    let returned = (COMPARE.render)(W8, &mut text, &mut answer);
-    assert_eq!((returned, answer), (0, [13, 0, 0]));
-    assert_eq!(&text, b"refused 11 7\n#");
+    let mut lent = Lent::new(W8, 4);
+    lent.text.truncate(14);
+    assert_eq!(lent.render(W8), 0);
+    assert_eq!(lent.answer, [13, 0, 0, 9]);
+    assert_eq!(lent.text, [&b"refused 11 7\n"[..], &[FILL]].concat());
 
-    let returned = (COMPARE.render)(W8, &mut text[..12], &mut answer);
-    assert_eq!((returned, answer), (3, [0, 0, 0]));
-    let returned = (COMPARE.render)(W1, &mut text, &mut answer);
-    assert_eq!((returned, answer), (3, [0, 0, 0]));
-    assert_eq!(&text, b"refused 11 7\n#");
+    let before = lent.clone();
+    assert_eq!(lent.render(W1), 3);
+    assert_eq!(lent, before);
+    lent.text.truncate(12);
+    let before = lent.clone();
+    assert_eq!(lent.render(W8), 3);
+    assert_eq!(lent, before);
 }
 
 #[test]
-fn a_short_answer_buffer_is_refused_before_all_else() {
+fn a_short_answer_is_refused_by_3_in_its_place() {
     let too_long = [2; 2050];
-    for length in 0..3 {
-        let mut answer = vec![9; length];
-        let mut text = [9; 90];
-        let mut state = [9; 4];
-        let returned = [
-            (COMPARE.analyse)(&too_long, &mut [], &mut [], &mut [], &mut [], &mut answer),
-            (COMPARE.start)(W1, &[], &mut state, &mut [9; 256], &mut answer),
-            (COMPARE.resume)(&[], &[], &mut state, &mut [9; 256], &mut answer),
-            (COMPARE.render)(W1, &mut text, &mut answer),
-        ];
-        assert_eq!(returned, [3; 4]);
-        assert_eq!(answer, vec![9; length]);
-        assert_eq!((state, text), ([9; 4], [9; 90]));
+    let cases: [(&[u8], u32); 6] = [
+        (&too_long, 1),
+        (&[], 2),
+        (&[2, 0, 8], 2),
+        (&[12, 0], 3),
+        (W1, 3),
+        (W2, 3),
+    ];
+    for answer_length in 0..3 {
+        for (table, expected) in cases {
+            let before = Lent::new(table, answer_length);
+            let mut lent = before.clone();
+            assert_eq!(lent.judge(table), [expected; 3]);
+            assert_eq!(lent.render(table), 3);
+            assert_eq!(lent, before);
+        }
     }
 }

@@ -87,7 +87,7 @@ impl Case {
         format!("{}/{}/{}", self.call.name(), self.shape, self.nodes)
     }
 
-    /// Makes the call once, and hands back the number returned.
+    /// Makes the call once, and hands back what it returns.
     pub fn run(&mut self, calls: &Calls) -> u32 {
         let table = black_box(&self.table[..]);
         let instant = match self.call {

@@ -1,8 +1,9 @@
-//! The calls in the form that the archive `libabi.a` has them: the number that
-//! is returned is 0 or the refusal's, and the answer is three figures in a
-//! lent buffer. In this form one program can run either implementation.
+//! The calls in the form that the archive `libabi.a` has them. Returned is 0, or
+//! number + 256 * node of a refusal. After 0 the answer is three figures at the
+//! front of a lent buffer; a refusal changes no buffer. In this form one program
+//! can run either implementation.
 
-use crate::{Closed, Refusal};
+use crate::{table, Closed, Refusal};
 
 /// Table, start sets, any-instant sets, contexts, marks, answer.
 pub type Analyse = fn(&[u8], &mut [u64], &mut [u64], &mut [u64], &mut [u8], &mut [u64]) -> u32;
@@ -38,9 +39,11 @@ fn analyse(
     marks: &mut [u8],
     answer: &mut [u64],
 ) -> u32 {
-    tell(answer, || {
+    returned(|| {
+        let front = front_after_length(table, answer)?;
         let (nodes, loops) = crate::analyse(table, start_sets, any_sets, contexts, marks)?;
-        Ok([nodes as u64, loops as u64, 0])
+        *front = [nodes as u64, loops as u64, 0];
+        Ok(())
     })
 }
 
@@ -51,8 +54,10 @@ fn start(
     emissions: &mut [u8],
     answer: &mut [u64],
 ) -> u32 {
-    tell(answer, || {
-        Ok(figures(crate::start(table, answers, state, emissions)?))
+    returned(|| {
+        let front = front_after_length(table, answer)?;
+        *front = figures(crate::start(table, answers, state, emissions)?);
+        Ok(())
     })
 }
 
@@ -63,19 +68,23 @@ fn resume(
     emissions: &mut [u8],
     answer: &mut [u64],
 ) -> u32 {
-    tell(answer, || {
-        Ok(figures(crate::resume(table, answers, state, emissions)?))
+    returned(|| {
+        let front = front_after_length(table, answer)?;
+        *front = figures(crate::resume(table, answers, state, emissions)?);
+        Ok(())
     })
 }
 
-/// A refused table has its line as the text; only a text buffer that is too
-/// short is refused.
+/// A refused table has its line as the text; only a buffer that is too short is
+/// refused.
 fn render(table: &[u8], text: &mut [u8], answer: &mut [u64]) -> u32 {
-    tell(answer, || {
+    returned(|| {
+        let front = front(answer)?;
         let listing = crate::listing(table);
-        let front = text.get_mut(..listing.len()).ok_or(Refusal::whole(3))?;
-        front.copy_from_slice(listing.as_bytes());
-        Ok([listing.len() as u64, 0, 0])
+        let lines = text.get_mut(..listing.len()).ok_or(Refusal::whole(3))?;
+        lines.copy_from_slice(listing.as_bytes());
+        *front = [listing.len() as u64, 0, 0];
+        Ok(())
     })
 }
 
@@ -87,19 +96,23 @@ fn figures(closed: Closed) -> [u64; FIGURES] {
     ]
 }
 
-/// The answer buffer is measured before the call is made.
-fn tell(answer: &mut [u64], call: impl FnOnce() -> Result<[u64; FIGURES], Refusal>) -> u32 {
-    let Some(front) = answer.first_chunk_mut() else {
-        return 3;
-    };
+/// The place of the figures. An answer without it is too short, by check 3.
+fn front(answer: &mut [u64]) -> Result<&mut [u64; FIGURES], Refusal> {
+    answer.first_chunk_mut().ok_or(Refusal::whole(3))
+}
+
+/// Check 3 comes after checks 1 and 2 of the table.
+fn front_after_length<'a>(
+    table: &[u8],
+    answer: &'a mut [u64],
+) -> Result<&'a mut [u64; FIGURES], Refusal> {
+    table::measure(table)?;
+    front(answer)
+}
+
+fn returned(call: impl FnOnce() -> Result<(), Refusal>) -> u32 {
     match call() {
-        Ok(figures) => {
-            *front = figures;
-            0
-        }
-        Err(refusal) => {
-            *front = [refusal.node as u64, 0, 0];
-            refusal.number
-        }
+        Ok(()) => 0,
+        Err(Refusal { number, node }) => number + 256 * node as u32,
     }
 }
