@@ -30,20 +30,22 @@ impl Tally {
         }
     }
 
-    /// Makes the call on both sides. If all agrees, hands back the number that
-    /// both returned.
+    /// Makes the call on both sides. If all agrees, hands back what both
+    /// returned.
     pub fn compare(&mut self, trial: &impl Trial) -> Result<u32, Difference> {
         let mut ours = trial.clone();
         let mut theirs = trial.clone();
-        let our_number = ours.call(&self.ours);
-        let their_number = theirs.call(&COMPARE);
+        let our_return = ours.call(&self.ours);
+        let their_return = theirs.call(&COMPARE);
         self.comparisons += 1;
-        if our_number == their_number && ours == theirs {
-            return Ok(our_number);
+        if our_return == their_return && ours == theirs {
+            return Ok(our_return);
         }
         let mut report = format!(
-            "difference in {}: ours returns {our_number}, compare {their_number}\n",
-            trial.name()
+            "difference in {}: ours returns {}, compare {}\n",
+            trial.name(),
+            meaning(our_return),
+            meaning(their_return)
         );
         let sides = ours.buffers().into_iter().zip(theirs.buffers());
         for ((name, before), ((_, ours), (_, theirs))) in trial.buffers().into_iter().zip(sides) {
@@ -51,6 +53,11 @@ impl Tally {
         }
         Err(Difference(report))
     }
+}
+
+/// A returned value, and the number and node in it.
+fn meaning(returned: u32) -> String {
+    format!("{returned} ({} at node {})", returned % 256, returned / 256)
 }
 
 /// A buffer before the call, and after it where it was written.

@@ -2,14 +2,25 @@
 
 use compare::support::calls::{Calls, COMPARE};
 use compare::support::cases::Call;
-use compare::support::edges::{W1, W2};
-use differential::guarded::Guarded;
-use differential::tally::Tally;
+use compare::support::edges::{W1, W2, W8};
+use compare::support::random::Random;
+use compare::support::SEED;
+use compare::{sets, table};
+use differential::groups::refusals;
+use differential::tally::{Difference, Tally};
 use differential::trials::{Analysis, Instant, Rendering, Trial};
 
 fn assert_noticed(wrong: Calls, trial: &impl Trial) {
     assert!(Tally::new(COMPARE).compare(trial).is_ok());
     assert!(Tally::new(wrong).compare(trial).is_err());
+}
+
+type Run = fn(&mut Tally, &mut Random) -> Result<(), Difference>;
+
+fn assert_noticed_by(group: Run, wrong: Calls) {
+    let run = |calls| group(&mut Tally::new(calls), &mut Random::new(SEED));
+    assert!(run(COMPARE).is_ok());
+    assert!(run(wrong).is_err());
 }
 
 #[test]
@@ -28,10 +39,7 @@ fn a_changed_figure() {
 #[test]
 fn another_number() {
     let wrong = Calls {
-        start: |_, _, _, _, answer| {
-            answer[..3].fill(0);
-            12
-        },
+        start: |_, _, _, _, _| 12,
         ..COMPARE
     };
     let present = [2, 0, 2, 0, 6, 0];
@@ -52,29 +60,184 @@ fn a_mark_written_past_the_nodes() {
 }
 
 #[test]
-fn a_fourth_figure() {
-    let wrong = Calls {
-        render: |table, text, answer| {
-            let returned = (COMPARE.render)(table, text, answer);
-            answer[3] = 0;
-            returned
-        },
-        ..COMPARE
-    };
-    let mut trial = Rendering::new(W2, 13);
-    trial.answer = Guarded::untouched(4);
-    assert_noticed(wrong, &trial);
-}
-
-#[test]
-fn a_refusal_that_changes_a_buffer() {
+fn start_sets_written_before_check_11() {
     let wrong = Calls {
         analyse: |table, start_sets, any_sets, contexts, marks, answer| {
             let returned = (COMPARE.analyse)(table, start_sets, any_sets, contexts, marks, answer);
-            start_sets[0] = 1;
+            if returned % 256 == 11 {
+                let tree = table::read(table).expect("checks 1 to 10 are passed");
+                sets::fill_start_sets(&tree, start_sets);
+            }
             returned
         },
         ..COMPARE
     };
     assert_noticed(wrong, &Analysis::new(W2));
+    assert_noticed(wrong, &Analysis::with_lengths(W8, [9; 4]));
+    assert_noticed_by(refusals::check_11, wrong);
+}
+
+/// A wrong way to answer any of the calls.
+trait Telling {
+    fn tell(answer: &mut [u64], call: impl FnOnce(&mut [u64]) -> u32) -> u32;
+}
+
+fn told_by<T: Telling>() -> Calls {
+    Calls {
+        analyse: |table, start_sets, any_sets, contexts, marks, answer| {
+            T::tell(answer, |answer| {
+                (COMPARE.analyse)(table, start_sets, any_sets, contexts, marks, answer)
+            })
+        },
+        start: |table, answers, state, emissions, answer| {
+            T::tell(answer, |answer| {
+                (COMPARE.start)(table, answers, state, emissions, answer)
+            })
+        },
+        resume: |table, answers, state, emissions, answer| {
+            T::tell(answer, |answer| {
+                (COMPARE.resume)(table, answers, state, emissions, answer)
+            })
+        },
+        render: |table, text, answer| {
+            T::tell(answer, |answer| (COMPARE.render)(table, text, answer))
+        },
+    }
+}
+
+#[test]
+fn a_fourth_figure() {
+    struct Fourth;
+    impl Telling for Fourth {
+        fn tell(answer: &mut [u64], call: impl FnOnce(&mut [u64]) -> u32) -> u32 {
+            let returned = call(answer);
+            answer[3] = 0;
+            returned
+        }
+    }
+    let wrong = told_by::<Fourth>();
+    assert_noticed(wrong, &Analysis::new(W1).with_answer(4));
+    assert_noticed(wrong, &Rendering::new(W2, 13).with_answer(4));
+}
+
+#[test]
+fn an_answer_written_on_a_refusal() {
+    struct Written;
+    impl Telling for Written {
+        fn tell(answer: &mut [u64], call: impl FnOnce(&mut [u64]) -> u32) -> u32 {
+            let returned = call(answer);
+            if returned != 0 && answer.len() >= 3 {
+                answer[..3].copy_from_slice(&[u64::from(returned / 256), 0, 0]);
+            }
+            returned
+        }
+    }
+    let wrong = told_by::<Written>();
+    assert_noticed(wrong, &Analysis::new(W2));
+    assert_noticed(wrong, &Analysis::with_lengths(W1, [4, 4, 4, 3]));
+    assert_noticed(wrong, &Instant::new(Call::Start, W2, &[], &[9; 2]));
+    assert_noticed(wrong, &Instant::new(Call::Resume, W1, &[], &[0; 4]));
+    assert_noticed(wrong, &Rendering::new(W2, 12));
+    assert_noticed_by(refusals::edges, wrong);
+}
+
+#[test]
+fn a_node_that_is_lost() {
+    struct Lost;
+    impl Telling for Lost {
+        fn tell(answer: &mut [u64], call: impl FnOnce(&mut [u64]) -> u32) -> u32 {
+            call(answer) % 256
+        }
+    }
+    let wrong = told_by::<Lost>();
+    assert_noticed(wrong, &Analysis::new(W8));
+    assert_noticed(wrong, &Instant::new(Call::Start, W8, &[], &[9; 8]));
+    assert_noticed(wrong, &Instant::new(Call::Resume, W8, &[], &[9; 8]));
+    assert_noticed_by(refusals::edges, wrong);
+}
+
+#[test]
+fn number_and_node_exchanged() {
+    struct Exchanged;
+    impl Telling for Exchanged {
+        fn tell(answer: &mut [u64], call: impl FnOnce(&mut [u64]) -> u32) -> u32 {
+            let returned = call(answer);
+            returned / 256 + 256 * (returned % 256)
+        }
+    }
+    let wrong = told_by::<Exchanged>();
+    assert_noticed(wrong, &Analysis::new(&[]));
+    assert_noticed(wrong, &Rendering::new(W2, 12));
+    assert_noticed_by(refusals::edges, wrong);
+}
+
+#[test]
+fn a_short_answer_refused_before_1_and_2() {
+    struct First;
+    impl Telling for First {
+        fn tell(answer: &mut [u64], call: impl FnOnce(&mut [u64]) -> u32) -> u32 {
+            if answer.len() < 3 {
+                return 3;
+            }
+            call(answer)
+        }
+    }
+    let wrong = told_by::<First>();
+    assert_noticed(wrong, &Analysis::new(&[2; 2050]).with_answer(0));
+    assert_noticed(wrong, &Analysis::new(&[]).with_answer(2));
+    for call in [Call::Start, Call::Resume] {
+        assert_noticed(
+            wrong,
+            &Instant::new(call, &[2; 2050], &[], &[]).with_answer(2),
+        );
+        assert_noticed(
+            wrong,
+            &Instant::new(call, &[2, 0, 8], &[], &[1]).with_answer(1),
+        );
+    }
+    assert_noticed_by(refusals::edges, wrong);
+}
+
+#[test]
+fn a_short_answer_refused_after_all_other_checks() {
+    struct Last;
+    impl Telling for Last {
+        fn tell(answer: &mut [u64], call: impl FnOnce(&mut [u64]) -> u32) -> u32 {
+            if answer.len() >= 3 {
+                return call(answer);
+            }
+            match call(&mut [0; 3]) {
+                0 => 3,
+                refused => refused,
+            }
+        }
+    }
+    let wrong = told_by::<Last>();
+    assert_noticed(wrong, &Analysis::new(W2).with_answer(2));
+    assert_noticed(
+        wrong,
+        &Instant::new(Call::Resume, W1, &[], &[0; 4]).with_answer(2),
+    );
+    assert_noticed_by(refusals::edges, wrong);
+}
+
+#[test]
+fn a_short_answer_that_is_accepted() {
+    struct Accepted;
+    impl Telling for Accepted {
+        fn tell(answer: &mut [u64], call: impl FnOnce(&mut [u64]) -> u32) -> u32 {
+            if answer.len() >= 3 {
+                return call(answer);
+            }
+            call(&mut [0; 3])
+        }
+    }
+    let wrong = told_by::<Accepted>();
+    assert_noticed(wrong, &Analysis::new(W1).with_answer(2));
+    assert_noticed(
+        wrong,
+        &Instant::new(Call::Start, W1, &[], &[9; 4]).with_answer(0),
+    );
+    assert_noticed(wrong, &Rendering::new(W2, 13).with_answer(1));
+    assert_noticed_by(refusals::edges, wrong);
 }

@@ -6,9 +6,8 @@ use compare::support::families;
 use compare::support::programs::{accepted, SHAPES};
 use compare::support::random::Random;
 
-use crate::guarded::Guarded;
 use crate::tally::{Difference, Tally};
-use crate::trials::{Analysis, Instant, Rendering};
+use crate::trials::{Analysis, Instant, Rendering, Trial};
 
 /// In a text of this length any listing fits.
 const ANY_LISTING: usize = 67_584;
@@ -26,10 +25,9 @@ pub fn run(tally: &mut Tally, random: &mut Random) -> Result<(), Difference> {
         renderings(tally, &table)?;
     }
     for (at, case) in families::lengths(random, 1800).iter().enumerate() {
-        let mut trial = Instant::of(case);
+        let trial = Instant::of(case);
         tally.compare(&trial)?;
-        trial.answer = Guarded::untouched(at % 8);
-        tally.compare(&trial)?;
+        tally.compare(&trial.with_answer(at % 8))?;
     }
     Ok(())
 }
@@ -47,9 +45,7 @@ fn analyses(tally: &mut Tally, random: &mut Random, table: &[u8]) -> Result<(), 
     }
     for answer_length in 0..6 {
         let lengths = std::array::from_fn(|_| *random.pick(&others));
-        let mut trial = Analysis::with_lengths(table, lengths);
-        trial.answer = Guarded::untouched(answer_length);
-        tally.compare(&trial)?;
+        tally.compare(&Analysis::with_lengths(table, lengths).with_answer(answer_length))?;
     }
     Ok(())
 }
@@ -61,9 +57,7 @@ fn renderings(tally: &mut Tally, table: &[u8]) -> Result<(), Difference> {
     }
     for answer_length in 0..6 {
         for text_length in [exact - 1, exact + 1] {
-            let mut trial = Rendering::new(table, text_length);
-            trial.answer = Guarded::untouched(answer_length);
-            tally.compare(&trial)?;
+            tally.compare(&Rendering::new(table, text_length).with_answer(answer_length))?;
         }
     }
     Ok(())

@@ -9,6 +9,7 @@ use crate::trials::Instant;
 mod exhaustive;
 mod instants;
 mod lengths;
+pub mod refusals;
 mod tables;
 
 pub struct Group {
@@ -18,7 +19,7 @@ pub struct Group {
     pub random: bool,
 }
 
-pub const GROUPS: [Group; 12] = [
+pub const GROUPS: [Group; 15] = [
     Group {
         name: "Table W and the edges of document 01",
         run: tables::edges,
@@ -77,6 +78,21 @@ pub const GROUPS: [Group; 12] = [
     Group {
         name: "lengths of buffers",
         run: lengths::run,
+        random: true,
+    },
+    Group {
+        name: "answers of 0 to 8 entries: Table W and the edges of document 01",
+        run: refusals::edges,
+        random: false,
+    },
+    Group {
+        name: "answers of 0 to 8 entries: damaged tables, refused instants",
+        run: refusals::damaged,
+        random: true,
+    },
+    Group {
+        name: "refused by check 11, when the start sets are known",
+        run: refusals::check_11,
         random: true,
     },
 ];

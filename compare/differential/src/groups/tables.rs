@@ -12,7 +12,7 @@ use crate::tally::{Difference, Tally};
 use crate::trials::{Analysis, Rendering};
 
 /// Tables that `bad_table` numbers for each check in turn.
-const BAD_NUMBERS: usize = 190;
+pub const BAD_NUMBERS: usize = 190;
 
 pub fn edges(tally: &mut Tally, random: &mut Random) -> Result<(), Difference> {
     for edge in edge_tables() {
