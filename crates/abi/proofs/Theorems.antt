@@ -1,8 +1,8 @@
 -- Demand 1 of the exported functions: each contract by what was told.
-use mathlib.Core.Path.{_≡_, refl, sym, ap, _∙_}
+use mathlib.Core.Path.{_≡_, refl, sym, _∙_}
 use mathlib.Core.Bool.{Bool, true, false, _||_, cond}
 use mathlib.Core.List.{List, [], _∷_, _++_}
-use Prim.Native.Nat.{ℕ, _+_, _*_, _/_, _%_, _≤_, _<_}
+use Prim.Native.Nat.{ℕ, _+_, _*_, _%_, _≤_, _<_}
 use native.Mathlib.Decide.{decLt}
 use native.Mathlib.Omega.{arith}
 use lib.Dec.{eqb, leb, ltb}
@@ -25,7 +25,7 @@ use Rattle.instant.proofs.Theorems.{demand3OfCalls}
 use Rattle.listing.specs.Rendering.{Rendering}
 use Rattle.listing.specs.declared.Rendered.{Rendered}
 use Rattle.listing.specs.declared.Rendered.the-variants.{Whole, TooShort}
-use Rattle.abi.specs.Exported.{returned, answerAfter, Tells, tellAnalysed, tellReaction, tellRendered, shortAnswer, Exported}
+use Rattle.abi.specs.Exported.{returned, answerAfter, tellAnalysed, tellReaction, tellRendered, shortAnswer, Exported}
 use Rattle.abi.specs.Theorems.{Ran, Demand1OfExports}
 use Rattle.abi.specs.declared.Told.{Told}
 use Rattle.abi.specs.declared.Told.the-variants.{Figures, Refusal}

@@ -10,7 +10,7 @@ use lib.ListN.{length, getD, take, drop, List·getD-append}
 use lib.Seq.{drop-at, getD-take}
 use Rattle.codes.specs.Codes.{empty, word}
 use Rattle.codes.proofs.Bools.{left, right}
-use Rattle.esterel.specs.Statement.{Stmt, size, nodes, loopDepth}
+use Rattle.esterel.specs.Statement.{Stmt, size, loopDepth}
 use Rattle.esterel.specs.Sets.{Place, at, placesOf, mark}
 use Rattle.esterel.specs.Table.{Verdict, passed, refused, scan}
 use Rattle.esterel.specs.Checks.{checkProgram, Line, lineOf, listing}

@@ -1,27 +1,27 @@
 -- The children's contexts on words, and the walk from the last node to the first that fills in the contexts and the marks.
 use mathlib.Core.Path.{_≡_, refl, sym, ap, ap₂, subst, _∙_}
-use mathlib.Core.Bool.{Bool, true, false, cond, _||_, or-false}
-use mathlib.Core.List.{List, [], _∷_, _++_, map}
+use mathlib.Core.Bool.{Bool, true, false, cond, or-false}
+use mathlib.Core.List.{List, [], _∷_, map}
 use Prim.Native.Nat.{ℕ, zero, suc, _+_, _-_, _*_, _≤_, _<_}
 use native.Mathlib.Numerals.{add-one}
 use native.Mathlib.Omega.{arith}
-use lib.Dec.{ltb, eqb, eqb·zero-suc, nltb→le}
-use lib.ListN.{length, getD, set, drop, length-append, length-map, length-set}
+use lib.Dec.{ltb, eqb·zero-suc, nltb→le}
+use lib.ListN.{length, getD, set, length-append, length-map, length-set}
 use lib.Seq.{getD-set-same, getD-set-other}
-use Rattle.codes.specs.Codes.{Codes, empty, only, union, given, withoutEnded, meets, underTrap, underParallel, bit, word}
-use Rattle.codes.specs.Words.{singletonOf, unionOf, withoutEndedOf, meetsOf}
+use Rattle.codes.specs.Codes.{Codes, empty, only, union, given, withoutEnded, meets, bit, word}
+use Rattle.codes.specs.Words.{meetsOf}
 use Rattle.codes.proofs.Bools.{toNot}
 use Rattle.codes.proofs.Laws.{singleton-word, union-word, without-ended-word, meets-word, under-trap-word, under-parallel-word, given-word, word-same}
 use Rattle.esterel.specs.Limits.{maxNodes, maxDepth}
-use Rattle.esterel.specs.Statement.{Leaf, nothing, pause, emit, exit, Unary, signal, suspend, loop, trap, Binary, present, sequence, parallel, Stmt, leaf, one, two, kind, size, nodes, trapsUnder}
+use Rattle.esterel.specs.Statement.{nothing, Unary, signal, suspend, loop, trap, Binary, present, sequence, parallel, Stmt, leaf, one, two, kind, size, nodes, trapsUnder}
 use Rattle.esterel.specs.Sets.{startSet, anyInstantSet, Place, at, placesOf, under, underFirst, underLeft, underRight, mark}
 use Rattle.esterel.specs.Checks.{tooDeep}
 use Rattle.esterel.specs.Outcome.{statementAt}
-use Rattle.esterel.proofs.Accepted.{exits-caught, stmtOf, length-places}
-use Rattle.esterel.proofs.Caught.{Caught, caught-places, trapsOf}
+use Rattle.esterel.proofs.Accepted.{exits-caught, length-places}
+use Rattle.esterel.proofs.Caught.{Caught, caught-places}
 use Rattle.esterel.proofs.Every.{every-at}
 use Rattle.esterel.proofs.Sizes.{size-pos}
-use Rattle.esterel.proofs.Subtrees.{only-child, two-children}
+use Rattle.esterel.proofs.Subtrees.{two-children}
 use Rattle.table.specs.Kinds.{kindOf, arityOf}
 use Rattle.table.specs.Program.{programOf, Readable}
 use Rattle.table.specs.Check.{placesCheck}
@@ -32,7 +32,7 @@ use Rattle.table.proofs.Buffers.{back, back-none, back-pred, length-back, back-
 use Rattle.table.proofs.Said.{childrenOf, said, count-below}
 use Rattle.table.proofs.Surveying.{few-nodes}
 use Rattle.table.proofs.View.{kind-byte, table-length}
-use Rattle.table.proofs.Walk.{Waiting, Walk, Next, program, begin, next, ended, descend, children, onlyChild, firstChild, secondChild, placeOf, placesIn}
+use Rattle.table.proofs.Walk.{Waiting, Walk, Next, program, begin, next, descend, children, onlyChild, firstChild, secondChild, placeOf, placesIn}
 use Rattle.analysis.specs.Steps.{setOfStmt, underFirstOf, underSecondOf, leftOf, rightOf}
 use Rattle.analysis.specs.Steps.{trapsOf as trapsOfKind}
 use Rattle.analysis.specs.Passes.{FilledTo, onto, placeAt, firstEnds, contextWord, contextsOf, marksOf}

@@ -4,7 +4,7 @@ use mathlib.Core.Logic.{_↔_}
 use mathlib.Core.Bool.{Bool, true, false}
 use mathlib.Core.Option.{Option, none, some}
 use mathlib.Core.List.{List, []}
-use Prim.Native.Nat.{ℕ, suc, _-_, _/_, _≤_, _<_}
+use Prim.Native.Nat.{ℕ, suc, _-_, _/_, _<_}
 use native.Mathlib.Decide.{decLt}
 use native.Mathlib.Omega.{arith}
 use borrow.Author.Tests.{le-leb}
@@ -15,23 +15,20 @@ use Rattle.codes.proofs.Bools.{both}
 use Rattle.codes.proofs.Bits.{∋-past}
 use Rattle.codes.proofs.Laws.{word-lt, ∋-word}
 use Rattle.codes.proofs.Members.{only-out}
-use Rattle.esterel.specs.Limits.{maxNodes}
 use Rattle.esterel.specs.Statement.{Stmt, size, nodes, loopDepth}
 use Rattle.esterel.specs.Sets.{startSet}
-use Rattle.esterel.specs.Table.{Verdict, passed, refused, scan, checkLength}
-use Rattle.esterel.specs.Checks.{endsAtOnce, firstNode, refuseAt, checkProgram, verdict}
+use Rattle.esterel.specs.Table.{Verdict, passed, refused, scan}
+use Rattle.esterel.specs.Checks.{endsAtOnce, firstNode, refuseAt, verdict}
 use Rattle.esterel.specs.Sets.{placesOf}
 use Rattle.esterel.specs.Outcome.{statementAt}
-use Rattle.esterel.specs.Theorems.{WellFormed, EndedInK, EndsAtOnce, LowestLoop, NoLoop}
 use Rattle.esterel.proofs.Reading.{length-postfix, reads-only, length-passed}
 use Rattle.esterel.proofs.Accepted.{acceptance, passes}
 use Rattle.esterel.proofs.Caught.{codes-few}
 use Rattle.esterel.proofs.LoopCheck.{decides}
-use Rattle.esterel.proofs.Refusals.{Numbered, Told, refuses, told-numbered, length-told, program-told, length-first}
+use Rattle.esterel.proofs.Refusals.{Told, refuses, told-numbered, length-told, program-told, length-first}
 use Rattle.esterel.proofs.Theorems.{exactness, loopCheck}
-use Rattle.analysis.specs.Steps.{setOfStmt}
 use Rattle.analysis.specs.Passes.{FilledTo, wordsOf, onto}
-use Rattle.analysis.specs.Analysis.{checkRoom, checked, roomFor, verdictFor, answerOf, kOf, aOf, sOf, markOf, column, Analysis}
+use Rattle.analysis.specs.Analysis.{checked, roomFor, verdictFor, answerOf, kOf, aOf, sOf, markOf, column, Analysis}
 use Rattle.analysis.specs.Theorems.{Lent, ByLoops, ExactSets, Unchanged, Demand2OfCall}
 use Rattle.analysis.specs.declared.Analysed.{Analysed}
 use Rattle.analysis.specs.declared.Analysed.the-variants.{Done, Refused}

@@ -1,6 +1,6 @@
 -- The operations of this crate on 64-bit numbers: each does to the sets what the operation of `Codes` does. The codes are those below 64.
 use Prim.Native.Nat.{ℕ, zero, suc, _/_, _%_, _^_, max}
-use mathlib.Core.Bool.{Bool, true, false, _&&_, cond}
+use mathlib.Core.Bool.{Bool, _&&_, cond}
 use lib.Dec.{eqb, leb}
 use Rattle.codes.specs.Codes.{Codes, only, union, withoutEnded, larger, caught, meets, underTrap, underParallel, word}
 use Rattle.codes.specs.declared.Found.{Found}

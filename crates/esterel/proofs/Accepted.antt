@@ -2,13 +2,13 @@
 use mathlib.Core.Path.{_≡_, refl, sym, ap, _∙_}
 use mathlib.Core.Bool.{Bool, true, false, cond}
 use mathlib.Core.Option.{Option, some}
-use mathlib.Core.List.{List, [], _∷_, _++_, map, map-append}
-use Prim.Native.Nat.{ℕ, zero, suc, _+_, _≤_, _<_}
+use mathlib.Core.List.{List, [], _∷_, map, map-append}
+use Prim.Native.Nat.{ℕ, suc}
 use native.Mathlib.Omega.{arith}
 use lib.Dec.{leb, nleb→lt}
 use lib.ListN.{length, getD, length-map, List·getD-map}
 use Rattle.codes.proofs.Bools.{toNot}
-use Rattle.esterel.specs.Statement.{Leaf, nothing, pause, emit, exit, Unary, loop, Binary, Stmt, leaf, one, two, size, nodes, trapsUnder}
+use Rattle.esterel.specs.Statement.{nothing, pause, emit, exit, loop, Stmt, leaf, one, two, size, nodes, trapsUnder}
 use Rattle.esterel.specs.Codes.{Codes, empty}
 use Rattle.esterel.specs.Sets.{startSet, Place, at, places, placesOf, under, underLeft, underRight}
 use Rattle.esterel.specs.Table.{Verdict, passed, refused, read, postfix}

@@ -4,18 +4,18 @@ use mathlib.Core.Logic.{_↔_}
 use mathlib.Core.Bool.{Bool, true, false, cond}
 use mathlib.Core.Option.{Option, none, some}
 use mathlib.Core.List.{List, [], _∷_}
-use Prim.Native.Nat.{ℕ, zero, suc, _+_, _-_, _≤_, _<_}
+use Prim.Native.Nat.{ℕ, zero, suc, _+_, _-_, _<_}
 use native.Mathlib.Decide.{decLt}
 use native.Mathlib.Omega.{arith}
 use lib.ListN.{length, getD, List·getD-map, List·getD-eq-default}
-use Rattle.esterel.specs.Statement.{nothing, signal, suspend, loop, trap, Stmt, leaf, one, two, size, nodes}
+use Rattle.esterel.specs.Statement.{nothing, signal, suspend, loop, trap, Stmt, leaf, one, two, nodes}
 use Rattle.esterel.specs.Codes.{empty}
 use Rattle.esterel.specs.Sets.{startSet, Place, at, placesOf}
-use Rattle.esterel.specs.Table.{Verdict, passed, refused}
-use Rattle.esterel.specs.Checks.{tooDeep, tooManyTraps, uncaught, endsAtOnce, firstNode, refuseAt, checkProgram, verdict}
+use Rattle.esterel.specs.Table.{passed, refused}
+use Rattle.esterel.specs.Checks.{endsAtOnce, firstNode, refuseAt, checkProgram, verdict}
 use Rattle.esterel.specs.Outcome.{statementAt}
 use Rattle.esterel.specs.Theorems.{WellFormed, EndedInK, LowestLoop, NoLoop}
-use Rattle.esterel.proofs.Accepted.{stmtOf, statements, length-places}
+use Rattle.esterel.proofs.Accepted.{stmtOf, statements}
 
 abbrev pub outside : Place
 outside = at 0 0 empty (leaf nothing)

@@ -9,11 +9,11 @@ use lib.ListN.{length}
 use lib.Dec.{eqb, ltb}
 use borrow.Author.Tests.{ltb-false}
 use Rattle.esterel.specs.Limits.{maxNodes}
-use Rattle.esterel.specs.Statement.{Stmt, size}
+use Rattle.esterel.specs.Statement.{Stmt}
 use Rattle.esterel.specs.Codes.{empty}
 use Rattle.esterel.specs.Sets.{Place, placesOf}
-use Rattle.esterel.specs.Table.{Node, takes0, takes1, takes2, faulty, plain, kinds, nodeOf, Step, goOn, fault, push, Verdict, passed, refused, step, scan, checkLength, read}
-use Rattle.esterel.specs.Checks.{tooDeep, tooManyTraps, uncaught, endsAtOnce, firstNode, refuseAt, checkPlaces, checkProgram, verdict}
+use Rattle.esterel.specs.Table.{Node, takes0, takes1, takes2, faulty, plain, kinds, nodeOf, Step, goOn, fault, push, Verdict, passed, refused, step, scan, checkLength}
+use Rattle.esterel.specs.Checks.{tooDeep, tooManyTraps, uncaught, endsAtOnce, firstNode, refuseAt, checkPlaces, checkProgram}
 use Rattle.esterel.specs.Theorems.{Refusals}
 use Rattle.esterel.proofs.Every.{Every, also, every-at}
 use Rattle.esterel.proofs.Every as every

@@ -1,8 +1,8 @@
 -- The theorems of specs/Theorems.antt.
-use mathlib.Core.Path.{_≡_, refl, sym, ap, _∙_}
-use mathlib.Core.Bool.{Bool, true, false}
+use mathlib.Core.Path.{_≡_, refl, ap, _∙_}
+use mathlib.Core.Bool.{true}
 use mathlib.Core.List.{List, [], _∷_, _++_, append-assoc}
-use Prim.Native.Nat.{ℕ, zero, suc, _+_, _≤_, _<_}
+use Prim.Native.Nat.{ℕ, _+_, _≤_, _<_}
 use native.Mathlib.Nat.{le-trans}
 use native.Mathlib.Decide.{decLt}
 use native.Mathlib.Omega.{arith}
@@ -10,17 +10,17 @@ use lib.ListN.{length, drop, replicate, length-append, length-replicate}
 use Rattle.esterel.specs.Statement.{nothing, Stmt, leaf, size, nodes}
 use Rattle.esterel.specs.Sets.{startSet}
 use Rattle.esterel.specs.Checks.{planned}
-use Rattle.esterel.specs.Instant.{Entry, Result, closed, starved, stuck, zeros, holds, start, resume, admitted}
-use Rattle.esterel.specs.Outcome.{statementAt, taken}
-use Rattle.esterel.specs.Theorems.{Reading, Exactness, EndedInK, EndsAtOnce, LoopCheck, Decides, LeftOver, Accepted, Closed, Closes, Demand3, NeedsMore, Starving}
+use Rattle.esterel.specs.Instant.{Entry, Result, closed, starved, stuck, zeros, start, resume, admitted}
+use Rattle.esterel.specs.Outcome.{taken}
+use Rattle.esterel.specs.Theorems.{Reading, Exactness, EndedInK, EndsAtOnce, LoopCheck, Decides, LeftOver, Accepted, Closes, Demand3, NeedsMore, Starving}
 use Rattle.esterel.proofs.Sizes.{load, size-load, load-planned, load-bound}
 use Rattle.esterel.proofs.Held.{Fits, fits-length, none-zeros}
 use Rattle.esterel.proofs.Nodes.{Part, sits, sits-own}
-use Rattle.esterel.proofs.Run.{Run, ran, asked, noRule, Ran, weaken}
+use Rattle.esterel.proofs.Run.{Run, ran, asked, noRule, weaken}
 use Rattle.esterel.proofs.Start.{In, start-run}
 use Rattle.esterel.proofs.Low.{Low, start-low}
 use Rattle.esterel.proofs.Resume.{resume-run}
-use Rattle.esterel.proofs.Answers.{Reaches, reach, start-decides, resume-decides}
+use Rattle.esterel.proofs.Answers.{reach, start-decides, resume-decides}
 use Rattle.esterel.proofs.Admitted.{admitted-holds, admitted-fits, admits}
 use Rattle.esterel.proofs.Reading.{reads-only, reads-back}
 use Rattle.esterel.proofs.Accepted.{ends-not, exits-in}

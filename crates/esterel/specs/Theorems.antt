@@ -1,15 +1,15 @@
 -- What is proved of the definitions: the statements alone. The proofs are in proofs/Theorems.antt.
 use mathlib.Core.Path.{_≡_}
 use mathlib.Core.Logic.{_↔_}
-use mathlib.Core.Bool.{Bool, true, false}
+use mathlib.Core.Bool.{true}
 use mathlib.Core.Option.{none}
 use mathlib.Core.List.{List, [], _∷_, _++_, map}
 use Prim.Native.Nat.{ℕ, suc, _+_, _-_, _*_, _≤_, _<_}
 use lib.ListN.{length, getD}
 use Rattle.esterel.specs.Limits.{maxNodes}
-use Rattle.esterel.specs.Statement.{Unary, loop, Binary, Stmt, leaf, one, two, kind, field, size, nodes, loopsAround}
+use Rattle.esterel.specs.Statement.{Unary, loop, Binary, Stmt, one, two, kind, field, size, nodes, loopsAround}
 use Rattle.esterel.specs.Sets.{startSet, placesOf}
-use Rattle.esterel.specs.Table.{Verdict, passed, refused, read, postfix}
+use Rattle.esterel.specs.Table.{passed, refused, read, postfix}
 use Rattle.esterel.specs.Checks.{tooDeep, tooManyTraps, uncaught, firstNode, checkPlaces, verdict, planned}
 use Rattle.esterel.specs.Instant.{Entry, Result, closed, starved, stuck, zeros, start, resume, admitted}
 use Rattle.esterel.specs.Outcome.{statementAt, taken, allIn, allGoOn}

@@ -1,7 +1,7 @@
 -- What a run over a program's last node makes of the call's buffers.
 use mathlib.Core.Path.{_≡_, refl, sym, ap, ap₂, subst, _∙_}
 use Rattle.codes.proofs.Bools.{left, right}
-use mathlib.Core.Bool.{true, false}
+use mathlib.Core.Bool.{true}
 use mathlib.Core.List.{List, _++_}
 use Prim.Native.Nat.{ℕ, zero, suc, _+_, _-_, _/_, _≤_, _<_}
 use native.Mathlib.Omega.{arith}
@@ -32,7 +32,6 @@ use Rattle.instant.specs.Run.{stmtAt, firstAt, bytesAt, Clear, Holding, 
 use Rattle.instant.specs.declared.Ran.{Ran}
 use Rattle.instant.specs.declared.Ran.the-variants.{Closed as ClosedRan}
 use Rattle.instant.specs.declared.Reaction.{Reaction}
-use Rattle.instant.specs.declared.Reaction.the-variants.{Refused}
 use Rattle.instant.specs.declared.Reaction.the-variants.{Closed as ClosedReaction}
 use Rattle.instant.specs.Admission.{Counted}
 use Rattle.instant.specs.Calls.{Call, closing, handed, Reacts, Ready, startCall, resumeCall, verdictFor, refusalOf}

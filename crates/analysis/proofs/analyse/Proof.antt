@@ -1,8 +1,8 @@
 -- `analysis::analyse` meets its contract: one law for each return.
 use borrow.Author.Needs.{needs}
 use native.Mathlib.Omega.{arith}
-use mathlib.Core.Path.{refl, sym, ap, _∙_}
-use Prim.Native.Nat.{ℕ, _/_}
+use mathlib.Core.Path.{refl, sym, _∙_}
+use Prim.Native.Nat.{_/_}
 use lib.ListN.{length}
 use denote.Ref.{now}
 use Rattle.analysis.proofs.Accepts.{well-sized}
