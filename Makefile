@@ -6,7 +6,9 @@
 TABLE = examples/w1.table
 run:
 	@echo "Proving and building the listing program; the first time this takes some minutes" >&2
-	@rt check list 2>&1 | awk '/^rt: / { print; fflush() } { said = said $$0 "\n"; last = $$0 } END { if (last !~ /^rt: ok/) { printf "%s", said; exit 1 } }' >&2
+	@rt check list 2>&1 | tee target-run.log | sed -un '/^rt: /p' >&2
+	@tail -n 1 target-run.log | grep -q '^rt: ok' || { cat target-run.log >&2; rm -f target-run.log; exit 1; }
+	@rm -f target-run.log
 	@target/bin/list < $(TABLE)
 
 # the gate: everything proved from nothing, every must-fail edit refused, every program's output compared, all formatted

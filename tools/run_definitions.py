@@ -136,7 +136,7 @@ REFUSED = {  # the number and the node, and tables that are refused so
     (4, 0): [[0, 0], [12, 1]], (4, 1): [[2, 0, 255, 255]], (5, 0): [[kind, 1] for kind in (1, 2, 8, 9, 10, 11)], (5, 1): [[3, 7, 1, 1]],
     (6, 0): [[9, 0], [9, 0, 12, 0], [5, 7]], (6, 1): [[2, 0, 9, 0]], (7, 0): [[2, 0, 2, 0]],
     # 8 to 11: the lowest node of all that fit, and each check covers the whole table before the next begins
-    (8, 0): [under(5, 256, PAUSE), under(5, 256, [1, 0, 8, 0])], (8, 1): [PAUSE + under(5, 256, PAUSE) + [10, 0]],
+    (8, 0): [under(5, 256, PAUSE), under(5, 256, [1, 0, 8, 0]), under(11, 256, PAUSE)], (8, 1): [PAUSE + under(5, 256, PAUSE) + [10, 0]],
     (9, 1): [under(11, 33, PAUSE), under(11, 34, PAUSE), under(11, 33, [4, 40]), under(11, 32, [4, 0]) + PAUSE + [9, 0, 11, 0]],
     (9, 2): [PAUSE + under(11, 33, PAUSE) + [10, 0]], (10, 0): [[4, 255], under(11, 32, [4, 32])],
     (10, 2): [[1, 0, 8, 0, 4, 0, 9, 0]], (11, 2): [[2, 0, 1, 0, 8, 0, 9, 0, 8, 0]],

@@ -24,8 +24,9 @@ is_expected() {
     [ -s "$out/expected" ] && cmp -s "$out/expected" "$out/written"
 }
 
+# Nothing is written, and the program says what it could not do.
 is_reported() {
-    ! [ -s "$out/written" ] && [ -s "$out/said" ]
+    ! [ -s "$out/written" ] && grep -q "$reason" "$out/said"
 }
 
 # A single read gets a single piece.
@@ -43,20 +44,28 @@ run() {
     program=$1 expected=$2
     shift 2
     for file in "$@"; do
+        rm -f "$out/expected"
         $expected < "$file" > "$out/expected"
-        timeout 60 "$program" < "$file" > "$out/written"
+        rm -f "$out/written"
+        timeout 60 "$program" < "$file" > "$out/written" || rm -f "$out/written"
         count "$program < $file" is_expected
         for size in 1 2 7; do
-            "$out/pieces" "$size" < "$file" | timeout 60 "$program" > "$out/written"
+            rm -f "$out/written"
+            "$out/pieces" "$size" < "$file" | timeout 60 "$program" > "$out/written" || rm -f "$out/written"
             count "$program < $file in pieces of $size" is_expected
         done
     done
 }
 
-# run_failing PROGRAM: a directory cannot be read, so the program writes nothing to standard output and says why.
+# run_failing PROGRAM FILE: a directory cannot be read, nor a full device written: the program says so, by its name.
 run_failing() {
+    reason="${1##*/}: standard input"
     timeout 60 "$1" < / > "$out/written" 2> "$out/said"
     count "$1 < / says that it cannot read" is_reported
+    : > "$out/written"
+    reason="${1##*/}: standard output"
+    timeout 60 "$1" < "$2" > /dev/full 2> "$out/said"
+    count "$1 > /dev/full says that it cannot write" is_reported
 }
 
 # node KIND FIELD: its two bytes.
@@ -97,7 +106,7 @@ gcc -Wall -Wextra -Werror -O1 tools/pieces.c -o "$out/pieces" &&
 count "a read gets a piece" is_in_pieces
 count "the longest table is accepted" is_accepted
 run target/bin/list "$others/list" examples/*.table "$out"/*.table
-run_failing target/bin/list
+run_failing target/bin/list examples/w1.table
 run target/bin/tables "cat crates/tables/stdout" crates/tables/stdin
 run target/bin/instants "cat crates/instants/stdout" crates/instants/stdin
 echo "$passed passed, $failed failed"

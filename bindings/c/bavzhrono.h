@@ -33,7 +33,8 @@
  *
  * After 0 the function's three values are in the first three entries of `answer`. After a refusal
  * no buffer has changed, `answer` among them. An `answer` of fewer than 3 entries is a buffer that
- * is too short, like any other: number 3, once checks 1 and 2 are passed.
+ * is too short, like any other: number 3, once checks 1 and 2 are passed, which bavzhrono_render
+ * does not make.
  *
  *     number  refused if                                                        names a node
  *          1  the table has more than 2,048 bytes (1,024 nodes)                 no

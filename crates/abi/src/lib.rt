@@ -28,6 +28,7 @@ enum Told {
 // The entries of an answer.
 const FIGURES: usize = 3;
 
+// A number in the width that is returned; its range keeps the sum in `refusal` small.
 fn widened(number: u8) -> u32
     ensures { λ r. ⌜ (r ≡ number) × (r < 256) ⌝ }
 {

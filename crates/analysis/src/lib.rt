@@ -337,7 +337,7 @@ pub enum Analysed {
     Refused { number: u8, node: usize },
 }
 
-// The refusal that a check answers.
+// The refusal that a check answers. It is not asked of one that passed.
 fn refused(check: Check) -> Analysed
     ensures { λ r. ⌜ r ≡ refusalOf check ⌝ }
 {

@@ -1,5 +1,5 @@
 -- What reading standard input answers, and what it does to the lent buffer.
-use Prim.Native.Nat.{ℕ, _+_, _≤_, _<_}
+use Prim.Native.Nat.{ℕ, zero, suc, _+_, _-_, _^_, _≤_, _<_}
 use mathlib.Core.Path.{_≡_}
 use mathlib.Core.Bool.{Bool, false}
 use mathlib.Core.List.{List}
@@ -7,15 +7,30 @@ use lib.Dec.{eqb}
 use lib.ListN.{length, take}
 use Rattle.input.specs.declared.Input.{Input}
 use Rattle.input.specs.declared.Input.the-variants.{Bytes, Failed}
+use Rattle.input.specs.declared.Progress.{Progress}
+use Rattle.input.specs.declared.Progress.the-variants.{On, Over}
 
 -- no more bytes came than there was room for
 abbrev pub Within : Input → ℕ → Type 0
 Within (Bytes n) room = n ≤ room
 Within Failed room = Unit {0}
 
--- what a read into the room behind the buffer's first `done` bytes leaves of it: there is room, those bytes stay, and so does the length
-pub record ReadBehind (done : ℕ) (b b′ : List ℕ) : Type 0 where
+-- with those before them they can be counted
+abbrev pub Fits : ℕ → Input → Type 0
+Fits done (Bytes n) = done + n < 2 ^ 64
+Fits done Failed = Unit {0}
+
+-- what a read makes of the bytes done: behind those that came it goes on; where none came, the input has ended; a failed read fails
+abbrev pub stepOf : (done : ℕ) (piece : Input) → Progress
+stepOf done (Bytes zero) = Over (Bytes done)
+stepOf done (Bytes (suc n)) = On (done + suc n)
+stepOf done Failed = Over Failed
+
+-- what a read that answered `piece`, into the room behind the buffer's first `done` bytes, leaves of it: there was room, those bytes stay,
+-- and so does the length
+pub record ReadBehind (done : ℕ) (b b′ : List ℕ) (piece : Input) : Type 0 where
   pub room : done < length b
+  pub came : Within piece (length b - done)
   pub front : take done b′ ≡ take done b
   pub size : length b′ ≡ length b
 
@@ -23,12 +38,10 @@ pub record ReadBehind (done : ℕ) (b b′ : List ℕ) : Type 0 where
 pub data Reads : (done : ℕ) (b b′ : List ℕ) (r : Input) → Type 0 where
   -- the buffer is full
   full : {done : ℕ} {b : List ℕ} → done ≡ length b → Reads done b b (Bytes done)
-  -- a read delivers nothing: the input has ended
-  ends : {done : ℕ} {b b′ : List ℕ} → ReadBehind done b b′ → Reads done b b′ (Bytes done)
-  -- a read fails
-  fails : {done : ℕ} {b b′ : List ℕ} → ReadBehind done b b′ → Reads done b b′ Failed
-  -- a read delivers n bytes behind those of before, one at least, and reading goes on behind them
-  more : {done n : ℕ} {b c b′ : List ℕ} {r : Input} → 1 ≤ n → done + n ≤ length b → ReadBehind done b c → Reads (done + n) c b′ r → Reads done b b′ r
+  -- after a read it is over
+  over : {done : ℕ} {b b′ : List ℕ} {r : Input} (piece : Input) → ReadBehind done b b′ piece → stepOf done piece ≡ Over r → Reads done b b′ r
+  -- after a read it goes on
+  on : {done next : ℕ} {b c b′ : List ℕ} {r : Input} (piece : Input) → ReadBehind done b c piece → stepOf done piece ≡ On next → Reads next c b′ r → Reads done b b′ r
 
 -- whether the bytes that came fill a buffer of this length
 abbrev pub isFull : Input → ℕ → Bool

@@ -1,8 +1,9 @@
-// The one reader of standard input, for all programs. Its contracts say what becomes of the bytes that the system
-// delivers. Which those are no contract can say, since `libc::read`'s does not, so the gate runs the programs on inputs of
-// many lengths, whole and in pieces (tools/test_input.sh).
+// The one reader of standard input, for all programs. Its contracts say what is made of each read's answer; which bytes the
+// system delivers, and how many, no contract can say, since `libc::read`'s does not. So the gate runs the programs on inputs
+// of many lengths, whole and in pieces (tools/test_input.sh).
+ghost use mathlib.Core.Path.{_≡_};
 ghost use lib.ListN.{length};
-ghost use Rattle.input.specs.Reads.{Within, Reads, Fills};
+ghost use Rattle.input.specs.Reads.{Within, Fits, stepOf, Reads, Fills};
 
 // What came: how many bytes, or that a read failed.
 pub enum Input {
@@ -23,6 +24,29 @@ fn read_piece(room: &mut [u8]) -> Input
     }
 }
 
+// Where reading stands after a read: behind so many bytes, or it is over and answers this.
+enum Progress {
+    On { done: usize },
+    Over { input: Input },
+}
+
+// What a read makes of the bytes done: where none came, the input has ended.
+fn step(done: usize, piece: Input) -> Progress
+    requires { ⌜ Fits done piece ⌝ }
+    ensures { λ r. ⌜ r ≡ stepOf done piece ⌝ }
+{
+    let Input::Bytes { length } = piece else {
+        return Progress::Over { input: piece };
+    };
+    if length == 0 {
+        let input = Input::Bytes { length: done };
+        return Progress::Over { input };
+    }
+    Progress::On {
+        done: done + length,
+    }
+}
+
 // Reads until the buffer is full or the input ends, in as many pieces as it comes.
 pub fn read(buffer: &mut [u8]) -> Input
     ensures { λ r. ⌜ Reads 0 (now (buffer .entry)) (now (buffer .exit)) r ⌝ }
@@ -30,13 +54,15 @@ pub fn read(buffer: &mut [u8]) -> Input
     let mut done: usize = 0;
     while done < buffer.len() {
         let piece = read_piece(&mut buffer[done..]);
-        let Input::Bytes { length } = piece else {
-            return Input::Failed;
-        };
-        if length == 0 {
-            break;
+        let progress = step(done, piece);
+        match progress {
+            Progress::On { done: behind } => {
+                done = behind;
+            }
+            Progress::Over { input } => {
+                return input;
+            }
         }
-        done += length;
     }
     Input::Bytes { length: done }
 }

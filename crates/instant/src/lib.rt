@@ -37,7 +37,7 @@ pub enum Reaction {
     },
 }
 
-// The refusal that a check answers.
+// The refusal that a check answers. It is not asked of one that passed.
 fn refused(check: Check) -> Reaction
     ensures { λ r. ⌜ r ≡ refusalOf check ⌝ }
 {

@@ -3,12 +3,12 @@ use borrow.Author.Needs.{needs}
 use native.Mathlib.Omega.{arith}
 use borrow.Rule.Slice.PartMut.{putMid}
 use Prim.Native.Nat.{ℕ, _-_, _≤_}
-use mathlib.Core.Path.{_≡_}
+use mathlib.Core.Path.{_≡_, sym, _∙_}
 use mathlib.Core.List.{List}
 use lib.ListN.{length}
-use Rattle.input.specs.Reads.{ReadBehind, Reads, full, ends, fails, more}
+use Rattle.input.specs.Reads.{ReadBehind, Reads, full, over, on}
 use Rattle.input.specs.declared.Input.{Input}
-use Rattle.input.proofs.Reading.{behind}
+use Rattle.input.proofs.Reading.{on-within, within-of, counts, behind}
 use Rattle.input.proofs.read.Statement.{statement}
 use Rattle.input.proofs.read.Tie as tie
 
@@ -40,52 +40,45 @@ after c =
     let turn = c .before .before .before .before .before .loop in
     putMid (turn .done) (length (turn .buffer) - turn .done) (turn .buffer) (c .before .before .read-piece .last .0)
 
-read-is : (c : tie.After-slice-known2 Inv-loop μ-loop) → ReadBehind (c .before .before .before .before .before .loop .done) (c .before .before .before .before .before .loop .buffer) (after c)
+read-is : (c : tie.After-slice-known2 Inv-loop μ-loop) → ReadBehind (c .before .before .before .before .before .loop .done) (c .before .before .before .before .before .loop .buffer) (after c) (c .before .before .read-piece .result)
 read-is c =
-    behind _ _ (c .before .before .read-piece .last .0) (c .before .before .before .before .loop-test .taken) (c .before .buffer .given .1)
+    behind _ _ (c .before .before .read-piece .last .0) _ (c .before .before .before .before .loop-test .taken)
+    (within-of (length (c .before .before .before .before .before .loop .buffer) - c .before .before .before .before .before .loop .done) (c .before .before .read-piece .result) (λ n e. omega (arith, rw e at (c .before .before .read-piece .ensures), c .before .before .before .read-piece-arg .given))) (c .before .buffer .given .1)
 
--- the bytes that it delivered are no more than there was room for
-came : (c : tie.After-piece Inv-loop μ-loop) → c .piece .given .0 .0 ≤ length (c .before .before .before .before .before .before .before .loop .buffer) - c .before .before .before .before .before .before .before .loop .done
-came c =
-    omega (arith, rw (c .piece .given .1) at (c .before .before .before .before .read-piece .ensures), c .before .before .before .before .before .read-piece-arg .given)
+step-requires : tie.Need-step-requires Inv-loop μ-loop
+step-requires c κs =
+    counts (c .before .before .before .before .before .loop .done) (length (c .before .before .before .before .before .loop .buffer)) (c .before .before .read-piece .result) (read-is c .came) (omega arith) (omega arith)
 
-enum-known-piece : tie.Need-enum-known-piece Inv-loop μ-loop
-enum-known-piece c = search needs
+enum-known-progress : tie.Need-enum-known-progress Inv-loop μ-loop
+enum-known-progress c = search needs
 
-enum-told : tie.Need-enum-told Inv-loop μ-loop
-enum-told c = search needs
+loop-less : tie.Need-loop-less Inv-loop μ-loop
+loop-less c =
+    let is = read-is (c .before .before .before .before) in
+    let more = on-within (c .before .before .before .before .before .before .before .before .before .loop .done) (length (c .before .before .before .before .before .before .before .before .before .loop .buffer) - c .before .before .before .before .before .before .before .before .before .loop .done) (c .before .before .before .before .before .before .read-piece .result) (sym (c .before .before .before .step .ensures) ∙ c .before .progress .given .1) (is .came) in
+    omega (arith, more .0, more .1, is .room, is .size)
+
+loop-again : tie.Need-loop-again Inv-loop μ-loop
+loop-again c =
+    let is = read-is (c .before .before .before .before) in
+    let goes = sym (c .before .before .before .step .ensures) ∙ c .before .progress .given .1 in
+    let more = on-within (c .before .before .before .before .before .before .before .before .before .loop .done) (length (c .before .before .before .before .before .before .before .before .before .loop .buffer) - c .before .before .before .before .before .before .before .before .before .loop .done) (c .before .before .before .before .before .before .read-piece .result) goes (is .came) in
+    (omega (arith, more .1, is .room, is .size), omega (arith, is .size), λ b′ r reads. c .before .before .before .before .before .before .before .before .before .loop .inv .2 b′ r (on _ is goes reads))
+
+enum-known-progress-2 : tie.Need-enum-known-progress-2 Inv-loop μ-loop
+enum-known-progress-2 c = search needs
 
 same-length : tie.Need-same-length Inv-loop μ-loop
 same-length c = search needs
 
 returns : tie.Need-returns Inv-loop μ-loop
-returns c = c .before .before .before .before .before .before .before .loop .inv .2 _ _ (fails (read-is (c .before .before)))
-
-add-done : tie.Need-add-done Inv-loop μ-loop
-add-done c = omega (arith, came (c .before .before))
-
-loop-less : tie.Need-loop-less Inv-loop μ-loop
-loop-less c = omega (arith, came (c .before .before), read-is (c .before .before .before .before))
-
-loop-again : tie.Need-loop-again Inv-loop μ-loop
-loop-again c =
-    let is = read-is (c .before .before .before .before) in
-    let fits = came (c .before .before) in
-    let before = c .before .before .before .before .before .before .before .before .before .loop .inv .2 in
-    (omega arith, omega arith, λ b′ r reads. before b′ r (more (omega arith) (omega arith) is reads))
+returns c = c .before .before .before .before .before .before .before .before .before .loop .inv .2 _ _ (over _ (read-is (c .before .before .before .before)) (sym (c .before .before .before .step .ensures) ∙ c .before .progress2 .given .1))
 
 same-length-2 : tie.Need-same-length-2 Inv-loop μ-loop
 same-length-2 c = search needs
 
 returns-2 : tie.Need-returns-2 Inv-loop μ-loop
 returns-2 c = c .before .loop .inv .2 _ _ (full (omega arith))
-
-same-length-3 : tie.Need-same-length-3 Inv-loop μ-loop
-same-length-3 c = search needs
-
-returns-3 : tie.Need-returns-3 Inv-loop μ-loop
-returns-3 c =
-    c .before .before .before .before .before .before .before .before .before .loop .inv .2 _ _ (ends (read-is (c .before .before .before .before)))
 
 pub read-spec : {M : Type 1} → statement M
 read-spec =
@@ -98,14 +91,12 @@ read-spec =
     part-read-piece-start
     part-read-piece-end
     read-piece-requires
-    enum-known-piece
-    enum-told
-    same-length
-    returns
-    add-done
+    step-requires
+    enum-known-progress
     loop-less
     loop-again
+    enum-known-progress-2
+    same-length
+    returns
     same-length-2
-    returns-2
-    same-length-3
-    returns-3)
+    returns-2)
