@@ -32,14 +32,14 @@ three (x ∷ (y ∷ [])) a b c h = absurd (omega arith)
 three (x ∷ (y ∷ (z ∷ l))) a b c h = refl
 
 -- checks 1 and 2 name no node
-pub length-node : (t : List ℕ) (number node : ℕ) → lengthCheck t ≡ Refused number node → 0 ≡ node
+pub length-refusal : (t : List ℕ) (number node : ℕ) → lengthCheck t ≡ Refused number node → (1 ≤ number) × (number ≤ 2) × (0 ≡ node)
 unfolding lengthCheck
-length-node t number node = go (ltb (2 * maxNodes) (length t)) (eqb (length t) 0 || eqb (length t % 2) 1)
+length-refusal t number node = go (ltb (2 * maxNodes) (length t)) (eqb (length t) 0 || eqb (length t % 2) 1)
   where
-    go : (a b : Bool) → cond a (Refused 1 0) (cond b (Refused 2 0) Passed) ≡ Refused number node → 0 ≡ node
-    go true b e = cc
-    go false true e = cc
-    go false false e = cc
+    go : (a b : Bool) → cond a (Refused 1 0) (cond b (Refused 2 0) Passed) ≡ Refused number node → (1 ≤ number) × (number ≤ 2) × (0 ≡ node)
+    go true b e = let z : 1 ≡ number = cc in (omega arith, omega arith, cc)
+    go false true e = let z : 2 ≡ number = cc in (omega arith, omega arith, cc)
+    go false false e = let z : _≡_ {A = ℕ} 0 1 = cc in absurd (omega arith)
 
 -- the node of a refusal is one of a table's
 pub small-analysed : {t k a s m k′ a′ s′ m′ : List ℕ} (r : Analysed) → Analysis t k a s m k′ a′ s′ m′ r → Small (tellAnalysed r)
@@ -63,7 +63,7 @@ small-rendered (Whole n) = tt
 small-rendered TooShort = omega arith
 
 -- it changes no answer
-pub short-same : (before : Check) (answer : List ℕ) → answer ≡ answerAfter (shortAnswer before) answer
+short-same : (before : Check) (answer : List ℕ) → answer ≡ answerAfter (shortAnswer before) answer
 short-same Passed answer = refl
 short-same (Refused number node) answer = refl
 

@@ -1,13 +1,14 @@
 -- Demand 1 of the exported functions: each contract by what was told.
-use mathlib.Core.Path.{_≡_, refl, sym, _∙_}
-use mathlib.Core.Bool.{Bool, true, false, _||_, cond}
+use mathlib.Core.Path.{_≡_, refl, sym, ap, _∙_}
+use mathlib.Core.Bool.{Bool, true, false, cond}
 use mathlib.Core.List.{List, [], _∷_, _++_}
-use Prim.Native.Nat.{ℕ, _+_, _*_, _%_, _≤_, _<_}
+use Prim.Native.Nat.{ℕ, _+_, _≤_, _<_}
 use native.Mathlib.Decide.{decLt}
 use native.Mathlib.Omega.{arith}
-use lib.Dec.{eqb, leb, ltb}
+use lib.Dec.{leb}
 use lib.ListN.{length, drop}
 use Rattle.esterel.specs.Limits.{maxNodes}
+use Rattle.esterel.specs.Checks.{verdict}
 use Rattle.table.specs.Check.{lengthCheck}
 use Rattle.table.specs.declared.Check.{Check}
 use Rattle.table.specs.declared.Check.the-variants.{Passed, Refused}
@@ -21,124 +22,166 @@ use Rattle.instant.specs.Calls.{Starting, Resuming}
 use Rattle.instant.specs.declared.Reaction.{Reaction}
 use Rattle.instant.specs.declared.Reaction.the-variants.{Closed}
 use Rattle.instant.specs.declared.Reaction.the-variants.{Refused as RefusedCall}
+use Rattle.instant.specs.Theorems.{Unchanged}
 use Rattle.instant.proofs.Theorems.{demand3OfCalls}
+use Rattle.listing.specs.Text.{textOf}
 use Rattle.listing.specs.Rendering.{Rendering}
 use Rattle.listing.specs.declared.Rendered.{Rendered}
 use Rattle.listing.specs.declared.Rendered.the-variants.{Whole, TooShort}
-use Rattle.abi.specs.Exported.{returned, answerAfter, tellAnalysed, tellReaction, tellRendered, shortAnswer, Exported}
-use Rattle.abi.specs.Theorems.{Ran, Demand1OfExports}
+use Rattle.abi.specs.Exported.{returned, answerAfter, Tells, tellAnalysed, tellReaction, tellRendered, shortAnswer, Exported}
+use Rattle.abi.specs.Theorems.{Ran, IsRefused, Demand1OfExports}
 use Rattle.abi.specs.declared.Told.{Told}
-use Rattle.abi.specs.declared.Told.the-variants.{Figures, Refusal}
-use Rattle.abi.proofs.Telling.{short-same}
+use Rattle.abi.specs.declared.Told.the-variants.{Refusal}
+use Rattle.abi.proofs.Telling.{length-refusal}
 
 -- ---- what is told by the number returned
 
-refusal-same : (told : Told) (answer : List ℕ) → 0 < returned told → answerAfter told answer ≡ answer
-refusal-same (Figures a b c) answer h = absurd (omega arith)
-refusal-same (Refusal number node) answer h = refl
+-- a refusal of these checks, by number and node
+pub record Known (told : Told) : Type 0 where
+  pub number : ℕ
+  pub node : ℕ
+  pub is : told ≡ Refusal number node
+  pub some : 1 ≤ number
+  pub known : number ≤ 13
+  pub within : node < maxNodes
 
--- checks 1 to 3 have numbers
-short-number : (before : Check) → ((number node : ℕ) → before ≡ Refused number node → 1 ≤ number) → 0 < returned (shortAnswer before)
-short-number Passed h = omega arith
-short-number (Refused number node) h = omega (arith, h number node refl)
+-- checks 1 to 3 come to one
+short-known : (before : Check) → ((number node : ℕ) → before ≡ Refused number node → (1 ≤ number) × (number ≤ 2) × (0 ≡ node)) → Known (shortAnswer before)
+short-known Passed h = record { number = 3; node = 0; is = refl; some = omega arith; known = omega arith; within = omega arith }
+short-known (Refused number node) h =
+    let (some, known, none) = h number node refl in
+    record { number = number; node = node; is = refl; some = some; known = omega arith; within = omega arith }
 
-length-number : (t : List ℕ) (number node : ℕ) → lengthCheck t ≡ Refused number node → 1 ≤ number
-unfolding lengthCheck
-length-number t number node = go (ltb (2 * maxNodes) (length t)) (eqb (length t) 0 || eqb (length t % 2) 1)
-  where
-    go : (a b : Bool) → cond a (Refused 1 0) (cond b (Refused 2 0) Passed) ≡ Refused number node → 1 ≤ number
-    go true b e = let z : 1 ≡ number = cc in omega arith
-    go false true e = let z : 2 ≡ number = cc in omega arith
-    go false false e = let z : _≡_ {A = ℕ} 0 1 = cc in absurd (omega arith)
+module _ {A : Type 0} (before : Check) (Same : Type 0) (Call : A → Type 0) (tell : A → Told) (Refuses : ℕ → ℕ → Type 0) (answer answer′ : List ℕ) (first : Known (shortAnswer before)) where
+  -- a call that tells of a refusal is refused, and leaves its buffers the same
+  pub record Own (x : A) : Type 0 where
+    pub known : Known (tell x)
+    pub refuses : Refuses (known .number) (known .node)
+    pub same : Same
 
-module _ {A : Type 0} (before : Check) (Same : Type 0) (Call : A → Type 0) (tell : A → Told) (answer answer′ : List ℕ) where
-  -- a call that tells of a refusal leaves its buffers the same
-  refused-same : ((x : A) → Call x → 0 < returned (tell x) → Same) → (r : ℕ) → Exported before Same Call tell answer answer′ r → 0 < r → Same × (answer′ ≡ answer)
-  refused-same same r o h = go (decLt (length answer) 3)
+  is-refused : {r : ℕ} {told : Told} (k : Known told) → (3 ≤ length answer → Refuses (k .number) (k .node)) → (length answer < 3 → shortAnswer before ≡ told) → Tells told answer answer′ r → IsRefused before Refuses answer answer′ r
+  is-refused {r} k own short o =
+      record {
+        number = k .number;
+        node = k .node;
+        returns = o .returns ∙ ap returned (k .is);
+        some = k .some;
+        known = k .known;
+        within = k .within;
+        own = own;
+        short = λ l. short l ∙ k .is;
+        sameAnswer = o .answered ∙ ap (λ z. answerAfter z answer) (k .is);
+      }
+
+  refused-is : ((x : A) → Call x → 0 < returned (tell x) → Own x) → (r : ℕ) → Exported before Same Call tell answer answer′ r → 0 < r → Same × IsRefused before Refuses answer answer′ r
+  refused-is by r o h = go (decLt (length answer) 3)
     where
-      go : Dec (length answer < 3) → Same × (answer′ ≡ answer)
-      go (yes l) = let (s, told) = o .short l in (s, told .answered ∙ sym (short-same before answer))
+      go : Dec (length answer < 3) → Same × IsRefused before Refuses answer answer′ r
+      go (yes l) =
+          let (same, told) = o .short l in
+          (same, is-refused first (λ m. absurd (omega arith)) (λ _. refl) told)
       go (no l) =
           let (x, call, told) = o .whole (omega arith) in
-          let some : 0 < returned (tell x) = omega (arith, told .returns) in
-          (same x call some, told .answered ∙ refusal-same (tell x) answer some)
+          let own = by x call (omega (arith, told .returns)) in
+          (own .same, is-refused (own .known) (λ _. own .refuses) (λ m. absurd (omega arith)) told)
 
   -- after 0 the answer was long enough, and the call told of figures
-  done-told : 0 < returned (shortAnswer before) → Exported before Same Call tell answer answer′ 0 → (x : A) × Call x × (returned (tell x) ≡ 0) × (answer′ ≡ answerAfter (tell x) answer)
-  done-told h o = go (decLt (length answer) 3)
+  done-told : Exported before Same Call tell answer answer′ 0 → (x : A) × Call x × (returned (tell x) ≡ 0) × (answer′ ≡ answerAfter (tell x) answer)
+  done-told o = go (decLt (length answer) 3)
     where
       go : Dec (length answer < 3) → (x : A) × Call x × (returned (tell x) ≡ 0) × (answer′ ≡ answerAfter (tell x) answer)
-      go (yes l) = absurd (omega (arith, o .short l .1 .returns))
+      go (yes l) = absurd (omega (arith, o .short l .1 .returns, ap returned (first .is), first .some))
       go (no l) = let (x, call, told) = o .whole (omega arith) in (x, call, sym (told .returns), told .answered)
 
 -- ---- the functions
 
-module _ (t k a s m k′ a′ s′ m′ : List ℕ) where
-  analyse-same : (x : Analysed) → Analysis t k a s m k′ a′ s′ m′ x → 0 < returned (tellAnalysed x) → (k′ ≡ k) × (a′ ≡ a) × (s′ ≡ s) × (m′ ≡ m)
-  analyse-same (Done n d) o h = absurd (omega arith)
-  analyse-same (RefusedTable number node) o h =
-      let u = demand2OfCall .refusals t k a s m k′ a′ s′ m′ number node o in
-      (u .sameStarts, u .sameAnys, u .sameContexts, u .sameMarks)
+length-known : (t : List ℕ) → Known (shortAnswer (lengthCheck t))
+length-known t = short-known (lengthCheck t) (length-refusal t)
 
-  analyse-done : (answer : List ℕ) {answer′ : List ℕ} (x : Analysed) → Analysis t k a s m k′ a′ s′ m′ x → returned (tellAnalysed x) ≡ 0 → answer′ ≡ answerAfter (tellAnalysed x) answer → (n d : ℕ) × Analysis t k a s m k′ a′ s′ m′ (Done n d) × (answer′ ≡ onto (n ∷ d ∷ 0 ∷ []) answer)
-  analyse-done answer (Done n d) o z e = (n, d, o, e)
-  analyse-done answer (RefusedTable number node) o z e =
+none-known : Known (shortAnswer Passed)
+none-known = short-known Passed (λ number node e. (let z : _≡_ {A = ℕ} 0 1 = cc in absurd (omega arith)))
+
+module _ (t k a s m k′ a′ s′ m′ answer answer′ : List ℕ) where
+  analyse-own : (x : Analysed) → Analysis t k a s m k′ a′ s′ m′ x → 0 < returned (tellAnalysed x) → Own (lengthCheck t) ((k′ ≡ k) × (a′ ≡ a) × (s′ ≡ s) × (m′ ≡ m)) (Analysis t k a s m k′ a′ s′ m′) tellAnalysed (λ number node. Analysis t k a s m k′ a′ s′ m′ (RefusedTable number node)) answer answer′ (length-known t) x
+  analyse-own (Done n d) o h = absurd (omega arith)
+  analyse-own (RefusedTable number node) o h =
+      let u = demand2OfCall .refusals t k a s m k′ a′ s′ m′ number node o in
+      record {
+        known = record { number = number; node = node; is = refl; some = u .some; known = omega (arith, u .known); within = u .within };
+        refuses = o;
+        same = (u .sameStarts, u .sameAnys, u .sameContexts, u .sameMarks);
+      }
+
+  analyse-done : (x : Analysed) → Analysis t k a s m k′ a′ s′ m′ x → returned (tellAnalysed x) ≡ 0 → answer′ ≡ answerAfter (tellAnalysed x) answer → (n d : ℕ) × Analysis t k a s m k′ a′ s′ m′ (Done n d) × (answer′ ≡ onto (n ∷ d ∷ 0 ∷ []) answer)
+  analyse-done (Done n d) o z e = (n, d, o, e)
+  analyse-done (RefusedTable number node) o z e =
       absurd (omega (arith, demand2OfCall .refusals t k a s m k′ a′ s′ m′ number node o .some))
 
 -- either kind of instant, by what its refusals are
-module _ {Same : Type 0} (Call : Reaction → Type 0) (refusals : (number node : ℕ) → Call (RefusedCall number node) → Same × (1 ≤ number)) where
-  react-same : (x : Reaction) → Call x → 0 < returned (tellReaction x) → Same
-  react-same (Closed code taken entries) o h = absurd (omega arith)
-  react-same (RefusedCall number node) o h = refusals number node o .0
+module _ (t state emissions state′ emissions′ answer answer′ : List ℕ) (Call : Reaction → Type 0) (refusals : (number node : ℕ) → Call (RefusedCall number node) → Unchanged number node state emissions state′ emissions′) where
+  react-own : (x : Reaction) → Call x → 0 < returned (tellReaction x) → Own (lengthCheck t) ((state′ ≡ state) × (emissions′ ≡ emissions)) Call tellReaction (λ number node. Call (RefusedCall number node)) answer answer′ (length-known t) x
+  react-own (Closed code taken entries) o h = absurd (omega arith)
+  react-own (RefusedCall number node) o h =
+      let u = refusals number node o in
+      record {
+        known = record { number = number; node = node; is = refl; some = u .some; known = u .known; within = u .within };
+        refuses = o;
+        same = (u .sameState, u .sameEmissions);
+      }
 
-  react-done : (answer : List ℕ) {answer′ : List ℕ} (x : Reaction) → Call x → returned (tellReaction x) ≡ 0 → answer′ ≡ answerAfter (tellReaction x) answer → Ran Call answer answer′
-  react-done answer (Closed code taken entries) o z e = (code, taken, entries, o, e)
-  react-done answer (RefusedCall number node) o z e = absurd (omega (arith, refusals number node o .1))
+  react-done : (x : Reaction) → Call x → returned (tellReaction x) ≡ 0 → answer′ ≡ answerAfter (tellReaction x) answer → Ran Call answer answer′
+  react-done (Closed code taken entries) o z e = (code, taken, entries, o, e)
+  react-done (RefusedCall number node) o z e = absurd (omega (arith, refusals number node o .some))
 
-module _ (t answers state emissions state′ emissions′ : List ℕ) (number node : ℕ) where
-  start-refusals : Starting t answers state emissions state′ emissions′ (RefusedCall number node) → ((state′ ≡ state) × (emissions′ ≡ emissions)) × (1 ≤ number)
-  start-refusals o =
-      let u = demand3OfCalls .startRefusals t answers state emissions state′ emissions′ number node o in
-      ((u .sameState, u .sameEmissions), u .some)
+  react-refused : (r : ℕ) → Exported (lengthCheck t) ((state′ ≡ state) × (emissions′ ≡ emissions)) Call tellReaction answer answer′ r → 0 < r → ((state′ ≡ state) × (emissions′ ≡ emissions)) × IsRefused (lengthCheck t) (λ number node. Call (RefusedCall number node)) answer answer′ r
+  react-refused r o h = refused-is (lengthCheck t) _ Call tellReaction (λ number node. Call (RefusedCall number node)) answer answer′ (length-known t) react-own r o h
 
-  resume-refusals : Resuming t answers state emissions state′ emissions′ (RefusedCall number node) → ((state′ ≡ state) × (emissions′ ≡ emissions)) × (1 ≤ number)
-  resume-refusals o =
-      let u = demand3OfCalls .resumeRefusals t answers state emissions state′ emissions′ number node o in
-      ((u .sameState, u .sameEmissions), u .some)
+  react-ran : Exported (lengthCheck t) ((state′ ≡ state) × (emissions′ ≡ emissions)) Call tellReaction answer answer′ 0 → Ran Call answer answer′
+  react-ran o =
+      let (x, call, z, e) = done-told (lengthCheck t) _ Call tellReaction (λ number node. Call (RefusedCall number node)) answer answer′ (length-known t) o in
+      react-done x call z e
 
-render-same : {text old new : List ℕ} (x : Rendered) → Rendering text old new x → 0 < returned (tellRendered x) → new ≡ old
-render-same (Whole n) o h = absurd (omega arith)
-render-same {text} {old} {new} TooShort o h = go (leb (length text) (length old)) (o .answer) (o .content)
-  where
-    go : (b : Bool) → TooShort ≡ cond b (Whole (length text)) TooShort → new ≡ cond b (text ++ drop (length text) old) old → new ≡ old
-    go true e c = cc
-    go false e c = c
+module _ (text old new answer answer′ : List ℕ) where
+  too-short-same : Rendering text old new TooShort → new ≡ old
+  too-short-same o = go (leb (length text) (length old)) (o .answer) (o .content)
+    where
+      go : (b : Bool) → TooShort ≡ cond b (Whole (length text)) TooShort → new ≡ cond b (text ++ drop (length text) old) old → new ≡ old
+      go true e c = cc
+      go false e c = c
 
-render-done : {text old new : List ℕ} (answer : List ℕ) {answer′ : List ℕ} (x : Rendered) → Rendering text old new x → returned (tellRendered x) ≡ 0 → answer′ ≡ answerAfter (tellRendered x) answer → (n : ℕ) × Rendering text old new (Whole n) × (answer′ ≡ onto (n ∷ 0 ∷ 0 ∷ []) answer)
-render-done answer (Whole n) o z e = (n, o, e)
-render-done answer TooShort o z e = absurd (omega arith)
+  render-own : (x : Rendered) → Rendering text old new x → 0 < returned (tellRendered x) → Own Passed (new ≡ old) (Rendering text old new) tellRendered (λ number node. Rendering text old new TooShort) answer answer′ none-known x
+  render-own (Whole n) o h = absurd (omega arith)
+  render-own TooShort o h =
+      record {
+        known = record { number = 3; node = 0; is = refl; some = omega arith; known = omega arith; within = omega arith };
+        refuses = o;
+        same = too-short-same o;
+      }
+
+  render-done : (x : Rendered) → Rendering text old new x → returned (tellRendered x) ≡ 0 → answer′ ≡ answerAfter (tellRendered x) answer → (n : ℕ) × Rendering text old new (Whole n) × (answer′ ≡ onto (n ∷ 0 ∷ 0 ∷ []) answer)
+  render-done (Whole n) o z e = (n, o, e)
+  render-done TooShort o z e = absurd (omega arith)
 
 pub demand1OfExports : Demand1OfExports
 demand1OfExports =
     record {
       back = λ number node h. (omega arith, omega arith);
       analyseRefused = λ t k a s m answer k′ a′ s′ m′ answer′ r o h.
-          (let ((x, y, z, w), e) = refused-same (lengthCheck t) _ _ tellAnalysed answer answer′ (analyse-same t k a s m k′ a′ s′ m′) r o h in (x, y, z, w, e));
+          refused-is (lengthCheck t) _ _ tellAnalysed _ answer answer′ (length-known t) (analyse-own t k a s m k′ a′ s′ m′ answer answer′) r o h;
       startRefused = λ t answers state emissions answer state′ emissions′ answer′ r o h.
-          (let ((x, y), e) = refused-same (lengthCheck t) _ _ tellReaction answer answer′ (react-same (Starting t answers state emissions state′ emissions′) (start-refusals t answers state emissions state′ emissions′)) r o h in (x, y, e));
+          react-refused t state emissions state′ emissions′ answer answer′ (Starting t answers state emissions state′ emissions′) (demand3OfCalls .startRefusals t answers state emissions state′ emissions′) r o h;
       resumeRefused = λ t answers state emissions answer state′ emissions′ answer′ r o h.
-          (let ((x, y), e) = refused-same (lengthCheck t) _ _ tellReaction answer answer′ (react-same (Resuming t answers state emissions state′ emissions′) (resume-refusals t answers state emissions state′ emissions′)) r o h in (x, y, e));
-      renderRefused = λ t text answer text′ answer′ r o h. refused-same Passed _ _ tellRendered answer answer′ render-same r o h;
+          react-refused t state emissions state′ emissions′ answer answer′ (Resuming t answers state emissions state′ emissions′) (demand3OfCalls .resumeRefusals t answers state emissions state′ emissions′) r o h;
+      renderRefused = λ t text answer text′ answer′ r o h.
+          refused-is Passed _ _ tellRendered _ answer answer′ none-known (render-own (textOf (verdict t)) text text′ answer answer′) r o h;
       analyseDone = λ t k a s m answer k′ a′ s′ m′ answer′ o.
-          (let (x, call, z, e) = done-told (lengthCheck t) _ _ tellAnalysed answer answer′ (short-number (lengthCheck t) (length-number t)) o in
-          analyse-done t k a s m k′ a′ s′ m′ answer x call z e);
+          (let (x, call, z, e) = done-told (lengthCheck t) _ _ tellAnalysed (λ number node. Unit {0}) answer answer′ (length-known t) o in
+          analyse-done t k a s m k′ a′ s′ m′ answer answer′ x call z e);
       startDone = λ t answers state emissions answer state′ emissions′ answer′ o.
-          (let (x, call, z, e) = done-told (lengthCheck t) _ _ tellReaction answer answer′ (short-number (lengthCheck t) (length-number t)) o in
-          react-done (Starting t answers state emissions state′ emissions′) (start-refusals t answers state emissions state′ emissions′) answer x call z e);
+          react-ran t state emissions state′ emissions′ answer answer′ (Starting t answers state emissions state′ emissions′) (demand3OfCalls .startRefusals t answers state emissions state′ emissions′) o;
       resumeDone = λ t answers state emissions answer state′ emissions′ answer′ o.
-          (let (x, call, z, e) = done-told (lengthCheck t) _ _ tellReaction answer answer′ (short-number (lengthCheck t) (length-number t)) o in
-          react-done (Resuming t answers state emissions state′ emissions′) (resume-refusals t answers state emissions state′ emissions′) answer x call z e);
+          react-ran t state emissions state′ emissions′ answer answer′ (Resuming t answers state emissions state′ emissions′) (demand3OfCalls .resumeRefusals t answers state emissions state′ emissions′) o;
       renderDone = λ t text answer text′ answer′ o.
-          (let (x, call, z, e) = done-told Passed _ _ tellRendered answer answer′ (short-number Passed (λ number node z. (let y : _≡_ {A = ℕ} 0 1 = cc in absurd (omega arith)))) o in
-          render-done answer x call z e);
+          (let (x, call, z, e) = done-told Passed _ _ tellRendered (λ number node. Unit {0}) answer answer′ none-known o in
+          render-done (textOf (verdict t)) text text′ answer answer′ x call z e);
     }

@@ -1,40 +1,67 @@
 -- Demand 1 of the exported functions: what follows from their contracts. The statements alone; the proofs are in proofs/Theorems.antt.
-use Prim.Native.Nat.{ℕ, _/_, _%_, _<_}
+use Prim.Native.Nat.{ℕ, _/_, _%_, _≤_, _<_}
 use mathlib.Core.Path.{_≡_}
 use mathlib.Core.List.{List, [], _∷_}
+use lib.ListN.{length}
+use Rattle.esterel.specs.Limits.{maxNodes}
 use Rattle.esterel.specs.Checks.{verdict}
+use Rattle.table.specs.Check.{lengthCheck}
+use Rattle.table.specs.declared.Check.{Check}
+use Rattle.table.specs.declared.Check.the-variants.{Passed}
 use Rattle.analysis.specs.Passes.{onto}
 use Rattle.analysis.specs.Analysis.{Analysis}
 use Rattle.analysis.specs.declared.Analysed.the-variants.{Done}
+use Rattle.analysis.specs.declared.Analysed.the-variants.{Refused as RefusedTable}
 use Rattle.instant.specs.Calls.{Starting, Resuming}
 use Rattle.instant.specs.declared.Reaction.{Reaction}
 use Rattle.instant.specs.declared.Reaction.the-variants.{Closed}
+use Rattle.instant.specs.declared.Reaction.the-variants.{Refused as RefusedCall}
 use Rattle.listing.specs.Text.{textOf}
 use Rattle.listing.specs.Rendering.{Rendering}
-use Rattle.listing.specs.declared.Rendered.the-variants.{Whole}
-use Rattle.abi.specs.Exported.{returned, Analysing, StartingC, ResumingC, RenderingC}
+use Rattle.listing.specs.declared.Rendered.the-variants.{Whole, TooShort}
+use Rattle.abi.specs.Exported.{returned, shortAnswer, Analysing, StartingC, ResumingC, RenderingC}
 use Rattle.abi.specs.declared.Told.the-variants.{Refusal}
 
 -- after 0 the call has closed with these figures
 abbrev pub Ran : (Reaction → Type 0) → (answer answer′ : List ℕ) → Type 0
 Ran Call answer answer′ = (code taken entries : ℕ) × Call (Closed code taken entries) × (answer′ ≡ onto (code ∷ taken ∷ entries ∷ []) answer)
 
+-- a function that returned r, and not 0, was refused: r is number + 256 * node of the call's own refusal or, where the answer is too
+-- short, of the first that fails of the checks up to 3. The answer has not changed
+pub record IsRefused (before : Check) (Refuses : (number node : ℕ) → Type 0) (answer answer′ : List ℕ) (r : ℕ) : Type 0 where
+  pub number : ℕ
+  pub node : ℕ
+  pub returns : r ≡ returned (Refusal number node)
+  pub some : 1 ≤ number
+  pub known : number ≤ 13
+  pub within : node < maxNodes
+  pub own : 3 ≤ length answer → Refuses number node
+  pub short : length answer < 3 → shortAnswer before ≡ Refusal number node
+  pub sameAnswer : answer′ ≡ answer
+
 pub record Demand1OfExports : Type 0 where
   -- number and node come back from what is returned
   pub back : (number node : ℕ) → number < 256 → (returned (Refusal number node) % 256 ≡ number) × (returned (Refusal number node) / 256 ≡ node)
-  -- where something else than 0 is returned, no buffer has changed
+  -- where something else than 0 is returned, the call was refused and no buffer has changed
   pub analyseRefused :
       (t k a s m answer k′ a′ s′ m′ answer′ : List ℕ) (r : ℕ) →
-      Analysing t k a s m answer k′ a′ s′ m′ answer′ r → 0 < r → (k′ ≡ k) × (a′ ≡ a) × (s′ ≡ s) × (m′ ≡ m) × (answer′ ≡ answer)
+      Analysing t k a s m answer k′ a′ s′ m′ answer′ r → 0 < r →
+      ((k′ ≡ k) × (a′ ≡ a) × (s′ ≡ s) × (m′ ≡ m)) ×
+      IsRefused (lengthCheck t) (λ number node. Analysis t k a s m k′ a′ s′ m′ (RefusedTable number node)) answer answer′ r
   pub startRefused :
       (t answers state emissions answer state′ emissions′ answer′ : List ℕ) (r : ℕ) →
-      StartingC t answers state emissions answer state′ emissions′ answer′ r → 0 < r → (state′ ≡ state) × (emissions′ ≡ emissions) × (answer′ ≡ answer)
+      StartingC t answers state emissions answer state′ emissions′ answer′ r → 0 < r →
+      ((state′ ≡ state) × (emissions′ ≡ emissions)) ×
+      IsRefused (lengthCheck t) (λ number node. Starting t answers state emissions state′ emissions′ (RefusedCall number node)) answer answer′ r
   pub resumeRefused :
       (t answers state emissions answer state′ emissions′ answer′ : List ℕ) (r : ℕ) →
-      ResumingC t answers state emissions answer state′ emissions′ answer′ r → 0 < r → (state′ ≡ state) × (emissions′ ≡ emissions) × (answer′ ≡ answer)
+      ResumingC t answers state emissions answer state′ emissions′ answer′ r → 0 < r →
+      ((state′ ≡ state) × (emissions′ ≡ emissions)) ×
+      IsRefused (lengthCheck t) (λ number node. Resuming t answers state emissions state′ emissions′ (RefusedCall number node)) answer answer′ r
   pub renderRefused :
       (t text answer text′ answer′ : List ℕ) (r : ℕ) →
-      RenderingC t text answer text′ answer′ r → 0 < r → (text′ ≡ text) × (answer′ ≡ answer)
+      RenderingC t text answer text′ answer′ r → 0 < r →
+      (text′ ≡ text) × IsRefused Passed (λ number node. Rendering (textOf (verdict t)) text text′ TooShort) answer answer′ r
   -- where 0 is returned, the call was not refused, and its figures stand in the answer
   pub analyseDone :
       (t k a s m answer k′ a′ s′ m′ answer′ : List ℕ) →

@@ -4,7 +4,7 @@ use native.Mathlib.Omega.{arith}
 use mathlib.Core.Path.{sym, ap, _∙_}
 use denote.Ref.{now}
 use Rattle.abi.specs.Exported.{returned, shortAnswer}
-use Rattle.abi.proofs.Telling.{length-node}
+use Rattle.abi.proofs.Telling.{length-refusal}
 use Rattle.abi.proofs.short_answer.Statement.{statement}
 use Rattle.abi.proofs.short_answer.Tie as tie
 
@@ -24,7 +24,7 @@ returns : tie.Need-returns
 returns c = c .refusal .ensures ∙ ap (λ x. returned (shortAnswer x)) (sym (c .before .enum-told .given .1) ∙ c .before .before .before .check-length .ensures)
 
 refusal-requires-2 : tie.Need-refusal-requires-2
-refusal-requires-2 c κs = omega (arith, length-node (now (c .before .before .before .before .before .args .table)) _ _ (sym (c .before .before .before .check-length .ensures) ∙ c .before .length .given .1))
+refusal-requires-2 c κs = omega (arith, length-refusal (now (c .before .before .before .before .before .args .table)) _ _ (sym (c .before .before .before .check-length .ensures) ∙ c .before .length .given .1) .2)
 
 returns-2 : tie.Need-returns-2
 returns-2 c = c .refusal2 .ensures ∙ ap (λ x. returned (shortAnswer x)) (sym (c .before .before .length .given .1) ∙ c .before .before .before .before .check-length .ensures)
