@@ -9,7 +9,7 @@ use native.Mathlib.Omega.{arith}
 use lib.ListN.{length, getD}
 use Rattle.codes.specs.Codes.{Codes, only, union, given, withoutEnded, word}
 use Rattle.codes.specs.Words.{_∋_, unionOf, withoutEndedOf}
-use Rattle.codes.proofs.Bools.{either}
+use Rattle.codes.proofs.Bools.{either, cannot-pass}
 use Rattle.codes.proofs.Members.{only-in, only-out}
 use Rattle.codes.proofs.Laws.{singleton-word, union-word, without-ended-word, parallel-word, caught-word, given-word, ∋-word, word-same}
 use Rattle.esterel.specs.Statement.{Leaf, nothing, pause, emit, exit, Unary, signal, suspend, loop, trap, Binary, present, sequence, parallel, Stmt, leaf, one, two, kind, field, size, nodes}
@@ -88,11 +88,6 @@ module _ (any : Bool) where
   two-step sequence q r = sequence-word (setOfStmt any q) (setOfStmt any r)
   two-step parallel q r = parallel-word (setOfStmt any q) (setOfStmt any r)
 
--- a code that is too high is in no set
-out-of : (b : Bool) → (b ≡ true → ⊥) → b ≡ false
-out-of true f = absurd (f refl)
-out-of false f = refl
-
 module _ {t sizes : List ℕ} (ok : Surveyable t sizes) (any : Bool) (i : ℕ) (h : i < size (programOf t)) where
   abbrev here : Stmt
   here = statementAt (nodes (programOf t)) i
@@ -167,7 +162,7 @@ module _ {t sizes : List ℕ} (ok : Surveyable t sizes) (any : Bool) (i : ℕ) (
           go (one u p) q =
               let (le, child) = only-child (programOf t) i u p q in
               let word-is : last ≡ word (setOfStmt any p) = el ∙ done (i - 1) (omega (arith, size-pos p)) ∙ ap (λ x. word (setOfStmt any x)) child in
-              let none : setOfStmt any p 64 ≡ false = out-of (setOfStmt any p 64) (λ x. omega (arith, few (i - 1) 64 (rw child x))) in
+              let none : setOfStmt any p 64 ≡ false = cannot-pass (setOfStmt any p 64) (λ x. omega (arith, few (i - 1) 64 (rw child x))) in
               rw word-is (one-step any u p 0 none)
           go (two b p r) q = absurd (omega (arith, count-is ∙ ap childCount q))
 

@@ -11,7 +11,7 @@ use borrow.Author.Tests.{le-leb}
 use lib.ListN.{length, getD}
 use Rattle.codes.specs.Codes.{Codes, only, word}
 use Rattle.codes.specs.Words.{_∋_}
-use Rattle.codes.proofs.Bools.{both}
+use Rattle.codes.proofs.Bools.{both, cannot-pass}
 use Rattle.codes.proofs.Bits.{∋-past}
 use Rattle.codes.proofs.Laws.{word-lt, ∋-word}
 use Rattle.codes.proofs.Members.{only-out}
@@ -107,13 +107,9 @@ module _ {t k a s m k′ a′ s′ m′ : List ℕ} {p : Stmt} {r : Analysed} (l
 bit-of : (a : Codes) → ((k : ℕ) → a k ≡ true → k < 64) → (k : ℕ) → (word a ∋ k) ≡ a k
 bit-of a low k = go (decLt k 64)
   where
-    none-past : (b : Bool) → a k ≡ b → (k < 64 → ⊥) → false ≡ b
-    none-past true e h = absurd (h (low k e))
-    none-past false e h = refl
-
     go : Dec (k < 64) → (word a ∋ k) ≡ a k
     go (yes h) = ∋-word a k h
-    go (no h) = ∋-past (word a) 64 k (word-lt a) (omega arith) ∙ none-past (a k) refl h
+    go (no h) = ∋-past (word a) 64 k (word-lt a) (omega arith) ∙ sym (cannot-pass (a k) (λ e. h (low k e)))
 
 module _ {t k a s m k′ a′ s′ m′ : List ℕ} {n d : ℕ} (o : Analysis t k a s m k′ a′ s′ m′ (Done n d)) where
   exact-sets : ExactSets t k′ n d

@@ -41,6 +41,11 @@ pub fromNot : (b : Bool) → T (not b) → b ≡ false
 fromNot true t = absurd t
 fromNot false t = refl
 
+-- a test that cannot pass fails
+pub cannot-pass : (b : Bool) → (b ≡ true → ⊥) → b ≡ false
+cannot-pass true f = absurd (f refl)
+cannot-pass false f = refl
+
 -- two tests are the same where each passes if the other does
 pub same-test : (p q : Bool) → (p ≡ true → q ≡ true) → (q ≡ true → p ≡ true) → p ≡ q
 same-test true q f g = sym (f refl)

@@ -8,6 +8,7 @@ use Prim.Native.Nat.{ℕ, zero, suc, _+_, _-_, _<_}
 use native.Mathlib.Decide.{decLt}
 use native.Mathlib.Omega.{arith}
 use lib.ListN.{length, getD, List·getD-map, List·getD-eq-default}
+use Rattle.codes.proofs.Bools.{cannot-pass}
 use Rattle.esterel.specs.Statement.{nothing, signal, suspend, loop, trap, Stmt, leaf, one, two, nodes}
 use Rattle.esterel.specs.Codes.{empty}
 use Rattle.esterel.specs.Sets.{startSet, Place, at, placesOf}
@@ -91,10 +92,6 @@ loop-of (one loop p) e = (p, refl, e)
 loop-of (one trap p) e = (leaf nothing, cc, cc)
 loop-of (two b p q) e = (leaf nothing, cc, cc)
 
-not-true : (b : Bool) → (b ≡ true → ⊥) → b ≡ false
-not-true true f = absurd (f refl)
-not-true false f = refl
-
 false-not-true : {b : Bool} → b ≡ false → b ≡ true → ⊥
 false-not-true e f = let z : _≡_ {A = ℕ} 0 1 = cc in omega arith
 
@@ -127,7 +124,7 @@ module _ (p : Stmt) where
       record {
         within = loop-within p i (l .body) (l .isLoop);
         holds = ends-at p i ∙ ap loopEnds (l .isLoop) ∙ l .such;
-        before = λ j h. not-true _ (λ z. let (q, is, ends) = loop-of (statementAt (nodes p) j) (sym (ends-at p j) ∙ z) in l .lowest j q h is ends);
+        before = λ j h. cannot-pass _ (λ z. let (q, is, ends) = loop-of (statementAt (nodes p) j) (sym (ends-at p j) ∙ z) in l .lowest j q h is ends);
       }
 
   pub no-loop : firstNode endsAtOnce (placesOf p) 0 ≡ none → NoLoop p EndedInK
@@ -137,7 +134,7 @@ module _ (p : Stmt) where
   pub loop-none : NoLoop p EndedInK → firstNode endsAtOnce (placesOf p) 0 ≡ none
   loop-none f =
       none-found endsAtOnce (placesOf p) 0
-      (λ j h. not-true _ (λ z. let (q, is, ends) = loop-of (statementAt (nodes p) j) (sym (ends-at p j) ∙ z) in f j q is ends))
+      (λ j h. cannot-pass _ (λ z. let (q, is, ends) = loop-of (statementAt (nodes p) j) (sym (ends-at p j) ∙ z) in f j q is ends))
 
 -- ---- the verdict
 

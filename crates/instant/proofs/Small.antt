@@ -1,6 +1,6 @@
 -- The small functions' answers, by what is known at each return.
-use mathlib.Core.Path.{_≡_, refl, sym}
-use mathlib.Core.Bool.{Bool, true, false, not}
+use mathlib.Core.Path.{_≡_, refl}
+use mathlib.Core.Bool.{true, false}
 use mathlib.Core.List.{List, [], _∷_}
 use Prim.Native.Nat.{ℕ, zero, suc, _+_, _-_, _<_, _≤_}
 use native.Mathlib.Omega.{arith}
@@ -17,14 +17,6 @@ use Rattle.table.proofs.Kind.{the-type}
 use Rattle.instant.specs.Steps.{alone, oneMore, catches, Left, kept, leafOf}
 use Rattle.instant.specs.declared.Ran.{Ran}
 use Rattle.instant.specs.declared.Ran.the-variants.{Closed, Starved}
-
-pub not-is-true : (b : Bool) → not b ≡ true → b ≡ false
-not-is-true true e = sym e
-not-is-true false e = refl
-
-pub not-is-false : (b : Bool) → not b ≡ false → b ≡ true
-not-is-false true e = refl
-not-is-false false e = sym e
 
 pub catch-low : (c : ℕ) → c < 2 → c ≡ catchCode c
 catch-low zero h = refl

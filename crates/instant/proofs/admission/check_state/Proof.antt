@@ -8,7 +8,7 @@ use Rattle.esterel.specs.Statement.{size}
 use Rattle.table.specs.Check.{passIf}
 use Rattle.table.specs.Program.{programOf}
 use Rattle.table.proofs.View.{table-length}
-use Rattle.instant.proofs.Small.{not-is-true, not-is-false}
+use borrow.Author.Tests.{not-true, not-false}
 use Rattle.instant.proofs.Admits.{FitsTo, fits-begin, fits-next, not-admitted, nothing-held, is-admitted}
 use Rattle.instant.proofs.admission.check_state.Statement.{statement}
 use Rattle.instant.proofs.admission.check_state.Tie as tie
@@ -35,7 +35,7 @@ node-fits-requires : tie.Need-node-fits-requires Inv-loop μ-loop
 node-fits-requires c κs = (c .before .before .before .before .before .before .before .before .pre .0, (omega (arith, table-length (now (c .before .before .before .before .before .before .before .before .args .table)) (c .before .before .before .before .before .before .before .before .pre .0 .readable))), c .before .before .before .before .before .before .before .before .pre .1, c .before .before .before .before .before .before .before .before .pre .2)
 
 returns-2 : tie.Need-returns-2 Inv-loop μ-loop
-returns-2 c = ap (passIf 12) (not-admitted (programOf (now (c .before .before .before .before .before .before .before .before .before .before .args .table))) (now (c .before .before .before .before .before .before .before .before .before .before .args .state)) (c .before .before .before .before .before .before .before .before .before .before .pre .1) (c .before .before .before .loop .i) (omega (arith, table-length (now (c .before .before .before .before .before .before .before .before .before .before .args .table)) (c .before .before .before .before .before .before .before .before .before .before .pre .0 .readable))) (sym (c .before .node-fits .ensures) ∙ not-is-true _ (c .if2 .taken)))
+returns-2 c = ap (passIf 12) (not-admitted (programOf (now (c .before .before .before .before .before .before .before .before .before .before .args .table))) (now (c .before .before .before .before .before .before .before .before .before .before .args .state)) (c .before .before .before .before .before .before .before .before .before .before .pre .1) (c .before .before .before .loop .i) (omega (arith, table-length (now (c .before .before .before .before .before .before .before .before .before .before .args .table)) (c .before .before .before .before .before .before .before .before .before .before .pre .0 .readable))) (sym (c .before .node-fits .ensures) ∙ not-true _ (c .if2 .taken)))
 
 add-i : tie.Need-add-i Inv-loop μ-loop
 add-i c = omega (arith, table-length (now (c .before .before .before .before .before .before .before .before .before .before .args .table)) (c .before .before .before .before .before .before .before .before .before .before .pre .0 .readable))
@@ -44,7 +44,7 @@ loop-less : tie.Need-loop-less Inv-loop μ-loop
 loop-less c = omega (arith, table-length (now (c .before .before .before .before .before .before .before .before .before .before .args .table)) (c .before .before .before .before .before .before .before .before .before .before .pre .0 .readable))
 
 loop-again : tie.Need-loop-again Inv-loop μ-loop
-loop-again c = fits-next (c .before .before .before .loop .inv) (omega (arith, table-length (now (c .before .before .before .before .before .before .before .before .before .before .args .table)) (c .before .before .before .before .before .before .before .before .before .before .pre .0 .readable))) (sym (c .before .node-fits .ensures) ∙ not-is-false _ (c .if2 .left))
+loop-again c = fits-next (c .before .before .before .loop .inv) (omega (arith, table-length (now (c .before .before .before .before .before .before .before .before .before .before .args .table)) (c .before .before .before .before .before .before .before .before .before .before .pre .0 .readable))) (sym (c .before .node-fits .ensures) ∙ not-false _ (c .if2 .left))
 
 returns-3 : tie.Need-returns-3 Inv-loop μ-loop
 returns-3 c = ap (passIf 12) (is-admitted (programOf (now (c .before .before .before .before .before .before .before .before .args .table))) (now (c .before .before .before .before .before .before .before .before .args .state)) (c .before .before .before .before .before .before .before .before .pre .1) (c .before .before .before .before .before .before .before .before .pre .2) (omega (arith, table-length (now (c .before .before .before .before .before .before .before .before .args .table)) (c .before .before .before .before .before .before .before .before .pre .0 .readable))) (c .before .before .if1 .left) (c .before .loop .inv) (omega (arith, table-length (now (c .before .before .before .before .before .before .before .before .args .table)) (c .before .before .before .before .before .before .before .before .pre .0 .readable))))
