@@ -3,25 +3,21 @@ use mathlib.Core.Path.{_≡_, refl, sym, ap, _∙_}
 use mathlib.Core.Bool.{Bool, true, false, _||_, cond}
 use mathlib.Core.Option.{Option, none, some}
 use mathlib.Core.List.{List, []}
-use Prim.Native.Nat.{ℕ, zero, suc, _*_, _%_, _≤_, _<_}
+use Prim.Native.Nat.{ℕ, _*_, _%_}
 use native.Mathlib.Omega.{arith}
 use lib.Dec.{eqb, ltb}
-use lib.ListN.{length, take, getD}
-use lib.Seq.{take-at}
+use lib.ListN.{length}
 use borrow.Author.Tests.{ltb-false, eqb-false, le-ltb, ne-eqb}
 use Rattle.esterel.specs.Limits.{maxNodes}
-use Rattle.esterel.specs.Statement.{nothing, Stmt, leaf, size, nodes}
+use Rattle.esterel.specs.Statement.{nothing, Stmt, leaf}
 use Rattle.esterel.specs.Sets.{Place, placesOf}
 use Rattle.esterel.specs.Table.{Verdict, passed, refused, scan, checkLength, read}
 use Rattle.esterel.specs.Checks.{firstNode, tooDeep, tooManyTraps, uncaught, endsAtOnce, refuseAt, checkPlaces, checkProgram}
-use Rattle.esterel.specs.Outcome.{statementAt}
 use Rattle.table.specs.Program.{programIn, programOf, Readable}
-use Rattle.table.specs.Check.{refuse, answerOf, refuseFound, lengthCheck, WellSized, placesCheck, Read}
+use Rattle.table.specs.Check.{refuse, answerOf, refuseFound, lengthCheck, WellSized, nodesCheck, placesCheck}
 use Rattle.table.specs.declared.Check.{Check}
 use Rattle.table.specs.declared.Check.the-variants.{Passed, Refused}
-use Rattle.table.proofs.Surveying.{few-nodes}
-use Rattle.analysis.specs.Passes.{Surveyable, wordsOf, onto, loopsCheck, Ready}
-use Rattle.analysis.proofs.Filling.{length-words}
+use Rattle.analysis.specs.Passes.{Placed, loopsCheck, Ready}
 
 -- checks 1 and 2
 pub length-law : (t : List ℕ) (next : Verdict) → checkLength t next ≡ refuse (lengthCheck t) next
@@ -64,29 +60,22 @@ answer-passed (passed p) e = (p, refl)
 answer-passed (refused a b) e = (leaf nothing, cc)
 
 -- a table whose nodes were read is readable
-pub record Readen (t sizes : List ℕ) : Type 0 where
+pub record Readen (t : List ℕ) : Type 0 where
   pub readable : Readable t
   pub scans : scan t 0 [] ≡ passed (programOf t)
-  pub few : size (programOf t) ≤ maxNodes
-  pub sized : (j : ℕ) → j < size (programOf t) → getD sizes j 0 ≡ size (statementAt (nodes (programOf t)) j)
 
-module _ {t sizes : List ℕ} {r : Check} (w : WellSized t) (o : Read t sizes r) where
+module _ {t : List ℕ} {r : Check} (w : WellSized t) (e : r ≡ nodesCheck t) where
   pub nodes-refused : (number node : ℕ) → r ≡ Refused number node → r ≡ answerOf (checkProgram (scan t 0 []))
-  nodes-refused number node e = e ∙ sym (ap (λ v. answerOf (checkProgram v)) (answer-refused (scan t 0 []) number node (sym e ∙ o .answer)))
+  unfolding nodesCheck
+  nodes-refused number node z = z ∙ sym (ap (λ v. answerOf (checkProgram v)) (answer-refused (scan t 0 []) number node (sym z ∙ e)))
 
-  pub nodes-read : r ≡ Passed → Readen t sizes
-  unfolding programOf
-  nodes-read e =
-      let (p, z) = answer-passed (scan t 0 []) (sym e ∙ o .answer) in
-      let reads : read t ≡ passed p = read-is t w ∙ z in
+  pub nodes-read : r ≡ Passed → Readen t
+  unfolding programOf nodesCheck
+  nodes-read z =
+      let (p, y) = answer-passed (scan t 0 []) (sym z ∙ e) in
+      let reads : read t ≡ passed p = read-is t w ∙ y in
       let same : programOf t ≡ p = ap programIn reads in
-      let ok : Readable t = record { reads = reads ∙ ap passed (sym same) } in
-      record {
-        readable = ok;
-        scans = z ∙ ap passed (sym same);
-        few = few-nodes t ok;
-        sized = o .sized (programOf t) (z ∙ ap passed (sym same));
-      }
+      record { readable = record { reads = reads ∙ ap passed (sym same) }; scans = y ∙ ap passed (sym same) }
 
 -- checks 8 to 11 of a program
 checks-law : (ps : List Place) (next : Verdict) → checkPlaces ps next ≡ refuse (placesCheck ps 0) (refuse (refuseFound 11 (firstNode endsAtOnce ps 0) Passed) next)
@@ -104,33 +93,30 @@ program-law : (t : List ℕ) (p : Stmt) → scan t 0 [] ≡ passed p → checkPr
 unfolding loopsCheck
 program-law t p e = ap checkProgram e ∙ checks-law (placesOf p) (passed p)
 
-module _ {t sizes : List ℕ} (o : Readen t sizes) where
-  pub places-refused : (c : Check) → c ≡ placesCheck (placesOf (programOf t)) 0 → (number node : ℕ) → c ≡ Refused number node → c ≡ answerOf (checkProgram (scan t 0 []))
-  places-refused c e number node z =
-      z ∙ sym (ap answerOf (program-law t (programOf t) (o .scans) ∙ ap (λ x. refuse x (refuse (loopsCheck (programOf t)) (passed (programOf t)))) (sym e ∙ z)))
+module _ {t : List ℕ} (o : Readen t) (c : Check) (e : c ≡ placesCheck (placesOf (programOf t)) 0) where
+  after-places : checkProgram (scan t 0 []) ≡ refuse c (refuse (loopsCheck (programOf t)) (passed (programOf t)))
+  after-places = program-law t (programOf t) (o .scans) ∙ ap (λ x. refuse x (refuse (loopsCheck (programOf t)) (passed (programOf t)))) (sym e)
 
-  pub surveyed : (c : Check) → c ≡ placesCheck (placesOf (programOf t)) 0 → c ≡ Passed → maxNodes ≤ length sizes → Surveyable t sizes
-  surveyed c e z room =
-      record { readable = o .readable; passes = sym e ∙ z; sized = o .sized; listed = omega (arith, o .few) }
+  pub places-refused : (number node : ℕ) → c ≡ Refused number node → c ≡ answerOf (checkProgram (scan t 0 []))
+  places-refused number node z = z ∙ sym (ap answerOf (after-places ∙ ap (λ x. refuse x (refuse (loopsCheck (programOf t)) (passed (programOf t)))) z))
 
-  last-law : placesCheck (placesOf (programOf t)) 0 ≡ Passed → checkProgram (scan t 0 []) ≡ refuse (loopsCheck (programOf t)) (passed (programOf t))
-  last-law e = program-law t (programOf t) (o .scans) ∙ ap (λ x. refuse x (refuse (loopsCheck (programOf t)) (passed (programOf t)))) e
+  module _ (z : c ≡ Passed) where
+    pub places-passed : Placed t
+    places-passed = record { readable = o .readable; passes = sym e ∙ z }
 
-  pub loops-answer : (c : Check) → placesCheck (placesOf (programOf t)) 0 ≡ Passed → c ≡ loopsCheck (programOf t) → c ≡ answerOf (checkProgram (scan t 0 []))
-  loops-answer c e z = z ∙ go (loopsCheck (programOf t)) refl
-    where
-      go : (x : Check) → loopsCheck (programOf t) ≡ x → x ≡ answerOf (checkProgram (scan t 0 []))
-      go Passed q = sym (ap answerOf (last-law e ∙ ap (λ x. refuse x (passed (programOf t))) q))
-      go (Refused number node) q = sym (ap answerOf (last-law e ∙ ap (λ x. refuse x (passed (programOf t))) q))
+    last-law : checkProgram (scan t 0 []) ≡ refuse (loopsCheck (programOf t)) (passed (programOf t))
+    last-law = after-places ∙ ap (λ x. refuse x (refuse (loopsCheck (programOf t)) (passed (programOf t)))) z
 
-  pub accepted : (c : Check) (sets old : List ℕ) → Surveyable t sizes → c ≡ loopsCheck (programOf t) → c ≡ Passed → maxNodes ≤ length sets → sets ≡ onto (wordsOf false (programOf t)) old → Ready t sizes sets
-  accepted c sets old s e z room is =
-      record {
-        verdict = last-law (s .passes) ∙ ap (λ x. refuse x (passed (programOf t))) (sym e ∙ z);
-        surveyable = s;
-        starts = ap (take (size (programOf t))) is ∙ take-at (wordsOf false (programOf t)) _ (size (programOf t)) (length-words false (programOf t));
-        room = omega (arith, o .few);
-      }
+    module _ (l : Check) (el : l ≡ loopsCheck (programOf t)) where
+      pub loops-answer : l ≡ answerOf (checkProgram (scan t 0 []))
+      loops-answer = go l el
+        where
+          go : (x : Check) → x ≡ loopsCheck (programOf t) → x ≡ answerOf (checkProgram (scan t 0 []))
+          go Passed q = sym (ap answerOf (last-law ∙ ap (λ x. refuse x (passed (programOf t))) (sym q)))
+          go (Refused number node) q = sym (ap answerOf (last-law ∙ ap (λ x. refuse x (passed (programOf t))) (sym q)))
+
+      pub accepted : l ≡ Passed → Ready t
+      accepted y = record { verdict = last-law ∙ ap (λ x. refuse x (passed (programOf t))) (sym el ∙ y); placed = places-passed }
 
 -- no answer is both
 pub not-both : {c : Check} {number node : ℕ} → c ≡ Refused number node → c ≡ Passed → ⊥

@@ -6,8 +6,8 @@ use Prim.Native.Nat.{ℕ, _/_, _≤_}
 use native.Mathlib.Omega.{arith}
 use borrow.Author.Tests.{leb-true}
 use lib.Dec.{leb}
-use lib.ListN.{length, getD, take, drop, List·getD-append}
-use lib.Seq.{drop-at, getD-take}
+use lib.ListN.{length, getD, drop, List·getD-append}
+use lib.Seq.{drop-at}
 use Rattle.codes.specs.Codes.{empty, word}
 use Rattle.codes.proofs.Bools.{left, right}
 use Rattle.esterel.specs.Statement.{Stmt, size, loopDepth}
@@ -24,13 +24,13 @@ use Rattle.table.specs.declared.Check.the-variants.{Refused as RefusedCheck}
 use Rattle.table.proofs.Found.{pass-true}
 use Rattle.table.proofs.View.{table-length}
 use Rattle.analysis.specs.Steps.{setOfStmt}
-use Rattle.analysis.specs.Passes.{FilledTo, wordsOf, onto, flagsOf, contextWord, contextsOf, marksOf, Ready, Walkable}
+use Rattle.analysis.specs.Passes.{Filled, wordsOf, onto, flagsOf, Fillable, contextWord, contextsOf, marksOf, Ready, Walkable}
 use Rattle.analysis.specs.Analysis.{checkRoom, checked, roomFor, answerOf, refusalOf, kOf, aOf, sOf, markOf, column, verdictFor, Analysis}
 use Rattle.analysis.specs.declared.Analysed.{Analysed}
 use Rattle.analysis.specs.declared.Analysed.the-variants.{Done, Refused}
 use Rattle.analysis.proofs.Accepts.{length-law}
 use Rattle.analysis.proofs.Contexts.{length-marks}
-use Rattle.analysis.proofs.Filling.{length-words, words-at, filled-to, length-flags, flags-at}
+use Rattle.analysis.proofs.Filling.{filled, length-flags, flags-at}
 
 -- ---- the verdict of a call
 
@@ -151,44 +151,46 @@ onto-onto c d old e = rw (drop-at d (drop (length d) old) (length c) (sym e), �
 
 -- ---- what the passes need, and what they leave
 
-module _ {t sizes sets : List ℕ} (o : Ready t sizes sets) where
+module _ {t : List ℕ} (o : Ready t) where
   abbrev p : Stmt
   p = programOf t
 
   pub nodes-are : length t / 2 ≡ size p
-  nodes-are = omega (arith, table-length t (o .surveyable .readable))
+  nodes-are = omega (arith, table-length t (o .placed .readable))
 
-  pub starts-to : FilledTo false p (size p) sets
-  unfolding FilledTo
-  starts-to j h =
-      sym (getD-take (size p) sets j 0 h) ∙ ap (λ l. getD l j 0) (o .starts) ∙ words-at false p j h
+  module _ (k a s m : List ℕ) (room : Room (length t / 2) (length k) (length a) (length s) (length m)) where
+    pub fillable : Fillable t k a m
+    fillable =
+        record {
+          placed = o .placed;
+          startsRoom = omega (arith, nodes-are, room .starts);
+          anysRoom = omega (arith, nodes-are, room .anys);
+          flagsRoom = omega (arith, nodes-are, room .marks);
+        }
 
-  pub walkable : {anys contexts marks : List ℕ} (oldAnys oldMarks : List ℕ) → anys ≡ onto (wordsOf true p) oldAnys → size p ≤ length anys → size p ≤ length contexts → marks ≡ onto (flagsOf p) oldMarks → size p ≤ length marks → Walkable t sets anys contexts marks
-  walkable oldAnys oldMarks ea ra rs em rm =
-      record {
-        readable = o .surveyable .readable;
-        passes = o .surveyable .passes;
-        starts = starts-to;
-        startsRoom = o .room;
-        any = subst (FilledTo true p (size p)) (sym ea) (filled-to true p oldAnys);
-        anyRoom = ra;
-        flags = λ j h. ap (λ l. getD l j 0) em ∙ List·getD-append (flagsOf p) (drop (length (flagsOf p)) oldMarks) 0 j (rw (length-flags p) h) ∙ flags-at p j h;
-        room = rs;
-        marksRoom = rm;
-      }
+    -- k′, a′ and f are what the pass over K and A leaves
+    module _ {k′ a′ f : List ℕ} (ek : k′ ≡ onto (wordsOf false p) k) (ea : a′ ≡ onto (wordsOf true p) a) (ef : f ≡ onto (flagsOf p) m) where
+      pub walkable : length k′ ≡ length k → length a′ ≡ length a → length f ≡ length m → Walkable t k′ a′ s f
+      walkable lk la lf =
+          record {
+            placed = o .placed;
+            starts = subst (Filled false p) (sym ek) (filled false p k);
+            startsRoom = omega (arith, nodes-are, room .starts);
+            any = subst (Filled true p) (sym ea) (filled true p a);
+            anyRoom = omega (arith, nodes-are, room .anys);
+            flags = λ j h. ap (λ l. getD l j 0) ef ∙ List·getD-append (flagsOf p) (drop (length (flagsOf p)) m) 0 j (rw (length-flags p) h) ∙ flags-at p j h;
+            room = omega (arith, nodes-are, room .contexts);
+            marksRoom = omega (arith, nodes-are, room .marks);
+          }
 
-  pub finishing : {k a s m k′ a′ s′ m′ m″ : List ℕ} {n loops : ℕ} → verdictFor t k a s m ≡ checkProgram (scan t 0 []) → n ≡ length t / 2 → loops ≡ loopDepth p → k′ ≡ take n sets ++ drop n k → a′ ≡ onto (wordsOf true p) a → m″ ≡ onto (flagsOf p) m → s′ ≡ onto (contextsOf p) s → m′ ≡ onto (marksOf p) m″ → Analysis t k a s m k′ a′ s′ m′ (Done n loops)
-  unfolding answerOf
-  finishing {k} {a} {s} {m} {k′} {a′} {s′} {m′} {m″} {n} {loops} v en el ek ea em es em′ =
-      let z : verdictFor t k a s m ≡ passed p = v ∙ o .verdict in
-      let count : n ≡ size p = en ∙ nodes-are in
-      record {
-        answer = ap₂ Done count el ∙ sym (ap answerOf z);
-        startsAre =
-            ek ∙ ap (λ x. take x sets ++ drop x k) count ∙ ap (λ x. x ++ drop (size p) k) (o .starts)
-            ∙ ap (λ x. wordsOf false p ++ drop x k) (sym (length-words false p)) ∙ column-is kOf p _ _ k z (starts-column p);
-        anysAre = ea ∙ column-is aOf p _ _ a z (anys-column p);
-        contextsAre = es ∙ column-is sOf p _ _ s z (contexts-column p);
-        marksAre =
-            em′ ∙ ap (onto (marksOf p)) em ∙ onto-onto (marksOf p) (flagsOf p) m (length-marks p ∙ sym (length-flags p)) ∙ column-is markOf p _ _ m z (marks-column p);
-      }
+      pub finishing : {s′ m′ : List ℕ} {n loops : ℕ} → verdictFor t k a s m ≡ checkProgram (scan t 0 []) → n ≡ length t / 2 → loops ≡ loopDepth p → s′ ≡ onto (contextsOf p) s → m′ ≡ onto (marksOf p) f → Analysis t k a s m k′ a′ s′ m′ (Done n loops)
+      unfolding answerOf
+      finishing {n = n} v en el es em =
+          let z : verdictFor t k a s m ≡ passed p = v ∙ o .verdict in
+          record {
+            answer = ap₂ Done (en ∙ nodes-are) el ∙ sym (ap answerOf z);
+            startsAre = ek ∙ column-is kOf p _ _ k z (starts-column p);
+            anysAre = ea ∙ column-is aOf p _ _ a z (anys-column p);
+            contextsAre = es ∙ column-is sOf p _ _ s z (contexts-column p);
+            marksAre = em ∙ ap (onto (marksOf p)) ef ∙ onto-onto (marksOf p) (flagsOf p) m (length-marks p ∙ sym (length-flags p)) ∙ column-is markOf p _ _ m z (marks-column p);
+          }

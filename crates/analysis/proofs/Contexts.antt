@@ -30,12 +30,13 @@ use Rattle.table.specs.declared.Kind.{Kind}
 use Rattle.table.specs.declared.Kind.the-variants.{Nothing, Pause, Emit, Exit, Signal, Present, Suspend, Loop, Sequence, Parallel, Trap, Unknown}
 use Rattle.table.proofs.Buffers.{back, back-none, back-pred, length-back, back-at}
 use Rattle.table.proofs.Said.{childrenOf, said, count-below}
+use Rattle.table.proofs.Stacks.{On, none, more, Both, put, top-is, below-is}
 use Rattle.table.proofs.Surveying.{few-nodes}
 use Rattle.table.proofs.View.{kind-byte, table-length}
 use Rattle.table.proofs.Walk.{Waiting, Walk, Next, program, begin, next, descend, children, onlyChild, firstChild, secondChild, placeOf, placesIn}
 use Rattle.analysis.specs.Steps.{setOfStmt, underFirstOf, underSecondOf, leftOf, rightOf}
 use Rattle.analysis.specs.Steps.{trapsOf as trapsOfKind}
-use Rattle.analysis.specs.Passes.{FilledTo, onto, placeAt, firstEnds, contextWord, contextsOf, marksOf}
+use Rattle.analysis.specs.Passes.{Placed, Filled, onto, placeAt, firstEnds, contextWord, contextsOf, marksOf}
 use Rattle.analysis.proofs.Nodes.{PlacesPass, places-pass}
 
 first-word : (P K : Codes) → underFirstOf (word P) (word K) ≡ word (underFirst P K)
@@ -90,39 +91,6 @@ unfolding kindOf
 traps-two (present s) q r t = refl
 traps-two sequence q r t = refl
 traps-two parallel q r t = refl
-
--- an array that has the number f of each subtree that waits, the one on top last
-pub data On (f : Waiting → ℕ) (xs : List ℕ) : List Waiting → Type 0 where
-  none : On f xs []
-  more : (w : Waiting) (ws : List Waiting) → getD xs (length ws) 0 ≡ f w → On f xs ws → On f xs (w ∷ ws)
-
-module _ (f : Waiting → ℕ) where
-  stored : (xs : List ℕ) (i v : ℕ) {ws : List Waiting} → length ws ≤ i → On f xs ws → On f (set xs i v) ws
-  stored xs i v le none = none
-  stored xs i v le (more w ws e h) = more w ws (getD-set-other xs i (length ws) v 0 (λ q. omega arith) ∙ e) (stored xs i v (omega arith) h)
-
-  pushed : (xs : List ℕ) (w : Waiting) (ws : List Waiting) (i v : ℕ) → i ≡ length ws → i < length xs → v ≡ f w → On f xs ws → On f (set xs i v) (w ∷ ws)
-  pushed xs w ws i v ei lt ev h =
-      more w ws (ap (λ n. getD (set xs i v) n 0) (sym ei) ∙ getD-set-same xs i v 0 lt ∙ ev) (stored xs i v (omega arith) h)
-
-  -- the numbers of the children: x of the only one or the first, y of the second
-  abbrev Both : (d t l : ℕ) (P : Codes) → Stmt → (x y : ℕ) → Type 0
-  Both d t l P (leaf a) x y = Unit {0}
-  Both d t l P (one u p) x y = x ≡ f (onlyChild d t l P u p)
-  Both d t l P (two b p q) x y = (x ≡ f (firstChild d t l P b p q)) × (y ≡ f (secondChild d t l P b p q))
-
-  descended : (d t l : ℕ) (P : Codes) (s : Stmt) (ws : List Waiting) (xs : List ℕ) (i x y : ℕ) → i ≡ length ws → i + 1 < length xs → Both d t l P s x y → On f xs ws → On f (set (set xs i x) (i + 1) y) (children d t l P s ws)
-  descended d t l P (leaf a) ws xs i x y ei lt e h = stored (set xs i x) (i + 1) y (omega arith) (stored xs i x (omega arith) h)
-  descended d t l P (one u p) ws xs i x y ei lt e h = stored (set xs i x) (i + 1) y (omega arith) (pushed xs (onlyChild d t l P u p) ws i x ei (omega arith) e h)
-  descended d t l P (two b p q) ws xs i x y ei lt e h =
-      pushed (set xs i x) (secondChild d t l P b p q) (firstChild d t l P b p q ∷ ws) (i + 1) y (omega arith) (omega (arith, length-set xs i x)) (e .1)
-      (pushed xs (firstChild d t l P b p q) ws i x ei (omega arith) (e .0) h)
-
-  top-is : (xs : List ℕ) (w : Waiting) (ws : List Waiting) → On f xs (w ∷ ws) → getD xs (length ws) 0 ≡ f w
-  top-is xs w ws (more _ _ e h) = e
-
-  below-is : (xs : List ℕ) (w : Waiting) (ws : List Waiting) → On f xs (w ∷ ws) → On f xs ws
-  below-is xs w ws (more _ _ e h) = h
 
 -- a column of the listing, by its places
 module _ (f : Place → ℕ) (p : Stmt) where
@@ -221,7 +189,7 @@ pub record Turn (t counts contexts marks : List ℕ) (waiting i : ℕ) : Type 0 
   pub inMarks : i < length marks
   pub low : i < maxNodes
 
-module _ {t : List ℕ} (readable : Readable t) (passes : placesCheck (placesOf (programOf t)) 0 ≡ Passed) {pending counts contexts₀ contexts marks₀ marks : List ℕ} {waiting i : ℕ} (roomS : size (programOf t) ≤ length contexts₀) (roomM : size (programOf t) ≤ length marks₀) (o : Walking (programOf t) pending counts contexts₀ contexts marks₀ marks waiting (suc i)) where
+module _ {t : List ℕ} (ok : Placed t) {pending counts contexts₀ contexts marks₀ marks : List ℕ} {waiting i : ℕ} (roomS : size (programOf t) ≤ length contexts₀) (roomM : size (programOf t) ≤ length marks₀) (o : Walking (programOf t) pending counts contexts₀ contexts marks₀ marks waiting (suc i)) where
   here : Next (programOf t) i (o .ws) (o .walk .seen) (o .walk .seenLoops)
   here = next (programOf t) i (o .ws) (o .walk)
 
@@ -238,7 +206,7 @@ module _ {t : List ℕ} (readable : Readable t) (passes : placesCheck (placesOf 
   inside = walk-bound o
 
   pass : PlacesPass (placesOf (programOf t))
-  pass = places-pass (placesOf (programOf t)) passes
+  pass = places-pass (placesOf (programOf t)) (ok .passes)
 
   not-deep : w .depth ≤ maxDepth
   not-deep =
@@ -271,22 +239,22 @@ module _ {t : List ℕ} (readable : Readable t) (passes : placesCheck (placesOf 
   turn =
       record {
         inside = inside;
-        table = omega (arith, inside, table-length t readable);
+        table = omega (arith, inside, table-length t (ok .readable));
         waits = waits;
         fits = fits;
         traps = traps-low;
         inContexts = omega (arith, inside, contexts-long o roomS);
         inMarks = omega (arith, inside, marks-long o roomM);
-        low = omega (arith, inside, few-nodes t readable);
+        low = omega (arith, inside, few-nodes t (ok .readable));
       }
 
   flag-kept : getD marks i 0 ≡ getD marks₀ i 0
   flag-kept = ap (λ l. getD l i 0) (o .marksAre) ∙ back-at (marksOf (programOf t)) marks₀ (omega (arith, length-marks (programOf t))) (suc i) i (omega (arith, inside, length-marks (programOf t))) (omega arith)
 
   -- what the turn computes: the kind k, the last child's start set, the children's contexts x and y and their traps z, the count a, the mark m
-  module _ {k : Kind} {last x y z a m : ℕ} (sets anys : List ℕ) (done : FilledTo false (programOf t) (size (programOf t)) sets) (any : FilledTo true (programOf t) (size (programOf t)) anys) (flagged : (j : ℕ) → j < size (programOf t) → getD marks₀ j 0 ≡ firstEnds (statementAt (nodes (programOf t)) j)) (ek : k ≡ kindOf (getD t (2 * i) 0)) (el : (i ≡ 0 → ⊥) → last ≡ getD sets (i - 1) 0) (ex : x ≡ leftOf k (getD pending (waiting - 1) 0) (getD counts (waiting - 1) 0) last) (ey : y ≡ rightOf k (getD pending (waiting - 1) 0) (getD counts (waiting - 1) 0) (getD marks i 0)) (ez : z ≡ trapsOfKind k (getD counts (waiting - 1) 0)) (ea : a ≡ arityOf k) (em : m ≡ bit (meetsOf (getD anys i 0) (getD pending (waiting - 1) 0))) where
+  module _ {k : Kind} {last x y z a m : ℕ} (sets anys : List ℕ) (done : Filled false (programOf t) sets) (any : Filled true (programOf t) anys) (flagged : (j : ℕ) → j < size (programOf t) → getD marks₀ j 0 ≡ firstEnds (statementAt (nodes (programOf t)) j)) (ek : k ≡ kindOf (getD t (2 * i) 0)) (el : (i ≡ 0 → ⊥) → last ≡ getD sets (i - 1) 0) (ex : x ≡ leftOf k (getD pending (waiting - 1) 0) (getD counts (waiting - 1) 0) last) (ey : y ≡ rightOf k (getD pending (waiting - 1) 0) (getD counts (waiting - 1) 0) (getD marks i 0)) (ez : z ≡ trapsOfKind k (getD counts (waiting - 1) 0)) (ea : a ≡ arityOf k) (em : m ≡ bit (meetsOf (getD anys i 0) (getD pending (waiting - 1) 0))) where
     kind-is : k ≡ kindOf (kind (w .root))
-    kind-is = ek ∙ ap kindOf (kind-byte t readable i inside ∙ ap kind (here .statement))
+    kind-is = ek ∙ ap kindOf (kind-byte t (ok .readable) i inside ∙ ap kind (here .statement))
 
     arity-is : a ≡ childrenOf (w .root)
     arity-is = ea ∙ ap arityOf kind-is ∙ said (w .root) .taken
@@ -301,7 +269,7 @@ module _ {t : List ℕ} (readable : Readable t) (passes : placesCheck (placesOf 
     z-is = ez ∙ rw (kind-is, traps-is) refl
 
     contexts-below : Both (λ c. word (c .context)) (w .depth) (w .traps) (w .loops) (w .context) (w .root) x y
-    unfolding FilledTo
+    unfolding Filled
     contexts-below = go (w .root) (here .statement) x-is y-is
       where
         go : (s : Stmt) → statementAt (nodes (programOf t)) i ≡ s → x ≡ leftOf (kindOf (kind s)) (word (w .context)) (w .traps) last → y ≡ rightOf (kindOf (kind s)) (word (w .context)) (w .traps) (firstEnds s) → Both (λ c. word (c .context)) (w .depth) (w .traps) (w .loops) (w .context) s x y
@@ -322,7 +290,7 @@ module _ {t : List ℕ} (readable : Readable t) (passes : placesCheck (placesOf 
         go (two b q r) e = let v = e ∙ traps-two b q r (w .traps) in (v, v)
 
     mark-is : m ≡ mark (placeAt (programOf t) i)
-    unfolding FilledTo
+    unfolding Filled
     mark-is =
         em ∙ ap₂ (λ u v. bit (meetsOf u v)) (any i inside ∙ ap (λ s. word (anyInstantSet s)) (here .statement)) context-is
         ∙ ap bit (meets-word (anyInstantSet (w .root)) (w .context)) ∙ sym (ap mark (here .place))
@@ -336,10 +304,10 @@ module _ {t : List ℕ} (readable : Readable t) (passes : placesCheck (placesOf 
           pendingLong = simp length-set (o .pendingLong);
           countsLong = simp length-set (o .countsLong);
           pendingOn =
-              descended (λ c. word (c .context)) (w .depth) (w .traps) (w .loops) (w .context) (w .root) (here .below) pending (waiting - 1) x y index-is (omega (arith, fits, o .pendingLong)) contexts-below
+              put (λ c. word (c .context)) (w .depth) (w .traps) (w .loops) (w .context) (w .root) (here .below) pending (waiting - 1) x y index-is (omega (arith, fits, o .pendingLong)) contexts-below
               (below-is (λ c. word (c .context)) pending w (here .below) (rw (here .is) at (o .pendingOn)));
           countsOn =
-              descended (λ c. c .traps) (w .depth) (w .traps) (w .loops) (w .context) (w .root) (here .below) counts (waiting - 1) z z index-is (omega (arith, fits, o .countsLong)) traps-below
+              put (λ c. c .traps) (w .depth) (w .traps) (w .loops) (w .context) (w .root) (here .below) counts (waiting - 1) z z index-is (omega (arith, fits, o .countsLong)) traps-below
               (below-is (λ c. c .traps) counts w (here .below) (rw (here .is) at (o .countsOn)));
           contextsAre =
               ap (λ l. set l i (getD pending (waiting - 1) 0)) (o .contextsAre)

@@ -1,35 +1,16 @@
--- A buffer while a column is written into it from the first entry on.
-use mathlib.Core.Path.{_≡_, refl, sym, ap, _∙_}
+-- The columns of K, of A and of the flags.
+use mathlib.Core.Path.{_≡_, _∙_}
 use mathlib.Core.Bool.{Bool}
-use mathlib.Core.List.{List, [], _∷_, _++_, map}
-use Prim.Native.Nat.{ℕ, zero, suc, _+_, _≤_, _<_}
-use native.Mathlib.Numerals.{add-one}
-use native.Mathlib.Omega.{arith}
-use lib.ListN.{length, getD, take, drop, set, length-map, List·getD-map, List·getD-append, List·getD-eq-default}
-use lib.Seq.{take-length}
+use mathlib.Core.List.{List}
+use Prim.Native.Nat.{ℕ, _<_}
+use lib.ListN.{length, getD, List·getD-append}
 use Rattle.codes.specs.Codes.{word}
-use Rattle.esterel.specs.Statement.{nothing, Stmt, leaf, size, nodes}
+use Rattle.esterel.specs.Statement.{Stmt, size, nodes}
 use Rattle.esterel.specs.Outcome.{statementAt}
-use Rattle.esterel.proofs.Sizes.{length-nodes}
-use Rattle.table.proofs.Buffers.{front, front-all, front-suc, length-front, front-at}
+use Rattle.table.specs.Columns.{onto}
+use Rattle.table.proofs.Filling.{length-column, column-at}
 use Rattle.analysis.specs.Steps.{setOfStmt}
-use Rattle.analysis.specs.Passes.{wordsOf, FilledTo, onto, firstEnds, flagsOf}
-
--- any column of a program's listing, by its nodes
-module _ (f : Stmt → ℕ) (p : Stmt) where
-  pub length-column : length (map f (nodes p)) ≡ size p
-  length-column = length-map (nodes p) f ∙ length-nodes p
-
-  pub column-at : (i : ℕ) → i < size p → getD (map f (nodes p)) i 0 ≡ f (statementAt (nodes p) i)
-  column-at i h =
-      sym (List·getD-append (map f (nodes p)) (f (leaf nothing) ∷ []) 0 i (rw length-column h))
-      ∙ getD-any (map f (nodes p)) (f (leaf nothing)) i (rw length-column h)
-      ∙ List·getD-map f (nodes p) i (leaf nothing)
-    where
-      getD-any : (l : List ℕ) (d i : ℕ) → i < length l → getD (l ++ (d ∷ [])) i 0 ≡ getD l i d
-      getD-any [] d i h = absurd (omega arith)
-      getD-any (x ∷ l) d zero h = refl
-      getD-any (x ∷ l) d (suc i) h = getD-any l d i (omega arith)
+use Rattle.analysis.specs.Passes.{wordsOf, Filled, firstEnds, flagsOf}
 
 module _ (any : Bool) (p : Stmt) where
   pub length-words : length (wordsOf any p) ≡ size p
@@ -40,42 +21,10 @@ module _ (any : Bool) (p : Stmt) where
   unfolding wordsOf
   words-at = column-at (λ q. word (setOfStmt any q)) p
 
--- n entries of the column are to be written, and i of them are
-pub record Filling (column old now : List ℕ) (n i : ℕ) : Type 0 where
-  pub bound : i ≤ n
-  pub is : now ≡ front column old i
-
-module _ {column old now : List ℕ} {n i : ℕ} (has : n ≤ length column) (room : n ≤ length old) (o : Filling column old now n i) where
-  pub filling-length : length now ≡ length old
-  filling-length = ap length (o .is) ∙ length-front column old i (omega (arith, o .bound)) (omega (arith, o .bound))
-
-  pub filling-at : (j : ℕ) → j < i → getD now j 0 ≡ getD column j 0
-  filling-at j h = ap (λ l. getD l j 0) (o .is) ∙ front-at column old i j (omega (arith, o .bound)) h
-
-  pub filling-next : (v : ℕ) → i < n → v ≡ getD column i 0 → Filling column old (set now i v) n (i + 1)
-  filling-next v h e =
-      record {
-        bound = omega arith;
-        is = ap (λ l. set l i v) (o .is) ∙ front-suc column old i v (omega arith) (omega arith) e ∙ ap (front column old) (sym (add-one i));
-      }
-
-  pub filling-end : n ≤ i → now ≡ take n column ++ drop n old
-  filling-end h = let all : i ≡ n = omega (arith, o .bound) in o .is ∙ ap (front column old) all
-
--- the whole column
-pub whole : (column old : List ℕ) (n : ℕ) → length column ≡ n → take n column ++ drop n old ≡ onto column old
-whole column old n e = rw (← e, take-length column) refl
-
--- the words of the nodes
-module _ (any : Bool) (p : Stmt) where
-  pub words-to : {old now : List ℕ} {i : ℕ} → size p ≤ length old → Filling (wordsOf any p) old now (size p) i → FilledTo any p i now
-  unfolding FilledTo
-  words-to room o j h =
-      filling-at (omega (arith, length-words any p)) room o j h ∙ words-at any p j (omega (arith, o .bound))
-
-  pub filled-to : (old : List ℕ) → FilledTo any p (size p) (onto (wordsOf any p) old)
-  unfolding FilledTo
-  filled-to old j h = List·getD-append (wordsOf any p) _ 0 j (rw (length-words any p) h) ∙ words-at any p j h
+-- the whole column has the word of each node
+pub filled : (any : Bool) (p : Stmt) (old : List ℕ) → Filled any p (onto (wordsOf any p) old)
+unfolding Filled
+filled any p old j h = List·getD-append (wordsOf any p) _ 0 j (rw (length-words any p) h) ∙ words-at any p j h
 
 pub length-flags : (p : Stmt) → length (flagsOf p) ≡ size p
 unfolding flagsOf

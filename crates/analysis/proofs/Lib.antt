@@ -1,8 +1,8 @@
 pub mod Steps
 pub mod Nodes
 pub mod Filling
+pub mod Unused
 pub mod Loops
-pub mod Flags
 pub mod Contexts
 pub mod Accepts
 pub mod Analyses

@@ -1,78 +1,21 @@
--- Check 11 at a node, and over the nodes.
-use mathlib.Core.Path.{_≡_, refl, sym, ap, _∙_}
+-- Check 11 over the nodes: the search for the lowest loop.
+use mathlib.Core.Path.{_≡_, sym, ap, _∙_}
 use mathlib.Core.Bool.{Bool, true, false}
 use mathlib.Core.Option.{some}
 use mathlib.Core.List.{List, _∷_}
-use Prim.Native.Nat.{ℕ, suc, _+_, _-_, _*_, _≤_, _<_}
+use Prim.Native.Nat.{ℕ, suc, _+_, _≤_, _<_}
 use native.Mathlib.Numerals.{add-one}
 use native.Mathlib.Omega.{arith}
-use lib.ListN.{length, getD, drop, drop-of-length-le}
+use lib.ListN.{length, drop, drop-of-length-le}
 use lib.Seq.{drop-cons}
-use Rattle.codes.specs.Codes.{empty, word}
-use Rattle.codes.specs.Words.{_∋_}
-use Rattle.codes.proofs.Laws.{∋-word}
-use Rattle.esterel.specs.Statement.{nothing, pause, emit, exit, signal, suspend, loop, trap, present, sequence, parallel, Stmt, leaf, one, two, kind, size, nodes}
-use Rattle.esterel.specs.Sets.{startSet, at, placesOf}
+use Rattle.esterel.specs.Codes.{empty}
+use Rattle.esterel.specs.Statement.{nothing, Stmt, leaf, size}
+use Rattle.esterel.specs.Sets.{at, placesOf}
 use Rattle.esterel.specs.Checks.{firstNode, endsAtOnce}
-use Rattle.esterel.specs.Outcome.{statementAt}
 use Rattle.esterel.proofs.Accepted.{length-places}
-use Rattle.esterel.proofs.LoopCheck.{loopEnds, ends-at}
-use Rattle.esterel.proofs.Sizes.{size-pos}
-use Rattle.esterel.proofs.Subtrees.{only-child}
-use Rattle.table.specs.Kinds.{kindOf, isLoop}
-use Rattle.table.specs.Program.{programOf, Readable}
 use Rattle.table.specs.Check.{refuseFound}
-use Rattle.table.specs.declared.Kind.{Kind}
 use Rattle.table.specs.declared.Check.the-variants.{Passed, Refused}
-use Rattle.table.proofs.View.{kind-byte}
-use Rattle.analysis.specs.Steps.{setOfStmt}
-use Rattle.analysis.specs.Passes.{FilledTo, loopsCheck, placeAt}
-
--- by its kind: a loop, and its body's K has 0; or no loop
-data Ending (w : Stmt) : Bool → Type 0 where
-  isLoopOf : (q : Stmt) → w ≡ one loop q → Ending w true
-  isNone : loopEnds w ≡ false → Ending w false
-
-ending : (w : Stmt) → Ending w (isLoop (kindOf (kind w)))
-unfolding kindOf
-ending (leaf nothing) = isNone refl
-ending (leaf pause) = isNone refl
-ending (leaf (emit s)) = isNone refl
-ending (leaf (exit level)) = isNone refl
-ending (one (signal s) q) = isNone refl
-ending (one (suspend s) q) = isNone refl
-ending (one loop q) = isLoopOf q refl
-ending (one trap q) = isNone refl
-ending (two (present s) q r) = isNone refl
-ending (two sequence q r) = isNone refl
-ending (two parallel q r) = isNone refl
-
-module _ {t : List ℕ} (ok : Readable t) (i : ℕ) (h : i < size (programOf t)) {k : Kind} {b : Bool} (ek : k ≡ kindOf (getD t (2 * i) 0)) (eb : b ≡ isLoop k) where
-  ending-here : Ending (statementAt (nodes (programOf t)) i) b
-  ending-here = rw (eb, ek, kind-byte t ok i h) (ending (statementAt (nodes (programOf t)) i))
-
-  pub no-loop : b ≡ false → false ≡ endsAtOnce (placeAt (programOf t) i)
-  no-loop e = go (rw e at ending-here)
-    where
-      go : Ending (statementAt (nodes (programOf t)) i) false → false ≡ endsAtOnce (placeAt (programOf t) i)
-      go (isNone z) = sym (ends-at (programOf t) i ∙ z)
-
-  module _ (e : b ≡ true) where
-    pub loop-body : 0 < i
-    loop-body = go (rw e at ending-here)
-      where
-        go : Ending (statementAt (nodes (programOf t)) i) true → 0 < i
-        go (isLoopOf q z) = omega (arith, only-child (programOf t) i loop q z .0, size-pos q)
-
-    pub loop-ends : (sets : List ℕ) → FilledTo false (programOf t) i sets → (r : Bool) → r ≡ (getD sets (i - 1) 0 ∋ 0) → r ≡ endsAtOnce (placeAt (programOf t) i)
-    unfolding FilledTo
-    loop-ends sets done r er = go (rw e at ending-here)
-      where
-        go : Ending (statementAt (nodes (programOf t)) i) true → r ≡ endsAtOnce (placeAt (programOf t) i)
-        go (isLoopOf q z) =
-            let (le, child) = only-child (programOf t) i loop q z in
-            let body : getD sets (i - 1) 0 ≡ word (startSet q) = done (i - 1) (omega (arith, size-pos q)) ∙ ap (λ x. word (setOfStmt false x)) child in
-            er ∙ ap (λ x. x ∋ 0) body ∙ ∋-word (startSet q) 0 (omega arith) ∙ sym (ends-at (programOf t) i ∙ ap loopEnds z)
+use Rattle.analysis.specs.Passes.{loopsCheck, placeAt}
 
 -- none found before node i
 pub record Searched (p : Stmt) (i : ℕ) : Type 0 where

@@ -4,9 +4,9 @@ use mathlib.Core.Bool.{Bool, true, false, cond, or-false}
 use mathlib.Core.Logic.{⊎-elim}
 use mathlib.Core.Option.{Option}
 use mathlib.Core.List.{List, []}
-use Prim.Native.Nat.{ℕ, zero, suc, _+_, _-_, _*_, _≤_, _<_}
+use Prim.Native.Nat.{ℕ, _+_, _-_, _*_, _≤_, _<_}
 use native.Mathlib.Omega.{arith}
-use lib.ListN.{length, getD}
+use lib.ListN.{getD}
 use Rattle.codes.specs.Codes.{Codes, only, union, given, withoutEnded, word}
 use Rattle.codes.specs.Words.{_∋_, unionOf, withoutEndedOf}
 use Rattle.codes.proofs.Bools.{either, cannot-pass}
@@ -18,18 +18,17 @@ use Rattle.esterel.specs.Checks.{firstNode, tooDeep, tooManyTraps, uncaught}
 use Rattle.esterel.specs.Outcome.{statementAt}
 use Rattle.esterel.proofs.Accepted.{Passes, first-passes}
 use Rattle.esterel.proofs.Caught.{codes-few}
-use Rattle.esterel.proofs.Sizes.{size-pos}
-use Rattle.esterel.proofs.Subtrees.{only-child, two-children}
-use Rattle.table.specs.Kinds.{kindOf, arityOf}
+use Rattle.esterel.proofs.Subtrees.{only-child}
+use Rattle.table.specs.Kinds.{kindOf}
 use Rattle.table.specs.Program.{programOf}
 use Rattle.table.specs.Check.{refuseFound, placesCheck}
 use Rattle.table.specs.declared.Kind.{Kind}
 use Rattle.table.specs.declared.Kind.the-variants.{Exit}
 use Rattle.table.specs.declared.Check.{Check}
 use Rattle.table.specs.declared.Check.the-variants.{Passed}
-use Rattle.table.proofs.View.{childCount, arity-of, kind-byte, field-byte, table-length}
+use Rattle.table.proofs.View.{kind-byte, field-byte}
 use Rattle.analysis.specs.Steps.{pauseSet, setOfStmt, sequenceOf, codesOf}
-use Rattle.analysis.specs.Passes.{Surveyable, FilledTo}
+use Rattle.analysis.specs.Passes.{Placed}
 
 -- the checks of places that passed
 found-none : (number : ℕ) (o : Option ℕ) (next : Check) → refuseFound number o next ≡ Passed → (o ≡ Option.none) × (next ≡ Passed)
@@ -75,12 +74,12 @@ module _ (any : Bool) where
   leaf-step (emit s) x y = singleton-word 0
   leaf-step (exit level) x y = singleton-word (2 + level)
 
-  one-step : (u : Unary) (q : Stmt) (x : ℕ) → setOfStmt any q 64 ≡ false → codesOf any (kindOf (kind (one u q))) (field (one u q)) x (word (setOfStmt any q)) ≡ word (setOfStmt any (one u q))
+  one-step : (u : Unary) (q : Stmt) (y : ℕ) → setOfStmt any q 64 ≡ false → codesOf any (kindOf (kind (one u q))) (field (one u q)) (word (setOfStmt any q)) y ≡ word (setOfStmt any (one u q))
   unfolding kindOf
-  one-step (signal s) q x h = refl
-  one-step (suspend s) q x h = refl
-  one-step loop q x h = without-ended-word (setOfStmt any q)
-  one-step trap q x h = caught-word (setOfStmt any q) h
+  one-step (signal s) q y h = refl
+  one-step (suspend s) q y h = refl
+  one-step loop q y h = without-ended-word (setOfStmt any q)
+  one-step trap q y h = caught-word (setOfStmt any q) h
 
   two-step : (b : Binary) (q r : Stmt) → codesOf any (kindOf (kind (two b q r))) (field (two b q r)) (word (setOfStmt any q)) (word (setOfStmt any r)) ≡ word (setOfStmt any (two b q r))
   unfolding kindOf
@@ -88,106 +87,54 @@ module _ (any : Bool) where
   two-step sequence q r = sequence-word (setOfStmt any q) (setOfStmt any r)
   two-step parallel q r = parallel-word (setOfStmt any q) (setOfStmt any r)
 
-module _ {t sizes : List ℕ} (ok : Surveyable t sizes) (any : Bool) (i : ℕ) (h : i < size (programOf t)) where
-  abbrev here : Stmt
-  here = statementAt (nodes (programOf t)) i
+-- x and y are the words of a statement's children: x of the only one or the first, y of the second
+abbrev pub Children : Bool → Stmt → (x y : ℕ) → Type 0
+Children any (leaf l) x y = Unit {0}
+Children any (one u q) x y = x ≡ word (setOfStmt any q)
+Children any (two b q r) x y = (x ≡ word (setOfStmt any q)) × (y ≡ word (setOfStmt any r))
 
-  pub in-table : 2 * i + 1 < length t
-  in-table = omega (arith, table-length t (ok .readable))
-
-  pub in-sizes : i < length sizes
-  in-sizes = omega (arith, ok .listed)
-
-  few : (j k : ℕ) → setOfStmt any (statementAt (nodes (programOf t)) j) k ≡ true → k ≤ 33
-  few j k e =
+module _ {t : List ℕ} (ok : Placed t) where
+  -- no code is above 33
+  few : (any : Bool) (j k : ℕ) → setOfStmt any (statementAt (nodes (programOf t)) j) k ≡ true → k ≤ 33
+  few any j k e =
       let pass = places-pass (placesOf (programOf t)) (ok .passes) in
       codes-few (programOf t) (pass .traps) (pass .exits) (pauseSet any) (pause-few any) j k e
 
   -- the level of an exit
-  exit-low : (w : Stmt) → here ≡ w → kindOf (kind w) ≡ Exit → field w < 62
+  exit-low : (i : ℕ) (w : Stmt) → statementAt (nodes (programOf t)) i ≡ w → kindOf (kind w) ≡ Exit → field w < 62
   unfolding kindOf
-  exit-low (leaf nothing) e z = let y : _≡_ {A = ℕ} 0 1 = cc in absurd (omega arith)
-  exit-low (leaf pause) e z = let y : _≡_ {A = ℕ} 0 1 = cc in absurd (omega arith)
-  exit-low (leaf (emit s)) e z = let y : _≡_ {A = ℕ} 0 1 = cc in absurd (omega arith)
-  exit-low (leaf (exit level)) e z = omega (arith, few i (2 + level) (rw e (only-in (2 + level))))
-  exit-low (one (signal s) q) e z = let y : _≡_ {A = ℕ} 0 1 = cc in absurd (omega arith)
-  exit-low (one (suspend s) q) e z = let y : _≡_ {A = ℕ} 0 1 = cc in absurd (omega arith)
-  exit-low (one loop q) e z = let y : _≡_ {A = ℕ} 0 1 = cc in absurd (omega arith)
-  exit-low (one trap q) e z = let y : _≡_ {A = ℕ} 0 1 = cc in absurd (omega arith)
-  exit-low (two (present s) q r) e z = let y : _≡_ {A = ℕ} 0 1 = cc in absurd (omega arith)
-  exit-low (two sequence q r) e z = let y : _≡_ {A = ℕ} 0 1 = cc in absurd (omega arith)
-  exit-low (two parallel q r) e z = let y : _≡_ {A = ℕ} 0 1 = cc in absurd (omega arith)
+  exit-low i (leaf nothing) e z = let y : _≡_ {A = ℕ} 0 1 = cc in absurd (omega arith)
+  exit-low i (leaf pause) e z = let y : _≡_ {A = ℕ} 0 1 = cc in absurd (omega arith)
+  exit-low i (leaf (emit s)) e z = let y : _≡_ {A = ℕ} 0 1 = cc in absurd (omega arith)
+  exit-low i (leaf (exit level)) e z = omega (arith, few false i (2 + level) (rw e (only-in (2 + level))))
+  exit-low i (one (signal s) q) e z = let y : _≡_ {A = ℕ} 0 1 = cc in absurd (omega arith)
+  exit-low i (one (suspend s) q) e z = let y : _≡_ {A = ℕ} 0 1 = cc in absurd (omega arith)
+  exit-low i (one loop q) e z = let y : _≡_ {A = ℕ} 0 1 = cc in absurd (omega arith)
+  exit-low i (one trap q) e z = let y : _≡_ {A = ℕ} 0 1 = cc in absurd (omega arith)
+  exit-low i (two (present s) q r) e z = let y : _≡_ {A = ℕ} 0 1 = cc in absurd (omega arith)
+  exit-low i (two sequence q r) e z = let y : _≡_ {A = ℕ} 0 1 = cc in absurd (omega arith)
+  exit-low i (two parallel q r) e z = let y : _≡_ {A = ℕ} 0 1 = cc in absurd (omega arith)
 
-  -- the kind and the field that the code has read, and the children that it counts
-  module _ {k : Kind} {f c : ℕ} (ek : k ≡ kindOf (getD t (2 * i) 0)) (ef : f ≡ getD t (2 * i + 1) 0) (ec : c ≡ arityOf k) where
-    kind-is : k ≡ kindOf (kind here)
+  -- node i, with the kind and the field that the code has read
+  module _ (i : ℕ) (h : i < size (programOf t)) {k : Kind} {f : ℕ} (ek : k ≡ kindOf (getD t (2 * i) 0)) (ef : f ≡ getD t (2 * i + 1) 0) where
+    abbrev here : Stmt
+    here = statementAt (nodes (programOf t)) i
+
+    pub kind-is : k ≡ kindOf (kind here)
     kind-is = ek ∙ ap kindOf (kind-byte t (ok .readable) i h)
 
     field-is : f ≡ field here
     field-is = ef ∙ field-byte t (ok .readable) i h
 
     pub exit-field : k ≡ Exit → f < 62
-    exit-field e = rw field-is (exit-low here refl (sym kind-is ∙ e))
+    exit-field e = rw field-is (exit-low i here refl (sym kind-is ∙ e))
 
-    count-is : c ≡ childCount here
-    count-is = ec ∙ ap arityOf kind-is ∙ arity-of here
-
-    step-is : (r x y : ℕ) → r ≡ codesOf any k f x y → codesOf any (kindOf (kind here)) (field here) x y ≡ word (setOfStmt any here) → r ≡ word (setOfStmt any here)
-    step-is r x y e z = e ∙ ap₂ (λ q g. codesOf any q g x y) kind-is field-is ∙ z
-
-    pub no-child : (r : ℕ) → c ≡ 0 → r ≡ codesOf any k f 0 0 → r ≡ word (setOfStmt any here)
-    no-child r z e = step-is r 0 0 e (go here refl)
+    pub own-word : (any : Bool) (w : Stmt) (x y : ℕ) → here ≡ w → Children any w x y → codesOf any k f x y ≡ word (setOfStmt any w)
+    own-word any w x y e c = ap₂ (λ a b. codesOf any a b x y) (kind-is ∙ ap (λ s. kindOf (kind s)) e) (field-is ∙ ap field e) ∙ go w e c
       where
-        go : (w : Stmt) → here ≡ w → codesOf any (kindOf (kind w)) (field w) 0 0 ≡ word (setOfStmt any w)
-        go (leaf l) q = leaf-step any l 0 0
-        go (one u p) q = absurd (omega (arith, count-is ∙ ap childCount q))
-        go (two b p r) q = absurd (omega (arith, count-is ∙ ap childCount q))
-
-    -- the children stand before the node
-    pub has-last : (c ≡ 0 → ⊥) → 0 < i
-    has-last z = go here refl
-      where
-        go : (w : Stmt) → here ≡ w → 0 < i
-        go (leaf l) q = absurd (z (count-is ∙ ap childCount q))
-        go (one u p) q = omega (arith, only-child (programOf t) i u p q .0, size-pos p)
-        go (two b p r) q = omega (arith, two-children (programOf t) i b p r q .0, size-pos p)
-
-    module _ (sets : List ℕ) (done : FilledTo any (programOf t) i sets) where
-      pub one-child : (r last : ℕ) → c ≡ 1 → last ≡ getD sets (i - 1) 0 → r ≡ codesOf any k f 0 last → r ≡ word (setOfStmt any here)
-      unfolding FilledTo
-      one-child r last z el e = step-is r 0 last e (go here refl)
-        where
-          go : (w : Stmt) → here ≡ w → codesOf any (kindOf (kind w)) (field w) 0 last ≡ word (setOfStmt any w)
-          go (leaf l) q = absurd (omega (arith, count-is ∙ ap childCount q))
-          go (one u p) q =
-              let (le, child) = only-child (programOf t) i u p q in
-              let word-is : last ≡ word (setOfStmt any p) = el ∙ done (i - 1) (omega (arith, size-pos p)) ∙ ap (λ x. word (setOfStmt any x)) child in
-              let none : setOfStmt any p 64 ≡ false = cannot-pass (setOfStmt any p 64) (λ x. omega (arith, few (i - 1) 64 (rw child x))) in
-              rw word-is (one-step any u p 0 none)
-          go (two b p r) q = absurd (omega (arith, count-is ∙ ap childCount q))
-
-      module _ (c≢0 : c ≡ 0 → ⊥) (c≢1 : c ≡ 1 → ⊥) (s : ℕ) (es : s ≡ getD sizes (i - 1) 0) where
-        -- the first of two children ends right before the second begins
-        pub has-first : s ≤ i - 1
-        has-first = go here refl
-          where
-            go : (w : Stmt) → here ≡ w → s ≤ i - 1
-            go (leaf l) q = absurd (c≢0 (count-is ∙ ap childCount q))
-            go (one u p) q = absurd (c≢1 (count-is ∙ ap childCount q))
-            go (two b p r) q =
-                let (le, right, left) = two-children (programOf t) i b p r q in
-                omega (arith, ok .sized (i - 1) (omega arith) ∙ ap size right, size-pos p)
-
-        pub two-child : (r first last : ℕ) → last ≡ getD sets (i - 1) 0 → first ≡ getD sets (i - 1 - s) 0 → r ≡ codesOf any k f first last → r ≡ word (setOfStmt any here)
-        unfolding FilledTo
-        two-child r first last el ef′ e = step-is r first last e (go here refl)
-          where
-            go : (w : Stmt) → here ≡ w → codesOf any (kindOf (kind w)) (field w) first last ≡ word (setOfStmt any w)
-            go (leaf l) q = absurd (c≢0 (count-is ∙ ap childCount q))
-            go (one u p) q = absurd (c≢1 (count-is ∙ ap childCount q))
-            go (two b p r) q =
-                let (le, right, left) = two-children (programOf t) i b p r q in
-                let second : s ≡ size r = es ∙ ok .sized (i - 1) (omega (arith, size-pos p)) ∙ ap size right in
-                let last-is : last ≡ word (setOfStmt any r) = el ∙ done (i - 1) (omega (arith, size-pos p)) ∙ ap (λ x. word (setOfStmt any x)) right in
-                let first-is : first ≡ word (setOfStmt any p) = ef′ ∙ done (i - 1 - s) (omega (arith, size-pos p)) ∙ ap (λ x. word (setOfStmt any (statementAt (nodes (programOf t)) (i - 1 - x)))) second ∙ ap (λ x. word (setOfStmt any x)) left in
-                rw (last-is, first-is) (two-step any b p r)
+        go : (w : Stmt) → here ≡ w → Children any w x y → codesOf any (kindOf (kind w)) (field w) x y ≡ word (setOfStmt any w)
+        go (leaf l) e c = leaf-step any l x y
+        go (one u q) e c =
+            let (le, child) = only-child (programOf t) i u q e in
+            rw c (one-step any u q y (cannot-pass (setOfStmt any q 64) (λ z. omega (arith, few any (i - 1) 64 (rw child z)))))
+        go (two b q r) e c = rw (c .0, c .1) (two-step any b q r)

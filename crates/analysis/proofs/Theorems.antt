@@ -27,12 +27,12 @@ use Rattle.esterel.proofs.Caught.{codes-few}
 use Rattle.esterel.proofs.LoopCheck.{decides}
 use Rattle.esterel.proofs.Refusals.{Told, refuses, told-numbered, length-told, program-told, length-first}
 use Rattle.esterel.proofs.Theorems.{exactness, loopCheck}
-use Rattle.analysis.specs.Passes.{FilledTo, wordsOf, onto}
+use Rattle.analysis.specs.Passes.{Filled, wordsOf, onto}
 use Rattle.analysis.specs.Analysis.{checked, roomFor, verdictFor, answerOf, kOf, aOf, sOf, markOf, column, Analysis}
 use Rattle.analysis.specs.Theorems.{Lent, ByLoops, ExactSets, Unchanged, Demand2OfCall}
 use Rattle.analysis.specs.declared.Analysed.{Analysed}
 use Rattle.analysis.specs.declared.Analysed.the-variants.{Done, Refused}
-use Rattle.analysis.proofs.Filling.{filled-to}
+use Rattle.analysis.proofs.Filling.{filled}
 use Rattle.analysis.proofs.Analyses.{starts-column}
 
 -- ---- the call's verdict and the table's
@@ -113,14 +113,14 @@ bit-of a low k = go (decLt k 64)
 
 module _ {t k a s m k′ a′ s′ m′ : List ℕ} {n d : ℕ} (o : Analysis t k a s m k′ a′ s′ m′ (Done n d)) where
   exact-sets : ExactSets t k′ n d
-  unfolding column FilledTo
+  unfolding column Filled
   exact-sets =
       let (p, v, en, ed) = done-of (verdictFor t k a s m) n d (o .answer) in
       let accepted = checked-passed _ t p v in
       let sound = acceptance t p accepted .1 in
-      let filled : k′ ≡ onto (wordsOf false p) k = o .startsAre ∙ ap (λ x. column kOf x k) v ∙ ap (λ x. onto x k) (starts-column p) in
+      let column-is : k′ ≡ onto (wordsOf false p) k = o .startsAre ∙ ap (λ x. column kOf x k) v ∙ ap (λ x. onto x k) (starts-column p) in
       let low : (i j : ℕ) → startSet (statementAt (nodes p) i) j ≡ true → j < 64 = λ i j e. omega (arith, codes-few p (passes p sound .traps) (passes p sound .exits) (only 1) (λ x z. omega (arith, only-out 1 x z)) i j e) in
-      let entry : (i j : ℕ) → i < n → (getD k′ i 0 ∋ j) ≡ startSet (statementAt (nodes p) i) j = λ i j h. ap (λ x. getD x i 0 ∋ j) filled ∙ ap (λ x. x ∋ j) (filled-to false p k i (omega arith)) ∙ bit-of (startSet (statementAt (nodes p) i)) (low i) j in
+      let entry : (i j : ℕ) → i < n → (getD k′ i 0 ∋ j) ≡ startSet (statementAt (nodes p) i) j = λ i j h. ap (λ x. getD x i 0 ∋ j) column-is ∙ ap (λ x. x ∋ j) (filled false p k i (omega arith)) ∙ bit-of (startSet (statementAt (nodes p) i)) (low i) j in
       record {
         program = p;
         accepted = accepted;

@@ -1,9 +1,9 @@
 -- What the passes over an accepted table leave in their buffers.
-use Prim.Native.Nat.{ℕ, _*_, _<_, _≤_}
+use Prim.Native.Nat.{ℕ, _<_, _≤_}
 use mathlib.Core.Path.{_≡_}
 use mathlib.Core.Bool.{Bool, true, false}
-use mathlib.Core.List.{List, [], _++_, map}
-use lib.ListN.{length, getD, take, drop}
+use mathlib.Core.List.{List, [], map}
+use lib.ListN.{length, getD}
 use Rattle.codes.specs.Codes.{empty, bit, word}
 use Rattle.esterel.specs.Statement.{nothing, Unary, Binary, present, sequence, parallel, Stmt, leaf, one, two, size, nodes, loopDepth}
 use Rattle.esterel.specs.Sets.{startSet, Place, at, placesOf, mark}
@@ -11,30 +11,25 @@ use Rattle.esterel.specs.Table.{passed, scan}
 use Rattle.esterel.specs.Checks.{firstNode, endsAtOnce, checkProgram}
 use Rattle.esterel.specs.Outcome.{statementAt}
 use Rattle.table.specs.Program.{programOf, Readable}
+pub use Rattle.table.specs.Columns.{onto}
 use Rattle.table.specs.Check.{refuseFound, placesCheck, answerOf}
 use Rattle.table.specs.declared.Check.{Check}
 use Rattle.table.specs.declared.Check.the-variants.{Passed}
 use Rattle.analysis.specs.Steps.{setOfStmt}
 use Rattle.analysis.specs.declared.Acceptance.{Acceptance}
 
--- a table that passes checks 1, 2 and 4 to 10, with the sizes of its subtrees
-pub record Surveyable (t sizes : List ℕ) : Type 0 where
+-- a table that passes checks 1, 2 and 4 to 10
+pub record Placed (t : List ℕ) : Type 0 where
   pub readable : Readable t
   pub passes : placesCheck (placesOf (programOf t)) 0 ≡ Passed
-  pub sized : (j : ℕ) → j < size (programOf t) → getD sizes j 0 ≡ size (statementAt (nodes (programOf t)) j)
-  pub listed : size (programOf t) ≤ length sizes
 
 -- the words of all nodes
 unfoldable pub wordsOf : Bool → Stmt → List ℕ
 wordsOf any p = map (λ q. word (setOfStmt any q)) (nodes p)
 
--- the first i entries are the words of the first i nodes
-unfoldable pub FilledTo : Bool → Stmt → ℕ → List ℕ → Type 0
-FilledTo any p i sets = (j : ℕ) → j < i → getD sets j 0 ≡ word (setOfStmt any (statementAt (nodes p) j))
-
--- a column of the listing, then what stood in the buffer before
-abbrev pub onto : List ℕ → List ℕ → List ℕ
-onto column old = column ++ drop (length column) old
+-- each node's entry is its word
+unfoldable pub Filled : Bool → Stmt → List ℕ → Type 0
+Filled any p sets = (j : ℕ) → j < size p → getD sets j 0 ≡ word (setOfStmt any (statementAt (nodes p) j))
 
 -- check 11
 unfoldable pub loopsCheck : Stmt → Check
@@ -55,6 +50,13 @@ firstEnds (two parallel p q) = 0
 unfoldable pub flagsOf : Stmt → List ℕ
 flagsOf p = map firstEnds (nodes p)
 
+-- what the pass that fills in K, A and these bytes needs: a table that passes checks 1 to 10, and room
+pub record Fillable (t starts anys flags : List ℕ) : Type 0 where
+  pub placed : Placed t
+  pub startsRoom : size (programOf t) ≤ length starts
+  pub anysRoom : size (programOf t) ≤ length anys
+  pub flagsRoom : size (programOf t) ≤ length flags
+
 -- the contexts of all nodes, and their marks
 abbrev pub contextWord : Place → ℕ
 contextWord (at depth traps S p) = word S
@@ -67,25 +69,22 @@ marksOf p = map mark (placesOf p)
 
 -- what the walk over the contexts needs: a table that passes checks 1 to 10, its K and A, and the flags in place of the marks
 pub record Walkable (t sets anys contexts marks : List ℕ) : Type 0 where
-  pub readable : Readable t
-  pub passes : placesCheck (placesOf (programOf t)) 0 ≡ Passed
-  pub starts : FilledTo false (programOf t) (size (programOf t)) sets
+  pub placed : Placed t
+  pub starts : Filled false (programOf t) sets
   pub startsRoom : size (programOf t) ≤ length sets
-  pub any : FilledTo true (programOf t) (size (programOf t)) anys
+  pub any : Filled true (programOf t) anys
   pub anyRoom : size (programOf t) ≤ length anys
   pub flags : (j : ℕ) → j < size (programOf t) → getD marks j 0 ≡ firstEnds (statementAt (nodes (programOf t)) j)
   pub room : size (programOf t) ≤ length contexts
   pub marksRoom : size (programOf t) ≤ length marks
 
--- a table that passes checks 4 to 11, with the sizes of its subtrees and its start sets
-pub record Ready (t sizes sets : List ℕ) : Type 0 where
+-- a table that passes checks 4 to 11
+pub record Ready (t : List ℕ) : Type 0 where
   pub verdict : checkProgram (scan t 0 []) ≡ passed (programOf t)
-  pub surveyable : Surveyable t sizes
-  pub starts : take (size (programOf t)) sets ≡ wordsOf false (programOf t)
-  pub room : size (programOf t) ≤ length sets
+  pub placed : Placed t
 
--- what checks 4 to 11 answer and leave
-pub record Accepting (t sizes sets : List ℕ) (r : Acceptance) : Type 0 where
+-- what checks 4 to 11 answer
+pub record Accepting (t : List ℕ) (r : Acceptance) : Type 0 where
   pub answer : r .check ≡ answerOf (checkProgram (scan t 0 []))
   pub loops : r .check ≡ Passed → r .loops ≡ loopDepth (programOf t)
-  pub ready : r .check ≡ Passed → Ready t sizes sets
+  pub ready : r .check ≡ Passed → Ready t

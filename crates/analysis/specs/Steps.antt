@@ -1,5 +1,5 @@
--- One node's set from its children's, on 64-bit words: what the passes compute. `last` is the word of the only child or of the second,
--- `first` that of the first of two.
+-- One node's set from its children's, on 64-bit words: what the passes compute. `first` is the word of the only child or of the first
+-- of two, `second` that of the second.
 use Prim.Native.Nat.{ℕ, zero, suc, _+_}
 use mathlib.Core.Bool.{Bool, true, false, cond}
 use Rattle.codes.specs.Codes.{Codes, only, union, word}
@@ -21,18 +21,18 @@ setOfStmt any = codes (pauseSet any)
 unfoldable pub sequenceOf : (first second : ℕ) → ℕ
 sequenceOf x y = cond (x ∋ 0) (unionOf (withoutEndedOf x) y) (withoutEndedOf x)
 
-abbrev pub codesOf : Bool → Kind → (field first last : ℕ) → ℕ
+abbrev pub codesOf : Bool → Kind → (field first second : ℕ) → ℕ
 codesOf any Nothing f x y = singletonOf 0
 codesOf any Pause f x y = word (pauseSet any)
 codesOf any Emit f x y = singletonOf 0
 codesOf any Exit f x y = singletonOf (2 + f)
-codesOf any Signal f x y = y
+codesOf any Signal f x y = x
 codesOf any Present f x y = unionOf x y
-codesOf any Suspend f x y = y
-codesOf any Loop f x y = withoutEndedOf y
+codesOf any Suspend f x y = x
+codesOf any Loop f x y = withoutEndedOf x
 codesOf any Sequence f x y = sequenceOf x y
 codesOf any Parallel f x y = parallelOf x y
-codesOf any Trap f x y = caughtOf y
+codesOf any Trap f x y = caughtOf x
 codesOf any Unknown f x y = 0
 
 -- Contexts of the children, on words: P is the node's own, t the traps around it.

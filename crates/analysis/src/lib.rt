@@ -1,20 +1,17 @@
 // The analysis of a table: start sets K, any-instant sets A, contexts S and marks.
 ghost use mathlib.Core.Path.{_≡_};
-ghost use mathlib.Core.List.{_++_};
-ghost use mathlib.Core.Bool.{false};
-ghost use Prim.Native.Nat.{ℕ, _+_, _-_, _*_, _<_, _≤_};
-ghost use lib.ListN.{length, getD, take, drop};
-ghost use Rattle.codes.specs.Words.{singletonOf, meetsOf};
+ghost use mathlib.Core.Bool.{true, false, _&&_};
+ghost use Prim.Native.Nat.{_+_, _-_, _<_, _≤_};
+ghost use lib.ListN.{length, getD, set};
+ghost use Rattle.codes.specs.Words.{_∋_, singletonOf, meetsOf};
 ghost use Rattle.codes.specs.Codes.{bit, word};
-ghost use Rattle.esterel.specs.Limits.{maxNodes};
-ghost use Rattle.esterel.specs.Statement.{size, nodes};
-ghost use Rattle.esterel.specs.Outcome.{statementAt};
-ghost use Rattle.esterel.specs.Checks.{endsAtOnce};
+ghost use Rattle.esterel.specs.Limits.{maxDepth};
 ghost use Rattle.table.specs.declared.Kind.the-variants.{Exit};
-ghost use Rattle.table.specs.Program.{programOf, Readable};
+ghost use Rattle.table.specs.Kinds.{isLoop, isSequence};
+ghost use Rattle.table.specs.Program.{programOf};
 ghost use Rattle.table.specs.Check.{WellSized, passIf};
-ghost use Rattle.analysis.specs.Steps.{pauseSet, setOfStmt, sequenceOf, codesOf, underFirstOf, underSecondOf, leftOf, rightOf, trapsOf};
-ghost use Rattle.analysis.specs.Passes.{Surveyable, FilledTo, wordsOf, onto, loopsCheck, placeAt, firstEnds, flagsOf, contextsOf, marksOf, Walkable, Accepting};
+ghost use Rattle.analysis.specs.Steps.{pauseSet, sequenceOf, codesOf, underFirstOf, underSecondOf, leftOf, rightOf, trapsOf};
+ghost use Rattle.analysis.specs.Passes.{Placed, onto, loopsCheck, wordsOf, flagsOf, Fillable, contextsOf, marksOf, Walkable, Accepting};
 ghost use Rattle.analysis.specs.Analysis.{refusalOf, roomFor, Analysis};
 use table::Check;
 use table::Kind;
@@ -45,125 +42,106 @@ fn exit_codes(level: usize) -> u64
     codes::singleton(2 + level as u32)
 }
 
-// The codes of a node from those of its children.
-fn codes_of(any: bool, kind: Kind, field: usize, first: u64, last: u64) -> u64
+// The codes of a node from those of its children: of the only one or the first, and of the second.
+fn codes_of(any: bool, kind: Kind, field: usize, first: u64, second: u64) -> u64
     requires { ⌜ (kind ≡ Exit → field < 62) ⌝ }
-    ensures { λ r. ⌜ r ≡ codesOf any kind field first last ⌝ }
+    ensures { λ r. ⌜ r ≡ codesOf any kind field first second ⌝ }
 {
     match kind {
         Kind::Nothing => codes::singleton(0),
         Kind::Pause => pause_codes(any),
         Kind::Emit => codes::singleton(0),
         Kind::Exit => exit_codes(field),
-        Kind::Signal => last,
-        Kind::Present => codes::union(first, last),
-        Kind::Suspend => last,
-        Kind::Loop => codes::without_ended(last),
-        Kind::Sequence => sequence_codes(first, last),
-        Kind::Parallel => codes::parallel(first, last),
-        Kind::Trap => codes::caught(last),
+        Kind::Signal => first,
+        Kind::Present => codes::union(first, second),
+        Kind::Suspend => first,
+        Kind::Loop => codes::without_ended(first),
+        Kind::Sequence => sequence_codes(first, second),
+        Kind::Parallel => codes::parallel(first, second),
+        Kind::Trap => codes::caught(first),
         Kind::Unknown => 0,
     }
 }
 
-// The codes of a node, from the words of the nodes before it.
-fn codes_at(table: &[u8], sizes: &[u16], any: bool, sets: &[u64], node: usize) -> u64
-    requires { ⌜ Surveyable (now table) (now sizes) × (node < size (programOf (now table))) × (node ≤ length (now sets)) × FilledTo any (programOf (now table)) node (now sets) ⌝ }
-    ensures { λ r. ⌜ r ≡ word (setOfStmt any (statementAt (nodes (programOf (now (table .entry)))) node)) ⌝ }
+// One node on the stack of the codes of the statements that are unused so far: its children's, on top from `base` on, give way to its
+// own.
+fn push_codes(
+    any: bool,
+    kind: Kind,
+    field: usize,
+    stack: &mut [u64; esterel::MAX_DEPTH + 1],
+    base: usize,
+)
+    requires { ⌜ (kind ≡ Exit → field < 62) × (base < maxDepth) ⌝ }
+    ensures { λ _. ⌜ now (stack .exit) ≡ set (now (stack .entry)) base (codesOf any kind field (getD (now (stack .entry)) base 0) (getD (now (stack .entry)) (base + 1) 0)) ⌝ }
 {
-    let kind = table::kind_at(table, node);
-    let field = table::field_at(table, node);
-    let children = table::arity(kind);
-    if children == 0 {
-        return codes_of(any, kind, field, 0, 0);
-    }
-    let last = sets[node - 1];
-    if children == 1 {
-        return codes_of(any, kind, field, 0, last);
-    }
-    let first = sets[node - 1 - table::size_at(sizes, node - 1)];
-    codes_of(any, kind, field, first, last)
+    stack[base] = codes_of(any, kind, field, stack[base], stack[base + 1]);
 }
 
-// The words of all nodes, children before parents.
-fn fill(table: &[u8], sizes: &[u16], any: bool, sets: &mut [u64])
-    requires { ⌜ Surveyable (now table) (now sizes) × (size (programOf (now table)) ≤ length (now sets)) ⌝ }
-    ensures { λ _. ⌜ now (sets .exit) ≡ onto (wordsOf any (programOf (now (table .entry)))) (now (sets .entry)) ⌝ }
+// Whether a node is a loop whose body, with these start codes, may end at once.
+fn ends_at_once(kind: Kind, body: u64) -> bool
+    ensures { λ r. ⌜ r ≡ (isLoop kind && (body ∋ 0)) ⌝ }
 {
-    let n = table.len() / 2;
-    let mut i: usize = 0;
-    while i < n {
-        sets[i] = codes_at(table, sizes, any, sets, i);
-        i += 1;
-    }
+    table::is_loop(kind) & codes::has(body, 0)
 }
 
-// Whether a node is a loop whose body may end at once.
-fn ends_at_once(table: &[u8], sets: &[u64], node: usize) -> bool
-    requires { ⌜ Readable (now table) × (node < size (programOf (now table))) × (node ≤ length (now sets)) × FilledTo false (programOf (now table)) node (now sets) ⌝ }
-    ensures { λ r. ⌜ r ≡ endsAtOnce (placeAt (programOf (now (table .entry))) node) ⌝ }
-{
-    if table::is_loop(table::kind_at(table, node)) {
-        return codes::has(sets[node - 1], 0);
-    }
-    false
-}
-
-// Check 11: the lowest loop whose body may end at once.
-fn check_loops(table: &[u8], sets: &[u64]) -> Check
-    requires { ⌜ Readable (now table) × (size (programOf (now table)) ≤ length (now sets)) × FilledTo false (programOf (now table)) (size (programOf (now table))) (now sets) ⌝ }
+// Check 11: the lowest loop whose body may end at once. No more statements are unused at a time than the depth limit, which check 8 has
+// seen to.
+fn check_loops(table: &[u8]) -> Check
+    requires { ⌜ Placed (now table) ⌝ }
     ensures { λ r. ⌜ r ≡ loopsCheck (programOf (now (table .entry))) ⌝ }
 {
     let n = table.len() / 2;
+    let mut starts = [0u64; esterel::MAX_DEPTH + 1];
+    let mut unused: usize = 0;
     let mut i: usize = 0;
     while i < n {
-        if ends_at_once(table, sets, i) {
+        let kind = table::kind_at(table, i);
+        let field = table::field_at(table, i);
+        unused -= table::arity(kind);
+        if ends_at_once(kind, starts[unused]) {
             return Check::Refused {
                 number: 11,
                 node: i,
             };
         }
+        push_codes(false, kind, field, &mut starts, unused);
+        unused += 1;
         i += 1;
     }
     Check::Passed
 }
 
-// The first n words.
-fn copy(from: &[u64], to: &mut [u64], n: usize)
-    requires { ⌜ (n ≤ length (now from)) × (n ≤ length (now to)) ⌝ }
-    ensures { λ _. ⌜ now (to .exit) ≡ take n (now (from .entry)) ++ drop n (now (to .entry)) ⌝ }
+// Whether a node is a sequence whose first child, with these start codes, may end at once: 1 or 0.
+fn first_ends(kind: Kind, first: u64) -> u8
+    ensures { λ r. ⌜ r ≡ bit (isSequence kind && (first ∋ 0)) ⌝ }
 {
-    let mut i: usize = 0;
-    while i < n {
-        to[i] = from[i];
-        i += 1;
-    }
+    (table::is_sequence(kind) & codes::has(first, 0)) as u8
 }
 
-// Whether a node is a sequence whose first child may end at once: 1 or 0.
-fn first_ends(table: &[u8], sizes: &[u16], sets: &[u64], node: usize) -> u8
-    requires { ⌜ Surveyable (now table) (now sizes) × (node < size (programOf (now table))) × (node ≤ length (now sets)) × FilledTo false (programOf (now table)) node (now sets) ⌝ }
-    ensures { λ r. ⌜ r ≡ firstEnds (statementAt (nodes (programOf (now (table .entry)))) node) ⌝ }
-{
-    if table::is_sequence(table::kind_at(table, node)) {
-        let first = sets[node - 1 - table::size_at(sizes, node - 1)];
-        if codes::has(first, 0) {
-            return 1;
-        }
-    }
-    0
-}
-
-// For each node whether it is a sequence whose first child may end at once. The walk that fills in the contexts asks it of a
-// sequence before the mark takes the byte's place, and so needs no sizes.
-fn fill_flags(table: &[u8], sizes: &[u16], sets: &[u64], flags: &mut [u8])
-    requires { ⌜ Surveyable (now table) (now sizes) × (size (programOf (now table)) ≤ length (now sets)) × FilledTo false (programOf (now table)) (size (programOf (now table))) (now sets) × (size (programOf (now table)) ≤ length (now flags)) ⌝ }
-    ensures { λ _. ⌜ now (flags .exit) ≡ onto (flagsOf (programOf (now (table .entry)))) (now (flags .entry)) ⌝ }
+// K and A of all nodes, children before parents, and for each node whether it is a sequence whose first child may end at once. The walk
+// that fills in the contexts asks that of a sequence before the mark takes the byte's place, and so needs to find no first child.
+fn fill_sets(table: &[u8], start_sets: &mut [u64], any_sets: &mut [u64], flags: &mut [u8])
+    requires { ⌜ Fillable (now table) (now «start_sets») (now «any_sets») (now flags) ⌝ }
+    ensures starts { λ _. ⌜ now («start_sets» .exit) ≡ onto (wordsOf false (programOf (now (table .entry)))) (now («start_sets» .entry)) ⌝ }
+    ensures anys { λ _. ⌜ now («any_sets» .exit) ≡ onto (wordsOf true (programOf (now (table .entry)))) (now («any_sets» .entry)) ⌝ }
+    ensures flags { λ _. ⌜ now (flags .exit) ≡ onto (flagsOf (programOf (now (table .entry)))) (now (flags .entry)) ⌝ }
 {
     let n = table.len() / 2;
+    let mut starts = [0u64; esterel::MAX_DEPTH + 1];
+    let mut anys = [0u64; esterel::MAX_DEPTH + 1];
+    let mut unused: usize = 0;
     let mut i: usize = 0;
     while i < n {
-        flags[i] = first_ends(table, sizes, sets, i);
+        let kind = table::kind_at(table, i);
+        let field = table::field_at(table, i);
+        unused -= table::arity(kind);
+        flags[i] = first_ends(kind, starts[unused]);
+        push_codes(false, kind, field, &mut starts, unused);
+        push_codes(true, kind, field, &mut anys, unused);
+        start_sets[i] = starts[unused];
+        any_sets[i] = anys[unused];
+        unused += 1;
         i += 1;
     }
 }
@@ -304,12 +282,12 @@ pub struct Acceptance {
     pub loops: usize,
 }
 
-// Checks 4 to 11 of a table that passes 1 and 2, with the sizes of its subtrees and its start sets.
-pub fn accept(table: &[u8], sizes: &mut [u16], sets: &mut [u64]) -> Acceptance
-    requires { ⌜ WellSized (now table) × (maxNodes ≤ length (now sizes)) × (maxNodes ≤ length (now sets)) ⌝ }
-    ensures { λ r. ⌜ Accepting (now (table .entry)) (now (sizes .exit)) (now (sets .exit)) r ⌝ }
+// Checks 4 to 11 of a table that passes 1 and 2.
+pub fn accept(table: &[u8]) -> Acceptance
+    requires { ⌜ WellSized (now table) ⌝ }
+    ensures { λ r. ⌜ Accepting (now (table .entry)) r ⌝ }
 {
-    let read = table::read_nodes(table, sizes);
+    let read = table::read_nodes(table);
     let Check::Passed = read else {
         return Acceptance {
             check: read,
@@ -324,9 +302,8 @@ pub fn accept(table: &[u8], sizes: &mut [u16], sets: &mut [u64]) -> Acceptance
             loops: 0,
         };
     };
-    fill(table, sizes, false, sets);
     Acceptance {
-        check: check_loops(table, sets),
+        check: check_loops(table),
         loops: found.loops,
     }
 }
@@ -358,7 +335,7 @@ fn check_room(n: usize, starts: usize, anys: usize, contexts: usize, marks: usiz
 }
 
 // The analysis of a table: checks 1, 2, 3, 4 to 11, then K, A, S and marks of every node in postorder. A refusal changes
-// nothing that is lent: all before check 11 has passed goes into local arrays.
+// nothing that is lent: nothing is written before check 11 has passed.
 pub fn analyse(
     table: &[u8],
     start_sets: &mut [u64],
@@ -383,17 +360,13 @@ pub fn analyse(
     let Check::Passed = room else {
         return refused(room);
     };
-    let mut sizes = [0u16; esterel::MAX_NODES];
-    let mut sets = [0u64; esterel::MAX_NODES];
-    let accepted = accept(table, &mut sizes, &mut sets);
+    let accepted = accept(table);
     let check = accepted.check;
     let Check::Passed = check else {
         return refused(check);
     };
-    copy(&sets, start_sets, n);
-    fill(table, &sizes, true, any_sets);
-    fill_flags(table, &sizes, &sets, marks);
-    fill_contexts(table, &sets, any_sets, contexts, marks);
+    fill_sets(table, start_sets, any_sets, marks);
+    fill_contexts(table, start_sets, any_sets, contexts, marks);
     Analysed::Done {
         nodes: n,
         loops: accepted.loops,

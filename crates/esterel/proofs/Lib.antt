@@ -16,4 +16,5 @@ pub mod Refusals
 pub mod Caught
 pub mod Ranges
 pub mod Subtrees
+pub mod Children
 pub mod Theorems

@@ -5,7 +5,7 @@ use mathlib.Core.Bool.{true}
 use mathlib.Core.Option.{none}
 use mathlib.Core.List.{List, [], _∷_, _++_, map}
 use Prim.Native.Nat.{ℕ, suc, _+_, _-_, _*_, _≤_, _<_}
-use lib.ListN.{length, getD}
+use lib.ListN.{length, getD, take, drop}
 use Rattle.esterel.specs.Limits.{maxNodes}
 use Rattle.esterel.specs.Statement.{Unary, loop, Binary, Stmt, one, two, kind, field, size, nodes, loopsAround}
 use Rattle.esterel.specs.Sets.{startSet, placesOf}
@@ -34,6 +34,34 @@ pub record Subtrees : Type 0 where
   -- the two bytes of node i
   pub kindAt : (p : Stmt) (i : ℕ) → i < size p → getD (postfix p) (2 * i) 0 ≡ kind (statementAt (nodes p) i)
   pub fieldAt : (p : Stmt) (i : ℕ) → i < size p → getD (postfix p) (2 * i + 1) 0 ≡ field (statementAt (nodes p) i)
+
+-- The same of the bytes (F-3). In a table that reads to p, the statement q stands at node i: its nodes are those from `first` to i, and
+-- the bytes of these nodes are its own.
+pub record Stands (bytes : List ℕ) (p : Stmt) (first i : ℕ) (q : Stmt) : Type 0 where
+  pub within : i < size p
+  pub is : statementAt (nodes p) i ≡ q
+  pub spans : first + size q ≡ suc i
+  pub reads : take (2 * size q) (drop (2 * first) bytes) ≡ postfix q
+
+pub record Children : Type 0 where
+  -- at every node one statement stands, and the node's two bytes are its kind and its field
+  pub stands : (bytes : List ℕ) (p : Stmt) → read bytes ≡ passed p → (i : ℕ) → i < size p → (first : ℕ) × (q : Stmt) × Stands bytes p first i q
+  pub alone : (bytes : List ℕ) (p : Stmt) → read bytes ≡ passed p → (f g i : ℕ) (q r : Stmt) → Stands bytes p f i q → Stands bytes p g i r → (f ≡ g) × (q ≡ r)
+  pub kinds :
+      (bytes : List ℕ) (p : Stmt) → read bytes ≡ passed p →
+      (first i : ℕ) (q : Stmt) → Stands bytes p first i q → (getD bytes (2 * i) 0 ≡ kind q) × (getD bytes (2 * i + 1) 0 ≡ field q)
+  -- an only child is the node before its parent
+  pub only :
+      (bytes : List ℕ) (p : Stmt) → read bytes ≡ passed p →
+      (first i : ℕ) (u : Unary) (q : Stmt) → Stands bytes p first i (one u q) → Stands bytes p first (i - 1) q
+  -- of two children the second is the node before their parent
+  pub second :
+      (bytes : List ℕ) (p : Stmt) → read bytes ≡ passed p →
+      (first i : ℕ) (b : Binary) (q r : Stmt) → Stands bytes p first i (two b q r) → Stands bytes p (first + size q) (i - 1) r
+  -- and the first is the node before the second's first node
+  pub first :
+      (bytes : List ℕ) (p : Stmt) → read bytes ≡ passed p →
+      (first i : ℕ) (b : Binary) (q r : Stmt) → Stands bytes p first i (two b q r) → Stands bytes p first (first + size q - 1) q
 
 -- Demand 2, exactness: a code is in K of a statement exactly if some answers make the started statement finish with it.
 abbrev pub Finishes : (List ℕ → Result) → ℕ → Type 0

@@ -105,7 +105,7 @@ module _ (t state emissions answers : List ℕ) {c : Check} {r : Reaction} (numb
 
 module _ {t sizes : List ℕ} {a b : ℕ} (o : Ready t a b sizes) where
   pub nodes-are : length t / 2 ≡ size (programOf t)
-  nodes-are = omega (arith, table-length t (o .runnable .surveyable .readable))
+  nodes-are = omega (arith, table-length t (o .runnable .measured .readable))
 
   pub root-clear : (n : ℕ) → n ≡ size (programOf t) → (m : ℕ) → Clear t (zeros m) (n - 1)
   unfolding Clear

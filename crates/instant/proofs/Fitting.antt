@@ -17,7 +17,7 @@ use Rattle.table.specs.Kinds.{kindOf, isPause}
 use Rattle.table.specs.Program.{programOf}
 use Rattle.table.specs.declared.Kind.{Kind}
 use Rattle.table.proofs.View.{kind-byte}
-use Rattle.analysis.specs.Passes.{Surveyable}
+use Rattle.table.specs.Columns.{Measured}
 use Rattle.instant.specs.Admission.{countHeld, Counted, byteFits, childrenApart, nodeFits, byteFitsKind, isExclusive}
 use Rattle.instant.proofs.Admits.{part-holds, count-rises}
 
@@ -54,7 +54,7 @@ is-pause (two (present s) q r) = refl
 is-pause (two sequence q r) = refl
 is-pause (two parallel q r) = refl
 
-module _ {t sizes : List ℕ} (ok : Surveyable t sizes) (i : ℕ) (h : i < size (programOf t)) {k : Kind} (ek : k ≡ kindOf (getD t (2 * i) 0)) (state : List ℕ) where
+module _ {t sizes : List ℕ} (ok : Measured t sizes) (i : ℕ) (h : i < size (programOf t)) {k : Kind} (ek : k ≡ kindOf (getD t (2 * i) 0)) (state : List ℕ) where
   abbrev here : Stmt
   here = statementAt (nodes (programOf t)) i
 

@@ -105,7 +105,7 @@ module _ {ps : List Stmt} {p : Stmt} {C : ℕ → Type 0} {L : ℕ} {ans : List 
 
 module _ {t sizes : List ℕ} (ok : Runnable t sizes) where
   pub accepted : Accepted (programOf t)
-  accepted = sym (ap checkProgram (scans t (programOf t) (ok .surveyable .readable .reads))) ∙ ok .verdict
+  accepted = sym (ap checkProgram (scans t (programOf t) (ok .measured .readable .reads))) ∙ ok .verdict
 
   module _ (j : ℕ) (h : j < size (programOf t)) where
     -- a node ends its subtree
@@ -171,14 +171,14 @@ module _ {t sizes : List ℕ} (ok : Runnable t sizes) (i : ℕ) (h : i < size (p
       let here-size = ap size e in
       let there = spans ok (i - 1) (omega arith) in
       let there-size = ap size c in
-      record { is = e; child = c; first = omega arith; ends = omega arith; sized = es ∙ ok .surveyable .sized (i - 1) (omega arith) ∙ there-size; some = pos }
+      record { is = e; child = c; first = omega arith; ends = omega arith; sized = es ∙ ok .measured .sized (i - 1) (omega arith) ∙ there-size; some = pos }
 
   pub both : (s : ℕ) (b : Binary) (p q : Stmt) → s ≡ getD sizes (i - 1) 0 → stmtAt t i ≡ two b p q → Both t i s b p q
   both s b p q es e =
       let (le, r, l) = two-children (programOf t) i b p q e in
       let pos = size-pos p in
       let pos′ = size-pos q in
-      let sz : s ≡ size q = es ∙ ok .surveyable .sized (i - 1) (omega arith) ∙ ap size r in
+      let sz : s ≡ size q = es ∙ ok .measured .sized (i - 1) (omega arith) ∙ ap size r in
       let l′ : stmtAt t (i - 1 - s) ≡ p = rw sz l in
       let here = spans ok i h in
       let here-size = ap size e in

@@ -79,7 +79,7 @@ ended-of b Starved e = absurd (false≢true (right b e))
 -- the entries of a resumption are few
 pub few-resumed : {t sizes counts answers h h′ e e′ : List ℕ} {r : Ran} (j k : ℕ) → Runnable t sizes → j < size (programOf t) → Holding t counts h j → Resumed t answers h h′ e e′ j k r → entriesOf r ≤ 1049600
 few-resumed {t = t} {answers = answers} {h = h} j k ok lt hd o =
-    omega (arith, entries-le (load (stmtAt t j)) (resume-few ok j lt (bytesAt t h j) (hd .state) (drop k answers)) o, load-le (stmtAt t j) 1024 (omega (arith, spans ok j lt, few-nodes t (ok .surveyable .readable))))
+    omega (arith, entries-le (load (stmtAt t j)) (resume-few ok j lt (bytesAt t h j) (hd .state) (drop k answers)) o, load-le (stmtAt t j) 1024 (omega (arith, spans ok j lt, few-nodes t (ok .measured .readable))))
 
 module _ {t sizes counts answers held em : List ℕ} {node taken : ℕ} (ok : Runnable t sizes) (room : Room t answers held em node taken) (hd : Holding t counts held node) where
   -- the node's statement and its bytes
@@ -110,11 +110,11 @@ module _ {t sizes counts answers held em : List ℕ} {node taken : ℕ} (ok : Ru
   -- the counts at a node j beneath this one, and what they tell
   pub test-call : (j : ℕ) → j ≤ node → (j < length sizes) × (getD sizes j 0 ≤ j + 1) × (j + 1 < length counts)
   test-call j le =
-      (omega (arith, room .within, ok .surveyable .listed), omega (arith, ok .surveyable .sized j (omega (arith, room .within)), spans ok j (omega (arith, room .within))), omega (arith, room .within, hd .listed))
+      (omega (arith, room .within, ok .measured .listed), omega (arith, ok .measured .sized j (omega (arith, room .within)), spans ok j (omega (arith, room .within))), omega (arith, room .within, hd .listed))
 
   test-is : {f : ℕ} {w : Stmt} (j : ℕ) → stmtAt t j ≡ w → firstAt t j ≡ f → firstAt t node ≤ f → j < node → holds (part f w held) ≡ holdsBeneath sizes counts j
   test-is {f} {w} j ew ef lo hi =
-      let sized : getD sizes j 0 ≡ size w = ok .surveyable .sized j (omega (arith, room .within)) ∙ ap size ew in
+      let sized : getD sizes j 0 ≡ size w = ok .measured .sized j (omega (arith, room .within)) ∙ ap size ew in
       let ends : f + size w ≡ j + 1 = omega (arith, spans ok j (omega (arith, room .within)), ap size ew) in
       let begins : f ≡ j + 1 - getD sizes j 0 = omega arith in
       holds-counted counts held f (size w) (omega (arith, room .within, room .places)) (λ a b c. hd .counted a (omega arith) (omega arith))

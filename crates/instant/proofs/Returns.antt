@@ -53,7 +53,7 @@ left-as {t} {mid} {held′} {node} {s} {u} {p} {k} {x} v e l =
 -- the entries of a start are few
 pub few-entries : {t sizes answers h h′ e e′ : List ℕ} {r : Ran} (j k : ℕ) → Runnable t sizes → j < size (programOf t) → Started t answers h h′ e e′ j k r → entriesOf r ≤ 1024
 few-entries {t = t} {answers = answers} j k ok h o =
-    omega (arith, entries-le (size (stmtAt t j)) (start-few ok j h (drop k answers)) o, spans ok j h, few-nodes t (ok .surveyable .readable))
+    omega (arith, entries-le (size (stmtAt t j)) (start-few ok j h (drop k answers)) o, spans ok j h, few-nodes t (ok .measured .readable))
 
 -- the buffers after a part that closed
 pub room-after : {t answers held mid em emid : List ℕ} {f node taken c j l : ℕ} {x : Result} (i : ℕ) → i ≤ node → Room t answers held em node taken → RanIs t answers f held mid em emid x (Closed c j l) → Room t answers mid emid i j
@@ -78,7 +78,7 @@ module _ {t sizes answers held em : List ℕ} {node taken : ℕ} (ok : Runnable 
     leaf-returns z o =
         let (l, e) = leaf-of ok (room .within) ek en z in
         let first : firstAt t node ≡ node = omega (arith, ap size e) in
-        let is = ap₂ leafOf (sym (kind-is ok (room .within) ek en e)) (field-byte t (ok .surveyable .readable) node (room .within) ∙ ap field e) ∙ leaf-is l in
+        let is = ap₂ leafOf (sym (kind-is ok (room .within) ek en e)) (field-byte t (ok .measured .readable) node (room .within) ∙ ap field e) ∙ leaf-is l in
         start-as (sym first) (sym e) (drop taken answers) (leaf-start ok room free l e first (rw is at o))
 
     module _ {s : ℕ} (es : s ≡ getD sizes (node - 1) 0) where

@@ -16,16 +16,16 @@ use Rattle.instant.proofs.Nodes.{Over, over, Both, both}
 
 module _ {t sizes : List ℕ} {node : ℕ} (ok : Runnable t sizes) (h : node < size (programOf t)) where
   pub in-table : 2 * node + 1 < length t
-  in-table = omega (arith, table-length t (ok .surveyable .readable))
+  in-table = omega (arith, table-length t (ok .measured .readable))
 
   -- it has a place in the arrays of a call
   pub in-place : node < maxNodes
-  in-place = omega (arith, few-nodes t (ok .surveyable .readable))
+  in-place = omega (arith, few-nodes t (ok .measured .readable))
 
   -- the kind that was read, and the children that it has
   module _ {k : Kind} {n : ℕ} (ek : k ≡ kindOf (getD t (2 * node) 0)) (en : n ≡ arityOf k) where
     pub kind-is : {w : Stmt} → stmtAt t node ≡ w → kindOf (kind w) ≡ k
-    kind-is e = sym (ek ∙ ap kindOf (kind-byte t (ok .surveyable .readable) node h) ∙ ap (λ w. kindOf (kind w)) e)
+    kind-is e = sym (ek ∙ ap kindOf (kind-byte t (ok .measured .readable) node h) ∙ ap (λ w. kindOf (kind w)) e)
 
     count-is : {w : Stmt} → stmtAt t node ≡ w → n ≡ childCount w
     count-is {w} e = en ∙ ap arityOf (sym (kind-is e)) ∙ arity-of w

@@ -12,7 +12,7 @@ use Rattle.esterel.specs.Checks.{checkProgram}
 use Rattle.esterel.specs.Instant.{Entry, Result, closed, starved, start, resume, admitted}
 use Rattle.esterel.specs.Outcome.{statementAt, emitted}
 use Rattle.table.specs.Program.{programOf}
-use Rattle.analysis.specs.Passes.{Surveyable}
+use Rattle.table.specs.Columns.{Measured}
 use Rattle.instant.specs.Steps.{marked}
 use Rattle.instant.specs.declared.Ran.{Ran}
 use Rattle.instant.specs.declared.Ran.the-variants.{Closed, Starved}
@@ -26,7 +26,7 @@ firstAt t node = suc node - size (stmtAt t node)
 
 -- an accepted table with the sizes of its subtrees
 pub record Runnable (t sizes : List ℕ) : Type 0 where
-  pub surveyable : Surveyable t sizes
+  pub measured : Measured t sizes
   pub verdict : checkProgram (scan t 0 []) ≡ passed (programOf t)
 
 -- the buffers of a run at a node, and the answers taken before it

@@ -8,7 +8,7 @@ ghost use Rattle.esterel.specs.Limits.{maxNodes};
 ghost use Rattle.esterel.specs.Statement.{size, nodes};
 ghost use Rattle.table.specs.Check.{passIf};
 ghost use Rattle.table.specs.Program.{programOf};
-ghost use Rattle.analysis.specs.Passes.{Surveyable};
+ghost use Rattle.table.specs.Columns.{Measured};
 ghost use Rattle.instant.specs.Admission.{countHeld, Counted, isExclusive, byteFitsKind, nodeFits};
 use table::Check;
 use table::Kind;
@@ -57,7 +57,7 @@ pub fn count_held(state: &[u8], counts: &mut [u16], n: usize)
 
 // What check 12 asks at a node: its own byte fits, and a sequence or present holds pauses in one child at most.
 fn node_fits(table: &[u8], sizes: &[u16], counts: &[u16], state: &[u8], node: usize) -> bool
-    requires { ⌜ Surveyable (now table) (now sizes) × (node < size (programOf (now table))) × (size (programOf (now table)) ≤ length (now state)) × Counted (now state) (now counts) (size (programOf (now table))) ⌝ }
+    requires { ⌜ Measured (now table) (now sizes) × (node < size (programOf (now table))) × (size (programOf (now table)) ≤ length (now state)) × Counted (now state) (now counts) (size (programOf (now table))) ⌝ }
     ensures { λ r. ⌜ r ≡ nodeFits (nodes (programOf (now (table .entry)))) (now (state .entry)) node ⌝ }
 {
     let kind = table::kind_at(table, node);
@@ -77,7 +77,7 @@ fn node_fits(table: &[u8], sizes: &[u16], counts: &[u16], state: &[u8], node: us
 
 // Check 12.
 pub fn check_state(table: &[u8], sizes: &[u16], counts: &[u16], state: &[u8]) -> Check
-    requires { ⌜ Surveyable (now table) (now sizes) × (size (programOf (now table)) ≤ length (now state)) × Counted (now state) (now counts) (size (programOf (now table))) ⌝ }
+    requires { ⌜ Measured (now table) (now sizes) × (size (programOf (now table)) ≤ length (now state)) × Counted (now state) (now counts) (size (programOf (now table))) ⌝ }
     ensures { λ r. ⌜ r ≡ passIf 12 (admitted (programOf (now (table .entry))) (take (size (programOf (now (table .entry)))) (now (state .entry)))) ⌝ }
 {
     let n = table.len() / 2;

@@ -57,7 +57,7 @@ fn check_room(n: usize, state: usize, emissions: usize) -> Check
     Check::Refused { number: 3, node: 0 }
 }
 
-// Checks 1, 2, 3 and 4 to 11, with the sizes of all subtrees.
+// Checks 1, 2, 3 and 4 to 11, and where they pass the sizes of all subtrees.
 fn check_call(table: &[u8], state: usize, emissions: usize, sizes: &mut [u16]) -> Check
     requires { ⌜ maxNodes ≤ length (now sizes) ⌝ }
     ensures { λ r. ⌜ CallChecked (now (table .entry)) state emissions (now (sizes .exit)) r ⌝ }
@@ -70,9 +70,13 @@ fn check_call(table: &[u8], state: usize, emissions: usize, sizes: &mut [u16]) -
     let Check::Passed = room else {
         return room;
     };
-    let mut sets = [0u64; esterel::MAX_NODES];
-    let accepted = analysis::accept(table, sizes, &mut sets);
-    accepted.check
+    let accepted = analysis::accept(table);
+    let check = accepted.check;
+    let Check::Passed = check else {
+        return check;
+    };
+    table::fill_sizes(table, sizes);
+    Check::Passed
 }
 
 // The first n bytes.

@@ -1,4 +1,5 @@
 pub mod Buffers
+pub mod Filling
 pub mod View
 pub mod Walk
 pub mod Stack
@@ -7,3 +8,4 @@ pub mod Stacks
 pub mod Said
 pub mod Found
 pub mod Surveying
+pub mod Sizing

@@ -66,9 +66,9 @@ start p depths traps loops faults i e ld vd lt vt ll vl fd ft fe =
       count = refl;
       low = 1;
       sum = omega arith;
-      depthsAre = record { long = ld; held = more (program p) [] vd (omega arith) none };
-      trapsAre = record { long = lt; held = more (program p) [] vt (omega arith) none };
-      loopsAre = record { long = ll; held = more (program p) [] vl (omega arith) none };
+      depthsAre = record { long = ld; on = more (program p) [] vd none; low = more (program p) [] (omega arith) none };
+      trapsAre = record { long = lt; on = more (program p) [] vt none; low = more (program p) [] (omega arith) none };
+      loopsAre = record { long = ll; on = more (program p) [] vl none; low = more (program p) [] (omega arith) none };
       answers = record { depths = fd; traps = ft; exits = fe };
       mostIs = refl;
     }

@@ -1,8 +1,8 @@
 -- The walk from a program's last node to its first. What waits are the subtrees that end right before the nodes seen, the one that
 -- ends next on top; their places, and those of the nodes seen, are the program's.
-use mathlib.Core.Path.{_≡_, refl, sym, ap, _∙_}
+use mathlib.Core.Path.{_≡_, refl, sym, ap, ap₂, subst, _∙_}
 use mathlib.Core.List.{List, [], _∷_, _++_, append-assoc, append-nil}
-use Prim.Native.Nat.{ℕ, suc, _+_, _<_}
+use Prim.Native.Nat.{ℕ, zero, suc, _+_, _<_}
 use native.Mathlib.Omega.{arith}
 use lib.ListN.{length, getD, length-append, List·getD-map}
 use lib.Seq.{getD-at}
@@ -160,3 +160,63 @@ next p i (w ∷ ws) o = go (o .deep)
           place = place;
           depth = h;
         }
+
+-- The walk from the first node to the last. Before node i the subtrees wait that are not used so far: the program before the end, and
+-- before each other node what the walk down comes to.
+pub data Unused (p : Stmt) : ℕ → List Waiting → Type 0 where
+  all : (i : ℕ) → i ≡ size p → Unused p i (program p ∷ [])
+  less : (i : ℕ) (w : Waiting) (ws us : List Waiting) → us ≡ descend w ws → Unused p (suc i) (w ∷ ws) → Unused p i us
+
+-- what comes of the ones that wait does not depend on how they are told apart
+same-descend : {w v : Waiting} {ws vs us : List Waiting} → w ∷ ws ≡ v ∷ vs → us ≡ descend w ws → us ≡ descend v vs
+same-descend {w} {v} {ws} {vs} e z =
+    let top : w ≡ v = cc in
+    let below : ws ≡ vs = cc in
+    z ∙ ap₂ descend top below
+
+module _ (p : Stmt) where
+  pub walk-of : {i : ℕ} {us : List Waiting} → Unused p i us → Walk p i us
+  walk-of (all i e) = subst (λ n. Walk p n (program p ∷ [])) (sym e) (begin p)
+  walk-of (less i w ws us e h) =
+      let n = next p i (w ∷ ws) (walk-of h) in
+      rw (same-descend (n .is) e) (n .on)
+
+  -- the next node, whose children are on top
+  pub record Ahead (i : ℕ) (us : List Waiting) : Type 0 where
+    pub top : Waiting
+    pub below : List Waiting
+    pub is : us ≡ descend top below
+    pub on : Unused p (suc i) (top ∷ below)
+    pub statement : statementAt (nodes p) i ≡ top .root
+    pub place : getD (placesOf p) i (at 0 0 empty (leaf nothing)) ≡ placeOf top
+    pub depth : length below < top .depth
+
+  pub ahead : {i : ℕ} {us : List Waiting} → Unused p i us → i < size p → Ahead i us
+  ahead (all i e) lt = absurd (omega arith)
+  ahead (less i w ws us e h) lt =
+      let n = next p i (w ∷ ws) (walk-of h) in
+      record {
+        top = n .top;
+        below = n .below;
+        is = same-descend (n .is) e;
+        on = rw (n .is) at h;
+        statement = n .statement;
+        place = n .place;
+        depth = n .depth;
+      }
+
+  before-end : (k i : ℕ) → i + k ≡ size p → (us : List Waiting) × Unused p i us
+  before-end zero i e = (program p ∷ [], all i (omega arith))
+  before-end (suc k) i e =
+      let (us, h) = before-end k (suc i) (omega arith) in
+      let n = next p i us (walk-of h) in
+      (descend (n .top) (n .below), less i (n .top) (n .below) _ refl (rw (n .is) at h))
+
+  -- before the first node nothing is unused
+  pub at-first : Unused p 0 []
+  at-first = let (us, h) = before-end (size p) 0 (omega arith) in go us h
+    where
+      go : (us : List Waiting) → Unused p 0 us → Unused p 0 []
+      go [] h = h
+      go (w ∷ ws) h =
+          absurd (omega (arith, walk-of h .left, length-append (placesIn ws) (places (w .depth) (w .traps) (w .context) (w .root)), length-places (w .root) (w .depth) (w .traps) (w .context), size-pos (w .root)))

@@ -83,10 +83,9 @@ pub record Room (sizes : List ℕ) (node children : ℕ) : Type 0 where
   pub two : 1 < children → getD sizes (node - 1) 0 < node
   pub fits : spanOf sizes node children ≤ node + 1
 
--- checks 4 to 7 of a table, and the size of the subtree at each node of one that passes
-pub record Read (t sizes : List ℕ) (r : Check) : Type 0 where
-  pub answer : r ≡ answerOf (scan t 0 [])
-  pub sized : (p : Stmt) → scan t 0 [] ≡ passed p → (j : ℕ) → j < size p → getD sizes j 0 ≡ size (statementAt (nodes p) j)
+-- checks 4 to 7 of a table
+unfoldable pub nodesCheck : List ℕ → Check
+nodesCheck t = answerOf (scan t 0 [])
 
 -- a refusal at a node that was found, before what comes next
 abbrev pub refuseFound : ℕ → Option ℕ → Check → Check

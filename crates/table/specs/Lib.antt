@@ -1,3 +1,4 @@
 pub mod Kinds
 pub mod Program
+pub mod Columns
 pub mod Check

@@ -1,12 +1,14 @@
-// The table of a program: what its bytes say, checks 1 to 10, and the sizes of the subtrees.
+// The table of a program: what its bytes say, checks 1, 2 and 4 to 10, and the sizes of the subtrees.
 ghost use mathlib.Core.Path.{_≡_};
 ghost use mathlib.Core.Bool.{cond};
 ghost use Prim.Native.Nat.{_+_, _-_, _*_, _<_, _≤_, max};
 ghost use lib.ListN.{length, getD, set};
 ghost use Rattle.esterel.specs.Limits.{maxNodes};
+ghost use Rattle.esterel.specs.Statement.{size};
 ghost use Rattle.table.specs.Kinds.{kindOf, arityOf, plainOf, numberOf, isSame, isTrap, isLoop, isExit, isSequence, isPresent, isSuspend, isPause};
 ghost use Rattle.table.specs.Program.{programOf, Readable};
-ghost use Rattle.table.specs.Check.{lengthCheck, nodeCheck, WellSized, Room, spanOf, Read, refuseBelow, Shallow, Nested, Seen, Surveyed};
+ghost use Rattle.table.specs.Columns.{onto, sizesOf};
+ghost use Rattle.table.specs.Check.{lengthCheck, nodeCheck, nodesCheck, WellSized, Room, spanOf, refuseBelow, Shallow, Nested, Seen, Surveyed};
 
 // What a kind byte says.
 pub enum Kind {
@@ -222,34 +224,10 @@ fn wide(x: u16) -> usize
     x as usize
 }
 
-// The size of the subtree at a node.
-pub fn size_at(sizes: &[u16], node: usize) -> usize
-    requires { ⌜ node < length (now sizes) ⌝ }
-    ensures { λ r. ⌜ r ≡ getD (now (sizes .entry)) node 0 ⌝ }
-{
-    wide(sizes[node])
-}
-
-// The size of the subtree at a node with so many children, from the sizes before it.
-fn span(sizes: &[u16], node: usize, children: usize) -> usize
-    requires { ⌜ Room (now sizes) node children ⌝ }
-    ensures { λ r. ⌜ r ≡ spanOf (now (sizes .entry)) node children ⌝ }
-{
-    if children == 0 {
-        return 1;
-    }
-    let last = size_at(sizes, node - 1);
-    if children == 1 {
-        return last + 1;
-    }
-    size_at(sizes, node - 1 - last) + last + 1
-}
-
-// Checks 4 to 7, and the size of the subtree at each node, in one pass: what is needed of the statements before a node is
-// how many of them are unused, and their sizes.
-pub fn read_nodes(table: &[u8], sizes: &mut [u16]) -> Check
-    requires { ⌜ WellSized (now table) × (maxNodes ≤ length (now sizes)) ⌝ }
-    ensures { λ r. ⌜ Read (now (table .entry)) (now (sizes .exit)) r ⌝ }
+// Checks 4 to 7 in one pass: what is needed of the statements before a node is how many of them are unused.
+pub fn read_nodes(table: &[u8]) -> Check
+    requires { ⌜ WellSized (now table) ⌝ }
+    ensures { λ r. ⌜ r ≡ nodesCheck (now (table .entry)) ⌝ }
 {
     let n = table.len() / 2;
     let mut unused: usize = 0;
@@ -260,9 +238,7 @@ pub fn read_nodes(table: &[u8], sizes: &mut [u16]) -> Check
         let Check::Passed = check else {
             return check;
         };
-        let children = arity(kind);
-        sizes[i] = span(sizes, i, children) as u16;
-        unused = unused + 1 - children;
+        unused = unused + 1 - arity(kind);
         i += 1;
     }
     if unused == 1 {
@@ -405,5 +381,41 @@ pub fn survey_table(table: &[u8]) -> Survey
     Survey {
         check: first_refusal(faults),
         loops: most,
+    }
+}
+
+// The size of the subtree at a node.
+pub fn size_at(sizes: &[u16], node: usize) -> usize
+    requires { ⌜ node < length (now sizes) ⌝ }
+    ensures { λ r. ⌜ r ≡ getD (now (sizes .entry)) node 0 ⌝ }
+{
+    wide(sizes[node])
+}
+
+// The size of the subtree at a node with so many children, from the sizes before it.
+fn span(sizes: &[u16], node: usize, children: usize) -> usize
+    requires { ⌜ Room (now sizes) node children ⌝ }
+    ensures { λ r. ⌜ r ≡ spanOf (now (sizes .entry)) node children ⌝ }
+{
+    if children == 0 {
+        return 1;
+    }
+    let last = size_at(sizes, node - 1);
+    if children == 1 {
+        return last + 1;
+    }
+    size_at(sizes, node - 1 - last) + last + 1
+}
+
+// The size of the subtree at each node of a table that was read.
+pub fn fill_sizes(table: &[u8], sizes: &mut [u16])
+    requires { ⌜ Readable (now table) × (size (programOf (now table)) ≤ length (now sizes)) ⌝ }
+    ensures { λ _. ⌜ now (sizes .exit) ≡ onto (sizesOf (programOf (now (table .entry)))) (now (sizes .entry)) ⌝ }
+{
+    let n = table.len() / 2;
+    let mut i: usize = 0;
+    while i < n {
+        sizes[i] = span(sizes, i, arity(kind_at(table, i))) as u16;
+        i += 1;
     }
 }

@@ -69,37 +69,37 @@ enum-told-12 : tie.Need-enum-told-12
 enum-told-12 c = search needs
 
 returns : tie.Need-returns
-returns c = let a = c .before .before .before .args in by-kind (λ k. codesOf (a .any) k (a .field) (a .first) (a .last)) (c .before .enum-told .given .1) (c .singleton .ensures)
+returns c = let a = c .before .before .before .args in by-kind (λ k. codesOf (a .any) k (a .field) (a .first) (a .second)) (c .before .enum-told .given .1) (c .singleton .ensures)
 
 returns-2 : tie.Need-returns-2
-returns-2 c = let a = c .before .before .before .args in by-kind (λ k. codesOf (a .any) k (a .field) (a .first) (a .last)) (c .before .enum-told2 .given .1) (c .pause-codes .ensures)
+returns-2 c = let a = c .before .before .before .args in by-kind (λ k. codesOf (a .any) k (a .field) (a .first) (a .second)) (c .before .enum-told2 .given .1) (c .pause-codes .ensures)
 
 returns-3 : tie.Need-returns-3
-returns-3 c = let a = c .before .before .before .args in by-kind (λ k. codesOf (a .any) k (a .field) (a .first) (a .last)) (c .before .enum-told3 .given .1) (c .singleton2 .ensures)
+returns-3 c = let a = c .before .before .before .args in by-kind (λ k. codesOf (a .any) k (a .field) (a .first) (a .second)) (c .before .enum-told3 .given .1) (c .singleton2 .ensures)
 
 returns-4 : tie.Need-returns-4
-returns-4 c = let a = c .before .before .before .args in by-kind (λ k. codesOf (a .any) k (a .field) (a .first) (a .last)) (c .before .enum-told4 .given .1) (c .exit-codes .ensures)
+returns-4 c = let a = c .before .before .before .args in by-kind (λ k. codesOf (a .any) k (a .field) (a .first) (a .second)) (c .before .enum-told4 .given .1) (c .exit-codes .ensures)
 
 returns-5 : tie.Need-returns-5
 returns-5 c = search needs
 
 returns-6 : tie.Need-returns-6
-returns-6 c = let a = c .before .before .before .args in by-kind (λ k. codesOf (a .any) k (a .field) (a .first) (a .last)) (c .before .enum-told6 .given .1) (c .union .ensures)
+returns-6 c = let a = c .before .before .before .args in by-kind (λ k. codesOf (a .any) k (a .field) (a .first) (a .second)) (c .before .enum-told6 .given .1) (c .union .ensures)
 
 returns-7 : tie.Need-returns-7
 returns-7 c = search needs
 
 returns-8 : tie.Need-returns-8
-returns-8 c = let a = c .before .before .before .args in by-kind (λ k. codesOf (a .any) k (a .field) (a .first) (a .last)) (c .before .enum-told8 .given .1) (c .without-ended .ensures)
+returns-8 c = let a = c .before .before .before .args in by-kind (λ k. codesOf (a .any) k (a .field) (a .first) (a .second)) (c .before .enum-told8 .given .1) (c .without-ended .ensures)
 
 returns-9 : tie.Need-returns-9
-returns-9 c = let a = c .before .before .before .args in by-kind (λ k. codesOf (a .any) k (a .field) (a .first) (a .last)) (c .before .enum-told9 .given .1) (c .sequence-codes .ensures)
+returns-9 c = let a = c .before .before .before .args in by-kind (λ k. codesOf (a .any) k (a .field) (a .first) (a .second)) (c .before .enum-told9 .given .1) (c .sequence-codes .ensures)
 
 returns-10 : tie.Need-returns-10
-returns-10 c = let a = c .before .before .before .args in by-kind (λ k. codesOf (a .any) k (a .field) (a .first) (a .last)) (c .before .enum-told10 .given .1) (c .parallel .ensures)
+returns-10 c = let a = c .before .before .before .args in by-kind (λ k. codesOf (a .any) k (a .field) (a .first) (a .second)) (c .before .enum-told10 .given .1) (c .parallel .ensures)
 
 returns-11 : tie.Need-returns-11
-returns-11 c = let a = c .before .before .before .args in by-kind (λ k. codesOf (a .any) k (a .field) (a .first) (a .last)) (c .before .enum-told11 .given .1) (c .caught .ensures)
+returns-11 c = let a = c .before .before .before .args in by-kind (λ k. codesOf (a .any) k (a .field) (a .first) (a .second)) (c .before .enum-told11 .given .1) (c .caught .ensures)
 
 returns-12 : tie.Need-returns-12
 returns-12 c = search needs

@@ -2,7 +2,7 @@
 use native.Mathlib.Omega.{arith}
 use Prim.Native.Nat.{_-_}
 use mathlib.Core.Path.{refl}
-use Rattle.analysis.proofs.Filling.{Filling, filling-length, filling-next, filling-end}
+use Rattle.table.proofs.Filling.{Filling, filling-length, filling-next, filling-end}
 use Rattle.instant.proofs.copy.Statement.{statement}
 use Rattle.instant.proofs.copy.Tie as tie
 

@@ -47,7 +47,7 @@ slice-aggregate-check-state-2 c = search needs
 check-state-requires : tie.Need-check-state-requires
 check-state-requires c κs =
     let ready = c .before .before .before .before .before .before .before .before .before .before .check-call .ensures .ready (c .before .before .before .before .before .before .before .enum-told .given .1) in
-    (ready .runnable .surveyable, omega (arith, ready .places), (subst (Counted (now (c .before .before .before .before .before .before .before .before .before .before .before .before .before .before .before .before .args .state)) _) (omega (arith, nodes-are ready)) (c .before .before .before .before .count-held .ensures)))
+    (ready .runnable .measured, omega (arith, ready .places), (subst (Counted (now (c .before .before .before .before .before .before .before .before .before .before .before .before .before .before .before .before .args .state)) _) (omega (arith, nodes-are ready)) (c .before .before .before .before .count-held .ensures)))
 
 enum-told-3 : tie.Need-enum-told-3
 enum-told-3 c = search needs

@@ -1,10 +1,10 @@
--- `table::read_nodes` meets its contract: before each node the table reads to `unused` statements, whose sizes stand in `sizes`.
+-- `table::read_nodes` meets its contract: before each node the table reads to `unused` statements.
 use borrow.Author.Needs.{needs}
-use mathlib.Core.Path.{_≡_, refl, _∙_}
+use mathlib.Core.Path.{_≡_, _∙_}
 use mathlib.Core.List.{List}
 use Prim.Native.Nat.{ℕ, _-_, _/_, _≤_}
 use native.Mathlib.Omega.{arith}
-use lib.ListN.{length, length-set}
+use lib.ListN.{length}
 use denote.Ref.{now}
 use Rattle.table.specs.Kinds.{kindOf}
 use Rattle.table.specs.Check.{nodeCheck}
@@ -13,19 +13,18 @@ use Rattle.table.proofs.Pass.{Reading, begin, kindAt, fieldAt, Turn, re
 use Rattle.table.proofs.read_nodes.Statement.{statement}
 use Rattle.table.proofs.read_nodes.Tie as tie
 
-record Inv (t sizes₀ sizes : List ℕ) (unused i : ℕ) : Type 0 where
+record Inv (t : List ℕ) (unused i : ℕ) : Type 0 where
   within : i ≤ length t / 2
-  same : length sizes ≡ length sizes₀
-  reading : Reading t sizes unused i
+  reading : Reading t unused i
 
 abbrev Inv-loop : tie.InvT-loop
-Inv-loop table sizes₀ n unused₀ i₀ sizes unused i = Inv table sizes₀ sizes unused i
+Inv-loop table n unused₀ i₀ unused i = Inv table unused i
 
 abbrev μ-loop : tie.MeasureT-loop
-μ-loop table sizes₀ n unused₀ i₀ sizes unused i = length table / 2 - i
+μ-loop table n unused₀ i₀ unused i = length table / 2 - i
 
 loop-holds : tie.Need-loop-holds Inv-loop μ-loop
-loop-holds c = record { within = omega arith; same = refl; reading = begin _ _ }
+loop-holds c = record { within = omega arith; reading = begin _ }
 
 kind-at-requires : tie.Need-kind-at-requires Inv-loop μ-loop
 kind-at-requires c κs = omega arith
@@ -40,7 +39,7 @@ abbrev Spot : Type 0
 Spot = tie.At-loop Inv-loop μ-loop
 
 abbrev tableOf : Spot → List ℕ
-tableOf s = now (s .before .before .before .args .table)
+tableOf s = now (s .before .before .args .table)
 
 -- what the check of node i answers
 abbrev Checked : Spot → Check → Type 0
@@ -55,46 +54,25 @@ enum-told c = search needs
 enum-told-2 : tie.Need-enum-told-2 Inv-loop μ-loop
 enum-told-2 c = search needs
 
-same-length : tie.Need-same-length Inv-loop μ-loop
-same-length c = search needs
-
 returns : tie.Need-returns Inv-loop μ-loop
 returns c =
     let told = c .enum-told2 .given .1 in
-    refusing _ _ _ _ (c .before .before .before .before .before .before .loop .inv .reading) (omega arith) (omega arith) _ (checked (c .before .before)) (λ e. let z : _≡_ {A = ℕ} 0 1 = cc in omega arith)
+    refusing _ _ _ (c .before .before .before .before .before .before .loop .inv .reading) (omega arith) _ (checked (c .before .before)) (λ e. let z : _≡_ {A = ℕ} 0 1 = cc in omega arith)
 
 arity-requires : tie.Need-arity-requires Inv-loop μ-loop
 arity-requires c κs = search needs
 
 -- what a node that passes needs and leaves
-abbrev TurnAt : Spot → ℕ → Type 0
-TurnAt s children = Turn (tableOf s) (s .loop .sizes) (s .loop .unused) (s .loop .i) children
-
-turn : (c : tie.After-arity Inv-loop μ-loop) → TurnAt (c .before .before .before .before .before .before .before) (c .arity .result)
+turn : (c : tie.After-arity Inv-loop μ-loop) → Turn (tableOf (c .before .before .before .before .before .before .before)) (c .before .before .before .before .before .before .before .loop .unused) (c .before .before .before .before .before .before .before .loop .i) (c .arity .result)
 turn c =
     rw (c .arity .ensures, c .before .before .before .before .before .kind-at .ensures)
-    (passing _ _ _ _ (c .before .before .before .before .before .before .before .loop .inv .reading) (omega arith) (omega arith) _ (checked (c .before .before .before)) (c .before .enum-told .given .1))
-
-span-requires : tie.Need-span-requires Inv-loop μ-loop
-span-requires c κs = turn (c .before) .room
-
-cast-sizes : tie.Need-cast-sizes Inv-loop μ-loop
-cast-sizes c =
-    let fits = turn (c .before .before) .room .fits in
-    let e = c .span .ensures in
-    omega arith
-
-mul-sizes : tie.Need-mul-sizes Inv-loop μ-loop
-mul-sizes c = omega arith
-
-slice-write-sizes : tie.Need-slice-write-sizes Inv-loop μ-loop
-slice-write-sizes c = omega arith
+    (passing _ _ _ (c .before .before .before .before .before .before .before .loop .inv .reading) (omega arith) _ (checked (c .before .before .before)) (c .before .enum-told .given .1))
 
 add-unused : tie.Need-add-unused Inv-loop μ-loop
 add-unused c = omega arith
 
 sub-unused : tie.Need-sub-unused Inv-loop μ-loop
-sub-unused c = turn (c .before .before) .enough
+sub-unused c = turn c .enough
 
 add-i : tie.Need-add-i Inv-loop μ-loop
 add-i c = omega arith
@@ -103,23 +81,15 @@ loop-less : tie.Need-loop-less Inv-loop μ-loop
 loop-less c = omega arith
 
 loop-again : tie.Need-loop-again Inv-loop μ-loop
-loop-again c =
-    record { within = omega arith; same = simp length-set (omega arith); reading = rw (c .span .ensures) (turn (c .before .before) .again) }
-
-same-length-2 : tie.Need-same-length-2 Inv-loop μ-loop
-same-length-2 c = search needs
+loop-again c = record { within = omega arith; reading = turn c .again }
 
 returns-2 : tie.Need-returns-2 Inv-loop μ-loop
-returns-2 c = one-left _ _ _ _ (c .before .before .loop .inv .reading) (omega arith) (c .if1 .taken)
-
-same-length-3 : tie.Need-same-length-3 Inv-loop μ-loop
-same-length-3 c = search needs
+returns-2 c = one-left _ _ _ (c .before .before .loop .inv .reading) (omega arith) (c .if1 .taken)
 
 returns-3 : tie.Need-returns-3 Inv-loop μ-loop
-returns-3 c = several-left _ _ _ _ (c .before .before .loop .inv .reading) (omega arith) (omega arith) (c .if1 .left)
+returns-3 c = several-left _ _ _ (c .before .before .loop .inv .reading) (omega arith) (omega arith) (c .if1 .left)
 
 pub read-nodes-spec : {M : Type 1} → statement M
 read-nodes-spec =
     tie.close
-    (tie.spec Inv-loop μ-loop loop-holds kind-at-requires field-at-requires check-node-requires enum-told enum-told-2 same-length returns arity-requires span-requires cast-sizes mul-sizes
-    slice-write-sizes add-unused sub-unused add-i loop-less loop-again same-length-2 returns-2 same-length-3 returns-3)
+    (tie.spec Inv-loop μ-loop loop-holds kind-at-requires field-at-requires check-node-requires enum-told enum-told-2 returns add-unused arity-requires sub-unused add-i loop-less loop-again returns-2 returns-3)

@@ -1,0 +1,74 @@
+-- The sizes of the subtrees, each from those before it.
+use mathlib.Core.Path.{_≡_, refl, sym, ap, _∙_}
+use mathlib.Core.List.{List}
+use Prim.Native.Nat.{ℕ, _+_, _-_, _*_, _≤_, _<_}
+use native.Mathlib.Omega.{arith}
+use lib.ListN.{length, getD, List·getD-append}
+use Rattle.esterel.specs.Limits.{maxNodes}
+use Rattle.esterel.specs.Statement.{Stmt, leaf, one, two, kind, size, nodes}
+use Rattle.esterel.specs.Outcome.{statementAt}
+use Rattle.esterel.proofs.Sizes.{size-pos}
+use Rattle.esterel.proofs.Subtrees.{only-child, two-children}
+use Rattle.table.specs.Kinds.{kindOf, arityOf}
+use Rattle.table.specs.Program.{programOf, Readable}
+use Rattle.table.specs.Columns.{onto, sizesOf, Measured}
+use Rattle.table.specs.Check.{Room, spanOf}
+use Rattle.table.specs.declared.Kind.{Kind}
+use Rattle.table.proofs.View.{childCount, arity-of, kind-byte}
+use Rattle.table.proofs.Filling.{length-column, column-at, Filling, filling-length, filling-at}
+
+pub length-sizes : (p : Stmt) → length (sizesOf p) ≡ size p
+unfolding sizesOf
+length-sizes p = length-column size p
+
+pub sizes-at : (p : Stmt) (i : ℕ) → i < size p → getD (sizesOf p) i 0 ≡ size (statementAt (nodes p) i)
+unfolding sizesOf
+sizes-at p i h = column-at size p i h
+
+-- what node i, with c children, needs of the sizes before it, and what its own is
+pub record Turn (p : Stmt) (sizes : List ℕ) (i c : ℕ) : Type 0 where
+  pub room : Room sizes i c
+  pub spans : spanOf sizes i c ≡ size (statementAt (nodes p) i)
+
+module _ (p : Stmt) {sizes : List ℕ} (i : ℕ) (long : size p ≤ length sizes) (h : i < size p) (before : (j : ℕ) → j < i → getD sizes j 0 ≡ size (statementAt (nodes p) j)) where
+  by-children : (w : Stmt) → statementAt (nodes p) i ≡ w → Turn p sizes i (childCount w)
+  unfolding spanOf
+  by-children (leaf l) e =
+      record {
+        room = record { within = omega arith; few = omega arith; one = λ z. absurd (omega arith); two = λ z. absurd (omega arith); fits = omega arith };
+        spans = sym (ap size e);
+      }
+  by-children (one u q) e =
+      let (le, child) = only-child p i u q e in
+      let pos = size-pos q in
+      let last : getD sizes (i - 1) 0 ≡ size q = before (i - 1) (omega arith) ∙ ap size child in
+      record {
+        room = record { within = omega arith; few = omega arith; one = λ z. omega arith; two = λ z. absurd (omega arith); fits = omega arith };
+        spans = omega (arith, ap size e);
+      }
+  by-children (two b q r) e =
+      let (le, right, left) = two-children p i b q r e in
+      let pos = size-pos q in
+      let pos′ = size-pos r in
+      let last : getD sizes (i - 1) 0 ≡ size r = before (i - 1) (omega arith) ∙ ap size right in
+      let first : getD sizes (i - 1 - getD sizes (i - 1) 0) 0 ≡ size q = rw last (before (i - 1 - size r) (omega arith) ∙ ap size left) in
+      record {
+        room = record { within = omega arith; few = omega arith; one = λ z. omega arith; two = λ z. omega arith; fits = omega arith };
+        spans = omega (arith, ap size e);
+      }
+
+-- the same in the code's own terms
+pub sized-turn : {t sizes₀ sizes : List ℕ} → Readable t → size (programOf t) ≤ length sizes₀ → (i : ℕ) → i < size (programOf t) → Filling (sizesOf (programOf t)) sizes₀ sizes (size (programOf t)) i → {k : Kind} {c : ℕ} → k ≡ kindOf (getD t (2 * i) 0) → c ≡ arityOf k → Turn (programOf t) sizes i c
+sized-turn {t = t} ok room i h o ek ec =
+    let has : size (programOf t) ≤ length (sizesOf (programOf t)) = omega (arith, length-sizes (programOf t)) in
+    rw (ec, ek, kind-byte t ok i h, arity-of (statementAt (nodes (programOf t)) i))
+    (by-children (programOf t) i (omega (arith, filling-length has room o)) h (λ j l. filling-at has room o j l ∙ sizes-at (programOf t) j (omega arith)) (statementAt (nodes (programOf t)) i) refl)
+
+-- with all sizes the table is measured
+pub measured : {t sizes : List ℕ} (old : List ℕ) → Readable t → size (programOf t) ≤ length sizes → sizes ≡ onto (sizesOf (programOf t)) old → Measured t sizes
+measured {t = t} old ok room e =
+    record {
+      readable = ok;
+      sized = λ j h. ap (λ l. getD l j 0) e ∙ List·getD-append (sizesOf (programOf t)) _ 0 j (omega (arith, length-sizes (programOf t))) ∙ sizes-at (programOf t) j h;
+      listed = room;
+    }
