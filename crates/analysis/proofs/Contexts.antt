@@ -3,17 +3,15 @@ use mathlib.Core.Path.{_≡_, refl, sym, ap, ap₂, subst, _∙_}
 use mathlib.Core.Bool.{Bool, true, false, cond, or-false}
 use mathlib.Core.List.{List, [], _∷_, map}
 use Prim.Native.Nat.{ℕ, zero, suc, _+_, _-_, _*_, _≤_, _<_}
-use native.Mathlib.Numerals.{add-one}
 use native.Mathlib.Omega.{arith}
 use lib.Dec.{ltb, eqb·zero-suc, nltb→le}
-use lib.ListN.{length, getD, set, length-append, length-map, length-set}
-use lib.Seq.{getD-set-same, getD-set-other}
+use lib.ListN.{length, getD, set, length-append, length-map}
 use Rattle.codes.specs.Codes.{Codes, empty, only, union, given, withoutEnded, meets, bit, word}
 use Rattle.codes.specs.Words.{meetsOf}
 use Rattle.codes.proofs.Bools.{toNot}
 use Rattle.codes.proofs.Laws.{singleton-word, union-word, without-ended-word, meets-word, under-trap-word, under-parallel-word, given-word, word-same}
 use Rattle.esterel.specs.Limits.{maxNodes, maxDepth}
-use Rattle.esterel.specs.Statement.{nothing, Unary, signal, suspend, loop, trap, Binary, present, sequence, parallel, Stmt, leaf, one, two, kind, size, nodes, trapsUnder}
+use Rattle.esterel.specs.Statement.{nothing, Unary, signal, suspend, loop, trap, Binary, present, sequence, parallel, Stmt, leaf, one, two, kind, size, nodes}
 use Rattle.esterel.specs.Sets.{startSet, anyInstantSet, Place, at, placesOf, under, underFirst, underLeft, underRight, mark}
 use Rattle.esterel.specs.Checks.{tooDeep}
 use Rattle.esterel.specs.Outcome.{statementAt}
@@ -22,20 +20,18 @@ use Rattle.esterel.proofs.Caught.{Caught, caught-places}
 use Rattle.esterel.proofs.Every.{every-at}
 use Rattle.esterel.proofs.Sizes.{size-pos}
 use Rattle.esterel.proofs.Subtrees.{two-children}
-use Rattle.table.specs.Kinds.{kindOf, arityOf}
-use Rattle.table.specs.Program.{programOf, Readable}
-use Rattle.table.specs.Check.{placesCheck}
-use Rattle.table.specs.declared.Check.the-variants.{Passed}
+use Rattle.table.specs.Kinds.{kindOf, arityOf, isTrap}
+use Rattle.table.specs.Program.{programOf}
 use Rattle.table.specs.declared.Kind.{Kind}
-use Rattle.table.specs.declared.Kind.the-variants.{Nothing, Pause, Emit, Exit, Signal, Present, Suspend, Loop, Sequence, Parallel, Trap, Unknown}
 use Rattle.table.proofs.Buffers.{back, back-none, back-pred, length-back, back-at}
-use Rattle.table.proofs.Said.{childrenOf, said, count-below}
-use Rattle.table.proofs.Stacks.{On, none, more, Both, put, top-is, below-is}
+use Rattle.table.proofs.Said.{said, traps-below, count-below}
+use Rattle.table.proofs.Stacks.{none, here, Last, At, hand-is, descended, length-kept}
 use Rattle.table.proofs.Surveying.{few-nodes}
-use Rattle.table.proofs.View.{kind-byte, table-length}
-use Rattle.table.proofs.Walk.{Waiting, Walk, Next, program, begin, next, descend, children, onlyChild, firstChild, secondChild, placeOf, placesIn}
-use Rattle.analysis.specs.Steps.{setOfStmt, underFirstOf, underSecondOf, leftOf, rightOf}
-use Rattle.analysis.specs.Steps.{trapsOf as trapsOfKind}
+use Rattle.table.proofs.View.{childrenOf, arity-of, kind-byte, table-length}
+use Rattle.table.proofs.Walk.{Waiting, Walk, Next, program, begin, next, descend, placeOf, placesIn}
+use Rattle.analysis.specs.Steps.{setOfStmt, underFirstOf, underSecondOf, firstOf, lastOf}
+use Rattle.analysis.specs.Contexts.{Descended}
+use Rattle.analysis.specs.declared.Surroundings.{Surroundings}
 use Rattle.analysis.specs.Passes.{Placed, Filled, onto, placeAt, firstEnds, contextWord, contextsOf, marksOf}
 use Rattle.analysis.proofs.Nodes.{PlacesPass, places-pass}
 
@@ -60,37 +56,24 @@ second-word P true = given-word P true
 second-word P false = given-word P false
 
 -- the word of each child's context
-left-one : (u : Unary) (q : Stmt) (P : Codes) (t K : ℕ) → leftOf (kindOf (kind (one u q))) (word P) t K ≡ word (under u P)
+last-one : (u : Unary) (q : Stmt) (P : Codes) (t ends : ℕ) → lastOf (kindOf (kind (one u q))) (word P) t ends ≡ word (under u P)
 unfolding kindOf
-left-one (signal s) q P t K = refl
-left-one (suspend s) q P t K = refl
-left-one loop q P t K = rw (singleton-word 0) (union-word P (only 0))
-left-one trap q P t K = under-trap-word P
+last-one (signal s) q P t ends = refl
+last-one (suspend s) q P t ends = refl
+last-one loop q P t ends = rw (singleton-word 0) (union-word P (only 0))
+last-one trap q P t ends = under-trap-word P
 
-left-two : (b : Binary) (q r : Stmt) (P : Codes) (t : ℕ) → leftOf (kindOf (kind (two b q r))) (word P) t (word (startSet r)) ≡ word (underLeft b t P r)
+first-two : (b : Binary) (q r : Stmt) (P : Codes) (t : ℕ) → firstOf (kindOf (kind (two b q r))) (word P) t (word (startSet r)) ≡ word (underLeft b t P r)
 unfolding kindOf
-left-two (present s) q r P t = refl
-left-two sequence q r P t = first-word P (startSet r)
-left-two parallel q r P t = under-parallel-word P t
+first-two (present s) q r P t = refl
+first-two sequence q r P t = first-word P (startSet r)
+first-two parallel q r P t = under-parallel-word P t
 
-right-two : (b : Binary) (q r : Stmt) (P : Codes) (t : ℕ) → rightOf (kindOf (kind (two b q r))) (word P) t (firstEnds (two b q r)) ≡ word (underRight b t P q)
+last-two : (b : Binary) (q r : Stmt) (P : Codes) (t : ℕ) → lastOf (kindOf (kind (two b q r))) (word P) t (firstEnds (two b q r)) ≡ word (underRight b t P q)
 unfolding kindOf
-right-two (present s) q r P t = refl
-right-two sequence q r P t = second-word P (startSet q 0)
-right-two parallel q r P t = under-parallel-word P t
-
-traps-one : (u : Unary) (q : Stmt) (t : ℕ) → trapsOfKind (kindOf (kind (one u q))) t ≡ trapsUnder u t
-unfolding kindOf
-traps-one (signal s) q t = refl
-traps-one (suspend s) q t = refl
-traps-one loop q t = refl
-traps-one trap q t = add-one t
-
-traps-two : (b : Binary) (q r : Stmt) (t : ℕ) → trapsOfKind (kindOf (kind (two b q r))) t ≡ t
-unfolding kindOf
-traps-two (present s) q r t = refl
-traps-two sequence q r t = refl
-traps-two parallel q r t = refl
+last-two (present s) q r P t = refl
+last-two sequence q r P t = second-word P (startSet q 0)
+last-two parallel q r P t = under-parallel-word P t
 
 -- a column of the listing, by its places
 module _ (f : Place → ℕ) (p : Stmt) where
@@ -122,14 +105,14 @@ unfolding marksOf
 marks-at p i h = by-place-at mark p i h
 
 -- what holds when the nodes from i on are done
-pub record Walking (p : Stmt) (pending counts contexts₀ contexts marks₀ marks : List ℕ) (waiting i : ℕ) : Type 0 where
+pub record Walking (p : Stmt) (pending counts : List ℕ) (node : Surroundings) (contexts₀ contexts marks₀ marks : List ℕ) (i : ℕ) : Type 0 where
   pub ws : List Waiting
   pub walk : Walk p i ws
-  pub count : waiting ≡ length ws
+  pub count : node .waiting ≡ length ws
   pub pendingLong : length pending ≡ maxDepth + 1
   pub countsLong : length counts ≡ maxDepth + 1
-  pub pendingOn : On (λ w. word (w .context)) pending ws
-  pub countsOn : On (λ w. w .traps) counts ws
+  pub contextAt : At (λ w. word (w .context)) (node .context) pending ws
+  pub trapsAt : At (λ w. w .traps) (node .traps) counts ws
   pub contextsAre : contexts ≡ back (contextsOf p) contexts₀ i
   pub marksAre : marks ≡ back (marksOf p) marks₀ i
 
@@ -138,9 +121,10 @@ unfolding word
 empty-word = refl
 
 -- at the beginning the program waits, with the empty context
-pub walk-start : (p : Stmt) (pending counts contexts marks : List ℕ) (i : ℕ) → i ≡ size p → length pending ≡ maxDepth + 1 → getD pending 0 0 ≡ 0 → length counts ≡ maxDepth + 1 → getD counts 0 0 ≡ 0 → Walking p pending counts contexts contexts marks marks 1 i
+pub walk-start : (p : Stmt) (pending counts contexts marks : List ℕ) (i : ℕ) → i ≡ size p → length pending ≡ maxDepth + 1 → length counts ≡ maxDepth + 1
+    → Walking p pending counts (record { context = 0; traps = 0; waiting = 1 }) contexts contexts marks marks i
 unfolding begin
-walk-start p pending counts contexts marks i e lp vp lc vc =
+walk-start p pending counts contexts marks i e lp lc =
     rw e
     record {
       ws = program p ∷ [];
@@ -148,13 +132,13 @@ walk-start p pending counts contexts marks i e lp vp lc vc =
       count = refl;
       pendingLong = lp;
       countsLong = lc;
-      pendingOn = more (program p) [] (vp ∙ sym empty-word) none;
-      countsOn = more (program p) [] vc none;
+      contextAt = here (program p) [] (sym empty-word) none;
+      trapsAt = here (program p) [] refl none;
       contextsAre = sym (ap (back (contextsOf p) contexts) (sym (length-contexts p)) ∙ back-none (contextsOf p) contexts);
       marksAre = sym (ap (back (marksOf p) marks) (sym (length-marks p)) ∙ back-none (marksOf p) marks);
     }
 
-module _ {p : Stmt} {pending counts contexts₀ contexts marks₀ marks : List ℕ} {waiting i : ℕ} (o : Walking p pending counts contexts₀ contexts marks₀ marks waiting i) where
+module _ {p : Stmt} {pending counts : List ℕ} {node : Surroundings} {contexts₀ contexts marks₀ marks : List ℕ} {i : ℕ} (o : Walking p pending counts node contexts₀ contexts marks₀ marks i) where
   pub walk-bound : i ≤ size p
   walk-bound =
       let total : length (placesOf p) ≡ length (placesIn (o .ws)) + length (o .walk .seen) = ap length (o .walk .are) ∙ length-append (placesIn (o .ws)) (o .walk .seen) in
@@ -166,10 +150,10 @@ module _ {p : Stmt} {pending counts contexts₀ contexts marks₀ marks : List �
   pub marks-long : size p ≤ length marks₀ → length marks ≡ length marks₀
   marks-long room = ap length (o .marksAre) ∙ length-back (marksOf p) marks₀ (omega (arith, length-marks p)) i (omega (arith, walk-bound, length-marks p))
 
-  pub stepped : 0 < i → Walking p pending counts contexts₀ contexts marks₀ marks waiting (suc (i - 1))
+  pub stepped : 0 < i → Walking p pending counts node contexts₀ contexts marks₀ marks (suc (i - 1))
   stepped h =
       let e : i ≡ suc (i - 1) = omega arith in
-      subst (λ n. Walking p pending counts contexts₀ contexts marks₀ marks waiting n) e o
+      subst (λ n. Walking p pending counts node contexts₀ contexts marks₀ marks n) e o
 
   -- the whole columns stand there at the end
   pub contexts-end : i ≡ 0 → contexts ≡ onto (contextsOf p) contexts₀
@@ -179,28 +163,25 @@ module _ {p : Stmt} {pending counts contexts₀ contexts marks₀ marks : List �
   marks-end e = o .marksAre ∙ ap (back (marksOf p) marks₀) e
 
 -- what a turn at the node i needs
-pub record Turn (t counts contexts marks : List ℕ) (waiting i : ℕ) : Type 0 where
+pub record Turn (t : List ℕ) (node : Surroundings) (contexts marks : List ℕ) (i : ℕ) : Type 0 where
   pub inside : i < size (programOf t)
   pub table : 2 * i + 1 < length t
-  pub waits : 1 ≤ waiting
-  pub fits : waiting - 1 + 1 < maxDepth + 1
-  pub traps : getD counts (waiting - 1) 0 ≤ 62
+  pub waits : 0 < node .waiting
+  pub fits : node .waiting ≤ maxDepth
+  pub traps : node .traps < 62
   pub inContexts : i < length contexts
   pub inMarks : i < length marks
   pub low : i < maxNodes
 
-module _ {t : List ℕ} (ok : Placed t) {pending counts contexts₀ contexts marks₀ marks : List ℕ} {waiting i : ℕ} (roomS : size (programOf t) ≤ length contexts₀) (roomM : size (programOf t) ≤ length marks₀) (o : Walking (programOf t) pending counts contexts₀ contexts marks₀ marks waiting (suc i)) where
-  here : Next (programOf t) i (o .ws) (o .walk .seen) (o .walk .seenLoops)
-  here = next (programOf t) i (o .ws) (o .walk)
+module _ {t : List ℕ} (ok : Placed t) {pending counts : List ℕ} {node : Surroundings} {contexts₀ contexts marks₀ marks : List ℕ} {i : ℕ} (roomS : size (programOf t) ≤ length contexts₀) (roomM : size (programOf t) ≤ length marks₀) (o : Walking (programOf t) pending counts node contexts₀ contexts marks₀ marks (suc i)) where
+  ahead : Next (programOf t) i (o .ws) (o .walk .seen) (o .walk .seenLoops)
+  ahead = next (programOf t) i (o .ws) (o .walk)
 
   abbrev w : Waiting
-  w = here .top
+  w = ahead .top
 
-  index : waiting ≡ suc (length (here .below))
-  index = o .count ∙ ap length (here .is)
-
-  index-is : waiting - 1 ≡ length (here .below)
-  index-is = omega (arith, index)
+  count : node .waiting ≡ suc (length (ahead .below))
+  count = o .count ∙ ap length (ahead .is)
 
   inside : i < size (programOf t)
   inside = walk-bound o
@@ -211,38 +192,38 @@ module _ {t : List ℕ} (ok : Placed t) {pending counts contexts₀ contexts mar
   not-deep : w .depth ≤ maxDepth
   not-deep =
       let x = every-at (at 0 0 empty (leaf nothing)) refl (pass .depths) i in
-      let y : tooDeep (placeOf w) ≡ false = rw (here .place) at x in
+      let y : tooDeep (placeOf w) ≡ false = rw (ahead .place) at x in
       nltb→le maxDepth (w .depth) (toNot (ltb maxDepth (w .depth)) y)
 
   few-traps : w .traps ≤ 32
   few-traps =
       let c = every-at (at 0 0 empty (leaf nothing)) record { exits = tt; few = omega arith } (caught-places (programOf t) 1 0 empty (omega arith) (exits-caught (programOf t) 1 0 empty (pass .exits)) (pass .traps)) i in
-      let y : Caught (placeOf w) = rw (here .place) at c in
+      let y : Caught (placeOf w) = rw (ahead .place) at c in
       y .few
 
-  waits : 1 ≤ waiting
-  waits = omega (arith, index)
+  fits : node .waiting ≤ maxDepth
+  fits = omega (arith, count, ahead .depth, not-deep)
 
-  fits : waiting - 1 + 1 < maxDepth + 1
-  fits = omega (arith, index, here .depth, not-deep)
+  context-at : At (λ w. word (w .context)) (node .context) pending (w ∷ ahead .below)
+  context-at = rw (ahead .is) at (o .contextAt)
 
-  context-is : getD pending (waiting - 1) 0 ≡ word (w .context)
-  context-is = ap (λ n. getD pending n 0) index-is ∙ top-is (λ w. word (w .context)) pending w (here .below) (rw (here .is) at (o .pendingOn))
+  traps-at : At (λ w. w .traps) (node .traps) counts (w ∷ ahead .below)
+  traps-at = rw (ahead .is) at (o .trapsAt)
 
-  traps-is : getD counts (waiting - 1) 0 ≡ w .traps
-  traps-is = ap (λ n. getD counts n 0) index-is ∙ top-is (λ w. w .traps) counts w (here .below) (rw (here .is) at (o .countsOn))
+  context-is : node .context ≡ word (w .context)
+  context-is = hand-is (λ w. word (w .context)) w (ahead .below) context-at
 
-  traps-low : getD counts (waiting - 1) 0 ≤ 62
-  traps-low = omega (arith, traps-is, few-traps)
+  traps-is : node .traps ≡ w .traps
+  traps-is = hand-is (λ w. w .traps) w (ahead .below) traps-at
 
-  pub turn : Turn t counts contexts marks waiting i
+  pub turn : Turn t node contexts marks i
   turn =
       record {
         inside = inside;
         table = omega (arith, inside, table-length t (ok .readable));
-        waits = waits;
+        waits = omega (arith, count);
         fits = fits;
-        traps = traps-low;
+        traps = omega (arith, traps-is, few-traps);
         inContexts = omega (arith, inside, contexts-long o roomS);
         inMarks = omega (arith, inside, marks-long o roomM);
         low = omega (arith, inside, few-nodes t (ok .readable));
@@ -251,82 +232,55 @@ module _ {t : List ℕ} (ok : Placed t) {pending counts contexts₀ contexts mar
   flag-kept : getD marks i 0 ≡ getD marks₀ i 0
   flag-kept = ap (λ l. getD l i 0) (o .marksAre) ∙ back-at (marksOf (programOf t)) marks₀ (omega (arith, length-marks (programOf t))) (suc i) i (omega (arith, inside, length-marks (programOf t))) (omega arith)
 
-  -- what the turn computes: the kind k, the last child's start set, the children's contexts x and y and their traps z, the count a, the mark m
-  module _ {k : Kind} {last x y z a m : ℕ} (sets anys : List ℕ) (done : Filled false (programOf t) sets) (any : Filled true (programOf t) anys) (flagged : (j : ℕ) → j < size (programOf t) → getD marks₀ j 0 ≡ firstEnds (statementAt (nodes (programOf t)) j)) (ek : k ≡ kindOf (getD t (2 * i) 0)) (el : (i ≡ 0 → ⊥) → last ≡ getD sets (i - 1) 0) (ex : x ≡ leftOf k (getD pending (waiting - 1) 0) (getD counts (waiting - 1) 0) last) (ey : y ≡ rightOf k (getD pending (waiting - 1) 0) (getD counts (waiting - 1) 0) (getD marks i 0)) (ez : z ≡ trapsOfKind k (getD counts (waiting - 1) 0)) (ea : a ≡ arityOf k) (em : m ≡ bit (meetsOf (getD anys i 0) (getD pending (waiting - 1) 0))) where
+  -- what the turn has read, the kind k, the last child's start set K and the flag, and what it computes, the mark m
+  module _ {k : Kind} {K ends m : ℕ} (sets anys : List ℕ) (done : Filled false (programOf t) sets) (any : Filled true (programOf t) anys) (flagged : (j : ℕ) → j < size (programOf t) → getD marks₀ j 0 ≡ firstEnds (statementAt (nodes (programOf t)) j)) (ek : k ≡ kindOf (getD t (2 * i) 0)) (el : (i ≡ 0 → ⊥) → K ≡ getD sets (i - 1) 0) (ee : ends ≡ getD marks i 0) (em : m ≡ bit (meetsOf (getD anys i 0) (node .context))) where
     kind-is : k ≡ kindOf (kind (w .root))
-    kind-is = ek ∙ ap kindOf (kind-byte t (ok .readable) i inside ∙ ap kind (here .statement))
+    kind-is = ek ∙ ap kindOf (kind-byte t (ok .readable) i inside ∙ ap kind (ahead .statement))
 
-    arity-is : a ≡ childrenOf (w .root)
-    arity-is = ea ∙ ap arityOf kind-is ∙ said (w .root) .taken
+    children : arityOf k ≡ childrenOf (w .root)
+    children = ap arityOf kind-is ∙ arity-of (w .root)
 
-    x-is : x ≡ leftOf (kindOf (kind (w .root))) (word (w .context)) (w .traps) last
-    x-is = ex ∙ rw (kind-is, context-is, traps-is) refl
+    ends-is : ends ≡ firstEnds (w .root)
+    ends-is = ee ∙ flag-kept ∙ flagged i inside ∙ ap firstEnds (ahead .statement)
 
-    y-is : y ≡ rightOf (kindOf (kind (w .root))) (word (w .context)) (w .traps) (firstEnds (w .root))
-    y-is = ey ∙ rw (kind-is, context-is, traps-is, flag-kept, flagged i inside, here .statement) refl
-
-    z-is : z ≡ trapsOfKind (kindOf (kind (w .root))) (w .traps)
-    z-is = ez ∙ rw (kind-is, traps-is) refl
-
-    contexts-below : Both (λ c. word (c .context)) (w .depth) (w .traps) (w .loops) (w .context) (w .root) x y
+    contexts-below : Last (λ c. word (c .context)) (w .depth) (w .traps) (w .loops) (w .context) (w .root) (firstOf k (node .context) (node .traps) K) (lastOf k (node .context) (node .traps) ends)
     unfolding Filled
-    contexts-below = go (w .root) (here .statement) x-is y-is
+    contexts-below = go (w .root) (ahead .statement) kind-is ends-is
       where
-        go : (s : Stmt) → statementAt (nodes (programOf t)) i ≡ s → x ≡ leftOf (kindOf (kind s)) (word (w .context)) (w .traps) last → y ≡ rightOf (kindOf (kind s)) (word (w .context)) (w .traps) (firstEnds s) → Both (λ c. word (c .context)) (w .depth) (w .traps) (w .loops) (w .context) s x y
-        go (leaf l) e gx gy = tt
-        go (one u q) e gx gy = gx ∙ left-one u q (w .context) (w .traps) last
-        go (two b q r) e gx gy =
+        go : (s : Stmt) → statementAt (nodes (programOf t)) i ≡ s → k ≡ kindOf (kind s) → ends ≡ firstEnds s → Last (λ c. word (c .context)) (w .depth) (w .traps) (w .loops) (w .context) s (firstOf k (node .context) (node .traps) K) (lastOf k (node .context) (node .traps) ends)
+        go (leaf l) e kk ke = tt
+        go (one u q) e kk ke = ap (λ j. lastOf j (node .context) (node .traps) ends) kk ∙ ap₂ (λ x y. lastOf (kindOf (kind (one u q))) x y ends) context-is traps-is ∙ last-one u q (w .context) (w .traps) ends
+        go (two b q r) e kk ke =
             let (le, right, left) = two-children (programOf t) i b q r e in
             let pos : i ≡ 0 → ⊥ = λ n. omega (arith, size-pos q) in
-            let K : last ≡ word (startSet r) = el pos ∙ done (i - 1) (omega (arith, inside)) ∙ ap (λ s. word (setOfStmt false s)) right in
-            (gx ∙ ap (leftOf (kindOf (kind (two b q r))) (word (w .context)) (w .traps)) K ∙ left-two b q r (w .context) (w .traps), gy ∙ right-two b q r (w .context) (w .traps))
-
-    traps-below : Both (λ c. c .traps) (w .depth) (w .traps) (w .loops) (w .context) (w .root) z z
-    traps-below = go (w .root) z-is
-      where
-        go : (s : Stmt) → z ≡ trapsOfKind (kindOf (kind s)) (w .traps) → Both (λ c. c .traps) (w .depth) (w .traps) (w .loops) (w .context) s z z
-        go (leaf l) e = tt
-        go (one u q) e = e ∙ traps-one u q (w .traps)
-        go (two b q r) e = let v = e ∙ traps-two b q r (w .traps) in (v, v)
+            let last : K ≡ word (startSet r) = el pos ∙ done (i - 1) (omega (arith, inside)) ∙ ap (λ s. word (setOfStmt false s)) right in (
+              ap (λ j. firstOf j (node .context) (node .traps) K) kk ∙ ap₂ (λ x y. firstOf (kindOf (kind (two b q r))) x y K) context-is traps-is ∙ ap (firstOf (kindOf (kind (two b q r))) (word (w .context)) (w .traps)) last ∙ first-two b q r (w .context) (w .traps),
+              ap (λ j. lastOf j (node .context) (node .traps) ends) kk ∙ ap₂ (λ x y. lastOf (kindOf (kind (two b q r))) x y ends) context-is traps-is ∙ ap (lastOf (kindOf (kind (two b q r))) (word (w .context)) (w .traps)) ke ∙ last-two b q r (w .context) (w .traps),
+            )
 
     mark-is : m ≡ mark (placeAt (programOf t) i)
     unfolding Filled
     mark-is =
-        em ∙ ap₂ (λ u v. bit (meetsOf u v)) (any i inside ∙ ap (λ s. word (anyInstantSet s)) (here .statement)) context-is
-        ∙ ap bit (meets-word (anyInstantSet (w .root)) (w .context)) ∙ sym (ap mark (here .place))
+        em ∙ ap₂ (λ u v. bit (meetsOf u v)) (any i inside ∙ ap (λ s. word (anyInstantSet s)) (ahead .statement)) context-is
+        ∙ ap bit (meets-word (anyInstantSet (w .root)) (w .context)) ∙ sym (ap mark (ahead .place))
 
-    pub walk-on : Walking (programOf t) (set (set pending (waiting - 1) x) (waiting - 1 + 1) y) (set (set counts (waiting - 1) z) (waiting - 1 + 1) z) contexts₀ (set contexts i (getD pending (waiting - 1) 0)) marks₀ (set marks i m) (waiting - 1 + a) i
-    walk-on =
+    pub walk-on : {pending′ counts′ : List ℕ} {node′ : Surroundings} → Descended k node K ends pending counts pending′ counts′ node′ → Walking (programOf t) pending′ counts′ node′ contexts₀ (set contexts i (node .context)) marks₀ (set marks i m) i
+    walk-on n =
         record {
-          ws = descend w (here .below);
-          walk = here .on;
-          count = omega (arith, arity-is, index-is, count-below (w .depth) (w .traps) (w .loops) (w .context) (w .root) (here .below));
-          pendingLong = simp length-set (o .pendingLong);
-          countsLong = simp length-set (o .countsLong);
-          pendingOn =
-              put (λ c. word (c .context)) (w .depth) (w .traps) (w .loops) (w .context) (w .root) (here .below) pending (waiting - 1) x y index-is (omega (arith, fits, o .pendingLong)) contexts-below
-              (below-is (λ c. word (c .context)) pending w (here .below) (rw (here .is) at (o .pendingOn)));
-          countsOn =
-              put (λ c. c .traps) (w .depth) (w .traps) (w .loops) (w .context) (w .root) (here .below) counts (waiting - 1) z z index-is (omega (arith, fits, o .countsLong)) traps-below
-              (below-is (λ c. c .traps) counts w (here .below) (rw (here .is) at (o .countsOn)));
+          ws = descend w (ahead .below);
+          walk = ahead .on;
+          count = omega (arith, n .waits, children, count, count-below (w .depth) (w .traps) (w .loops) (w .context) (w .root) (ahead .below));
+          pendingLong = ap length (n .pendingIs) ∙ length-kept (arityOf k) pending (node .waiting) _ ∙ o .pendingLong;
+          countsLong = ap length (n .countsAre) ∙ length-kept (arityOf k) counts (node .waiting) _ ∙ o .countsLong;
+          contextAt = rw (n .context, n .pendingIs) (descended (λ c. word (c .context)) w (ahead .below) context-at (node .waiting) (arityOf k) _ _ count children (omega (arith, fits, o .pendingLong)) contexts-below);
+          trapsAt =
+              rw (n .traps, n .countsAre)
+              (descended (λ c. c .traps) w (ahead .below) traps-at (node .waiting) (arityOf k) _ _ count children (omega (arith, fits, o .countsLong))
+              (traps-below (w .depth) (w .traps) (w .loops) (w .context) (w .root) (node .traps + bit (isTrap k)) (omega (arith, traps-is, ap (λ j. bit (isTrap j)) kind-is ∙ said (w .root) .traps))));
           contextsAre =
-              ap (λ l. set l i (getD pending (waiting - 1) 0)) (o .contextsAre)
-              ∙ back-pred (contextsOf (programOf t)) contexts₀ (omega (arith, length-contexts (programOf t))) i (getD pending (waiting - 1) 0) (omega (arith, inside, length-contexts (programOf t))) (context-is ∙ sym (contexts-at (programOf t) i inside ∙ ap contextWord (here .place)));
+              ap (λ l. set l i (node .context)) (o .contextsAre)
+              ∙ back-pred (contextsOf (programOf t)) contexts₀ (omega (arith, length-contexts (programOf t))) i (node .context) (omega (arith, inside, length-contexts (programOf t))) (context-is ∙ sym (contexts-at (programOf t) i inside ∙ ap contextWord (ahead .place)));
           marksAre =
               ap (λ l. set l i m) (o .marksAre)
               ∙ back-pred (marksOf (programOf t)) marks₀ (omega (arith, length-marks (programOf t))) i m (omega (arith, inside, length-marks (programOf t))) (mark-is ∙ sym (marks-at (programOf t) i inside));
         }
-
-pub arity-small : (k : Kind) → arityOf k ≤ 2
-arity-small Nothing = omega arith
-arity-small Pause = omega arith
-arity-small Emit = omega arith
-arity-small Exit = omega arith
-arity-small Signal = omega arith
-arity-small Present = omega arith
-arity-small Suspend = omega arith
-arity-small Loop = omega arith
-arity-small Sequence = omega arith
-arity-small Parallel = omega arith
-arity-small Trap = omega arith
-arity-small Unknown = omega arith

@@ -3,6 +3,7 @@ pub mod Nodes
 pub mod Filling
 pub mod Unused
 pub mod Loops
+pub mod Descending
 pub mod Contexts
 pub mod Accepts
 pub mod Analyses

@@ -23,9 +23,9 @@ use Rattle.esterel.proofs.LoopCheck.{loopEnds, ends-at}
 use Rattle.table.specs.Kinds.{kindOf, arityOf, isLoop, isSequence}
 use Rattle.table.specs.Program.{programOf}
 use Rattle.table.specs.declared.Kind.{Kind}
-use Rattle.table.proofs.Said.{childrenOf, said, count-below}
-use Rattle.table.proofs.Stacks.{On, none, Both, pushed, taken, rest}
-use Rattle.table.proofs.View.{table-length}
+use Rattle.table.proofs.Said.{count-below}
+use Rattle.table.proofs.Stacks.{On, none, First, pushed, taken, rest}
+use Rattle.table.proofs.View.{childrenOf, arity-of}
 use Rattle.table.proofs.Walk.{Waiting, Unused, Ahead, ahead, at-first, descend, placeOf}
 use Rattle.analysis.specs.Steps.{setOfStmt, codesOf}
 use Rattle.analysis.specs.Passes.{Placed, placeAt, firstEnds}
@@ -44,7 +44,7 @@ pub record Before (p : Stmt) (us : List Waiting) (unused i : ℕ) : Type 0 where
 -- and these are their words
 pub record Words (any : Bool) (us : List Waiting) (xs : List ℕ) : Type 0 where
   pub long : length xs ≡ maxDepth + 1
-  pub on : On (wordOf any) xs us
+  pub on : On 0 (wordOf any) xs us
 
 pub begin : (p : Stmt) → Before p [] 0 0
 begin p = record { waits = at-first p; count = refl; bound = omega arith }
@@ -93,7 +93,7 @@ module _ {t : List ℕ} (ok : Placed t) {us : List Waiting} {unused i : ℕ} (o 
   kind-here = kind-is ok i inside ek ef ∙ ap (λ s. kindOf (kind s)) (here .statement)
 
   arity-here : c ≡ childrenOf (w .root)
-  arity-here = ec ∙ ap arityOf kind-here ∙ said (w .root) .taken
+  arity-here = ec ∙ ap arityOf kind-here ∙ arity-of (w .root)
 
   counts : length (here .below) + c ≡ unused
   counts = omega (arith, arity-here, count-below (w .depth) (w .traps) (w .loops) (w .context) (w .root) (here .below), ap length (here .is), o .count)
@@ -124,7 +124,7 @@ module _ {t : List ℕ} (ok : Placed t) {us : List Waiting} {unused i : ℕ} (o 
     children : Children any (w .root) (getD xs (unused - c) 0) (getD xs (unused - c + 1) 0)
     children = go (w .root) (taken (wordOf any) (w .depth) (w .traps) (w .loops) (w .context) (w .root) (here .below) xs (unused - c) base-is (rw (here .is) at (ws .on)))
       where
-        go : (s : Stmt) → Both (wordOf any) (w .depth) (w .traps) (w .loops) (w .context) s (getD xs (unused - c) 0) (getD xs (unused - c + 1) 0) → Children any s (getD xs (unused - c) 0) (getD xs (unused - c + 1) 0)
+        go : (s : Stmt) → First (wordOf any) (w .depth) (w .traps) (w .loops) (w .context) s (getD xs (unused - c) 0) (getD xs (unused - c + 1) 0) → Children any s (getD xs (unused - c) 0) (getD xs (unused - c + 1) 0)
         go (leaf l) b = tt
         go (one u q) b = b
         go (two b q r) e = e
@@ -151,7 +151,7 @@ module _ {t : List ℕ} (ok : Placed t) {us : List Waiting} {unused i : ℕ} (o 
           rw e
           record {
             long = simp length-set (ws .long);
-            on = pushed (wordOf any) xs w (here .below) (unused - c) own base-is fits own-root (rest (wordOf any) (w .depth) (w .traps) (w .loops) (w .context) (w .root) (here .below) xs (rw (here .is) at (ws .on)));
+            on = pushed 0 (wordOf any) xs w (here .below) (unused - c) own (omega (arith, base-is)) fits own-root (rest (wordOf any) (w .depth) (w .traps) (w .loops) (w .context) (w .root) (here .below) xs (rw (here .is) at (ws .on)));
           }
 
   module _ {xs : List ℕ} (ws : Words false us xs) where

@@ -1,4 +1,5 @@
 pub mod Steps
+pub mod Contexts
 pub mod Passes
 pub mod Analysis
 pub mod Theorems

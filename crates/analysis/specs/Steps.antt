@@ -45,47 +45,32 @@ abbrev pub underSecondOf : (P ends : ℕ) → ℕ
 underSecondOf P zero = 0
 underSecondOf P (suc e) = P
 
--- of the only child, or of the first of two; K is the last child's start set
-abbrev pub leftOf : Kind → (P t K : ℕ) → ℕ
-leftOf Nothing P t K = P
-leftOf Pause P t K = P
-leftOf Emit P t K = P
-leftOf Exit P t K = P
-leftOf Signal P t K = P
-leftOf Present P t K = P
-leftOf Suspend P t K = P
-leftOf Loop P t K = unionOf P (singletonOf 0)
-leftOf Sequence P t K = underFirstOf P K
-leftOf Parallel P t K = underParallelOf t P
-leftOf Trap P t K = underTrapOf P
-leftOf Unknown P t K = P
+-- of the first of two children; K is the second's start set
+abbrev pub firstOf : Kind → (P t K : ℕ) → ℕ
+firstOf Nothing P t K = P
+firstOf Pause P t K = P
+firstOf Emit P t K = P
+firstOf Exit P t K = P
+firstOf Signal P t K = P
+firstOf Present P t K = P
+firstOf Suspend P t K = P
+firstOf Loop P t K = P
+firstOf Sequence P t K = underFirstOf P K
+firstOf Parallel P t K = underParallelOf t P
+firstOf Trap P t K = P
+firstOf Unknown P t K = P
 
--- of the second of two; `ends` says whether the first may end at once
-abbrev pub rightOf : Kind → (P t ends : ℕ) → ℕ
-rightOf Nothing P t ends = P
-rightOf Pause P t ends = P
-rightOf Emit P t ends = P
-rightOf Exit P t ends = P
-rightOf Signal P t ends = P
-rightOf Present P t ends = P
-rightOf Suspend P t ends = P
-rightOf Loop P t ends = P
-rightOf Sequence P t ends = underSecondOf P ends
-rightOf Parallel P t ends = underParallelOf t P
-rightOf Trap P t ends = P
-rightOf Unknown P t ends = P
-
--- the traps around the children
-abbrev pub trapsOf : Kind → ℕ → ℕ
-trapsOf Nothing t = t
-trapsOf Pause t = t
-trapsOf Emit t = t
-trapsOf Exit t = t
-trapsOf Signal t = t
-trapsOf Present t = t
-trapsOf Suspend t = t
-trapsOf Loop t = t
-trapsOf Sequence t = t
-trapsOf Parallel t = t
-trapsOf Trap t = t + 1
-trapsOf Unknown t = t
+-- of the only child, or of the second of two; `ends` says whether the first may end at once
+abbrev pub lastOf : Kind → (P t ends : ℕ) → ℕ
+lastOf Nothing P t ends = P
+lastOf Pause P t ends = P
+lastOf Emit P t ends = P
+lastOf Exit P t ends = P
+lastOf Signal P t ends = P
+lastOf Present P t ends = P
+lastOf Suspend P t ends = P
+lastOf Loop P t ends = unionOf P (singletonOf 0)
+lastOf Sequence P t ends = underSecondOf P ends
+lastOf Parallel P t ends = underParallelOf t P
+lastOf Trap P t ends = underTrapOf P
+lastOf Unknown P t ends = P

@@ -10,7 +10,8 @@ ghost use Rattle.table.specs.declared.Kind.the-variants.{Exit};
 ghost use Rattle.table.specs.Kinds.{isLoop, isSequence};
 ghost use Rattle.table.specs.Program.{programOf};
 ghost use Rattle.table.specs.Check.{WellSized, passIf};
-ghost use Rattle.analysis.specs.Steps.{pauseSet, sequenceOf, codesOf, underFirstOf, underSecondOf, leftOf, rightOf, trapsOf};
+ghost use Rattle.analysis.specs.Steps.{pauseSet, sequenceOf, codesOf, underFirstOf, underSecondOf};
+ghost use Rattle.analysis.specs.Contexts.{TopOf, OnlyOf, SecondOf, Descended};
 ghost use Rattle.analysis.specs.Passes.{Placed, onto, loopsCheck, wordsOf, flagsOf, Fillable, contextsOf, marksOf, Walkable, Accepting};
 ghost use Rattle.analysis.specs.Analysis.{refusalOf, roomFor, Analysis};
 use table::Check;
@@ -164,66 +165,93 @@ fn second_context(context: u64, ends: u8) -> u64
     if ends == 0 { 0 } else { context }
 }
 
-// The context of the only child, or of the first of two; `last` is the last child's start set.
-fn left_context(kind: Kind, context: u64, traps: u32, last: u64) -> u64
-    requires { ⌜ traps ≤ 62 ⌝ }
-    ensures { λ r. ⌜ r ≡ leftOf kind context traps last ⌝ }
+// The context of a node, the traps around it, and how many subtrees wait, its own among them.
+struct Surroundings {
+    context: u64,
+    traps: u32,
+    waiting: usize,
+}
+
+// Past a leaf: the subtree that waits next.
+fn next_waiting(
+    pending: &[u64; esterel::MAX_DEPTH + 1],
+    counts: &[u32; esterel::MAX_DEPTH + 1],
+    waiting: usize,
+) -> Surroundings
+    requires { ⌜ (0 < waiting) × (waiting ≤ maxDepth) ⌝ }
+    ensures { λ r. ⌜ TopOf (now (pending .entry)) (now (counts .entry)) waiting r ⌝ }
 {
-    match kind {
-        Kind::Nothing => context,
-        Kind::Pause => context,
-        Kind::Emit => context,
-        Kind::Exit => context,
-        Kind::Signal => context,
-        Kind::Present => context,
-        Kind::Suspend => context,
-        Kind::Loop => codes::union(context, codes::singleton(0)),
-        Kind::Sequence => first_context(context, last),
-        Kind::Parallel => codes::under_parallel(context, traps),
-        Kind::Trap => codes::under_trap(context),
-        Kind::Unknown => context,
+    let top = waiting - 1;
+    Surroundings {
+        context: pending[top],
+        traps: counts[top],
+        waiting: top,
     }
 }
 
-// The context of the second of two children; `ends` says whether the first may end at once.
-fn right_context(kind: Kind, context: u64, traps: u32, ends: u8) -> u64
-    requires { ⌜ traps ≤ 62 ⌝ }
-    ensures { λ r. ⌜ r ≡ rightOf kind context traps ends ⌝ }
+// Into the only child, with this context and so many traps around it.
+fn only_child(node: Surroundings, context: u64, traps: u32) -> Surroundings
+    ensures { λ r. ⌜ OnlyOf node context traps r ⌝ }
 {
-    match kind {
-        Kind::Nothing => context,
-        Kind::Pause => context,
-        Kind::Emit => context,
-        Kind::Exit => context,
-        Kind::Signal => context,
-        Kind::Present => context,
-        Kind::Suspend => context,
-        Kind::Loop => context,
-        Kind::Sequence => second_context(context, ends),
-        Kind::Parallel => codes::under_parallel(context, traps),
-        Kind::Trap => context,
-        Kind::Unknown => context,
+    Surroundings {
+        context,
+        traps,
+        waiting: node.waiting,
     }
 }
 
-// The traps around the children.
-fn child_traps(kind: Kind, traps: u32) -> u32
-    requires { ⌜ traps ≤ 62 ⌝ }
-    ensures { λ r. ⌜ r ≡ trapsOf kind traps ⌝ }
+// Into the second of two children, with the contexts of both. The first waits.
+fn second_child(
+    pending: &mut [u64; esterel::MAX_DEPTH + 1],
+    counts: &mut [u32; esterel::MAX_DEPTH + 1],
+    node: Surroundings,
+    first: u64,
+    second: u64,
+) -> Surroundings
+    requires { ⌜ node .waiting ≤ maxDepth ⌝ }
+    ensures { λ r. ⌜ SecondOf node first second (now (pending .entry)) (now (counts .entry)) (now (pending .exit)) (now (counts .exit)) r ⌝ }
 {
+    let place = node.waiting;
+    pending[place] = first;
+    counts[place] = node.traps;
+    Surroundings {
+        context: second,
+        traps: node.traps,
+        waiting: place + 1,
+    }
+}
+
+// From a node to the node before it. `last` is the start set of the node's last child, and `ends` says whether a sequence's first child
+// may end at once.
+fn descend(
+    kind: Kind,
+    pending: &mut [u64; esterel::MAX_DEPTH + 1],
+    counts: &mut [u32; esterel::MAX_DEPTH + 1],
+    node: Surroundings,
+    last: u64,
+    ends: u8,
+) -> Surroundings
+    requires { ⌜ (node .traps < 62) × (0 < node .waiting) × (node .waiting ≤ maxDepth) ⌝ }
+    ensures { λ r. ⌜ Descended kind node last ends (now (pending .entry)) (now (counts .entry)) (now (pending .exit)) (now (counts .exit)) r ⌝ }
+{
+    let context = node.context;
+    let traps = node.traps;
     match kind {
-        Kind::Nothing => traps,
-        Kind::Pause => traps,
-        Kind::Emit => traps,
-        Kind::Exit => traps,
-        Kind::Signal => traps,
-        Kind::Present => traps,
-        Kind::Suspend => traps,
-        Kind::Loop => traps,
-        Kind::Sequence => traps,
-        Kind::Parallel => traps,
-        Kind::Trap => traps + 1,
-        Kind::Unknown => traps,
+        Kind::Nothing | Kind::Pause | Kind::Emit | Kind::Exit | Kind::Unknown => {
+            next_waiting(pending, counts, node.waiting)
+        }
+        Kind::Signal | Kind::Suspend => only_child(node, context, traps),
+        Kind::Loop => only_child(node, codes::union(context, codes::singleton(0)), traps),
+        Kind::Trap => only_child(node, codes::under_trap(context), traps + 1),
+        Kind::Present => second_child(pending, counts, node, context, context),
+        Kind::Sequence => {
+            let first = first_context(context, last);
+            second_child(pending, counts, node, first, second_context(context, ends))
+        }
+        Kind::Parallel => {
+            let branch = codes::under_parallel(context, traps);
+            second_child(pending, counts, node, branch, branch)
+        }
     }
 }
 
@@ -245,9 +273,9 @@ fn last_set(sets: &[u64], node: usize) -> u64
     sets[node - 1]
 }
 
-// The contexts and the marks, in one walk from the last node to the first. What waits are the subtrees that end right before
-// the nodes done, the one that ends next on top: their contexts, and the traps around them. Both places above the top are
-// written for any node, and those wait that it has children for.
+// The contexts and the marks, in one walk from the last node to the first. What waits are the subtrees that end right before the nodes
+// done. The context of the one that ends next, and the traps around it, are at hand, and those of the others are on two stacks, the next
+// one on top.
 fn fill_contexts(table: &[u8], sets: &[u64], anys: &[u64], contexts: &mut [u64], marks: &mut [u8])
     requires { ⌜ Walkable (now table) (now sets) (now anys) (now contexts) (now marks) ⌝ }
     ensures contexts { λ _. ⌜ now (contexts .exit) ≡ onto (contextsOf (programOf (now (table .entry)))) (now (contexts .entry)) ⌝ }
@@ -255,24 +283,26 @@ fn fill_contexts(table: &[u8], sets: &[u64], anys: &[u64], contexts: &mut [u64],
 {
     let mut pending = [0u64; esterel::MAX_DEPTH + 1];
     let mut counts = [0u32; esterel::MAX_DEPTH + 1];
-    let mut waiting: usize = 1;
+    let mut node = Surroundings {
+        context: 0,
+        traps: 0,
+        waiting: 1,
+    };
     let mut i = table.len() / 2;
     while 0 < i {
         i -= 1;
-        waiting -= 1;
         let kind = table::kind_at(table, i);
-        let context = pending[waiting];
-        let traps = counts[waiting];
-        let left = left_context(kind, context, traps, last_set(sets, i));
-        let right = right_context(kind, context, traps, marks[i]);
-        pending[waiting] = left;
-        pending[waiting + 1] = right;
-        let inner = child_traps(kind, traps);
-        counts[waiting] = inner;
-        counts[waiting + 1] = inner;
-        waiting += table::arity(kind);
-        contexts[i] = context;
-        marks[i] = mark(anys[i], context);
+        let ends = marks[i];
+        contexts[i] = node.context;
+        marks[i] = mark(anys[i], node.context);
+        node = descend(
+            kind,
+            &mut pending,
+            &mut counts,
+            node,
+            last_set(sets, i),
+            ends,
+        );
     }
 }
 

@@ -10,7 +10,7 @@ use Rattle.table.specs.Kinds.{kindOf, arityOf}
 use Rattle.table.specs.Program.{programOf}
 use Rattle.table.specs.declared.Kind.{Kind}
 use Rattle.table.proofs.Surveying.{few-nodes}
-use Rattle.table.proofs.View.{childCount, arity-of, kind-byte, table-length}
+use Rattle.table.proofs.View.{childrenOf, arity-of, kind-byte, table-length}
 use Rattle.instant.specs.Run.{stmtAt, Runnable}
 use Rattle.instant.proofs.Nodes.{Over, over, Both, both}
 
@@ -27,7 +27,7 @@ module _ {t sizes : List ℕ} {node : ℕ} (ok : Runnable t sizes) (h : node < s
     pub kind-is : {w : Stmt} → stmtAt t node ≡ w → kindOf (kind w) ≡ k
     kind-is e = sym (ek ∙ ap kindOf (kind-byte t (ok .measured .readable) node h) ∙ ap (λ w. kindOf (kind w)) e)
 
-    count-is : {w : Stmt} → stmtAt t node ≡ w → n ≡ childCount w
+    count-is : {w : Stmt} → stmtAt t node ≡ w → n ≡ childrenOf w
     count-is {w} e = en ∙ ap arityOf (sym (kind-is e)) ∙ arity-of w
 
     pub leaf-of : n ≡ 0 → (l : Leaf) × (stmtAt t node ≡ leaf l)

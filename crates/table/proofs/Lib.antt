@@ -7,5 +7,6 @@ pub mod Pass
 pub mod Stacks
 pub mod Said
 pub mod Found
+pub mod Descending
 pub mod Surveying
 pub mod Sizing

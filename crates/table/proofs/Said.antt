@@ -11,16 +11,12 @@ use Rattle.esterel.specs.Statement.{nothing, pause, emit, exit, Unary, signal, 
 use Rattle.esterel.specs.Codes.{Codes, bit}
 use Rattle.esterel.specs.Sets.{at}
 use Rattle.esterel.specs.Checks.{tooManyTraps, uncaught}
-use Rattle.table.specs.Kinds.{kindOf, arityOf, isTrap, isLoop, isExit}
+use Rattle.table.specs.Kinds.{kindOf, isTrap, isLoop, isExit}
 use Rattle.table.proofs.Walk.{Waiting, children}
-use Rattle.table.proofs.Stacks.{Each}
+use Rattle.table.proofs.View.{childrenOf}
+use Rattle.table.proofs.Stacks.{Last}
 
--- the children of a statement, and the traps and the loops that it puts around them
-abbrev pub childrenOf : Stmt → ℕ
-childrenOf (leaf l) = 0
-childrenOf (one u p) = 1
-childrenOf (two b p q) = 2
-
+-- the traps and the loops that a statement puts around its children
 abbrev pub trapsOf : Stmt → ℕ
 trapsOf (leaf l) = 0
 trapsOf (one u p) = trapsUnder u 0
@@ -31,9 +27,8 @@ loopsOf (leaf l) = 0
 loopsOf (one u p) = loopsUnder u 0
 loopsOf (two b p q) = 0
 
--- taken, traps and loops: what it says of these; many and loose: of a node that fails check 9 or 10
+-- traps and loops: what it says of these; many and loose: of a node that fails check 9 or 10
 pub record Said (s : Stmt) : Type 0 where
-  pub taken : arityOf (kindOf (kind s)) ≡ childrenOf s
   pub traps : bit (isTrap (kindOf (kind s))) ≡ trapsOf s
   pub loops : bit (isLoop (kindOf (kind s))) ≡ loopsOf s
   pub many : (d t : ℕ) (S : Codes) → (isTrap (kindOf (kind s)) && ltb maxTraps (suc t)) ≡ tooManyTraps (at d t S s)
@@ -41,17 +36,17 @@ pub record Said (s : Stmt) : Type 0 where
 
 pub said : (s : Stmt) → Said s
 unfolding kindOf
-said (leaf nothing) = record { taken = refl; traps = refl; loops = refl; many = λ d t S. refl; loose = λ d t S. refl }
-said (leaf pause) = record { taken = refl; traps = refl; loops = refl; many = λ d t S. refl; loose = λ d t S. refl }
-said (leaf (emit s)) = record { taken = refl; traps = refl; loops = refl; many = λ d t S. refl; loose = λ d t S. refl }
-said (leaf (exit level)) = record { taken = refl; traps = refl; loops = refl; many = λ d t S. refl; loose = λ d t S. refl }
-said (one (signal s) p) = record { taken = refl; traps = refl; loops = refl; many = λ d t S. refl; loose = λ d t S. refl }
-said (one (suspend s) p) = record { taken = refl; traps = refl; loops = refl; many = λ d t S. refl; loose = λ d t S. refl }
-said (one loop p) = record { taken = refl; traps = refl; loops = refl; many = λ d t S. refl; loose = λ d t S. refl }
-said (one trap p) = record { taken = refl; traps = refl; loops = refl; many = λ d t S. refl; loose = λ d t S. refl }
-said (two (present s) p q) = record { taken = refl; traps = refl; loops = refl; many = λ d t S. refl; loose = λ d t S. refl }
-said (two sequence p q) = record { taken = refl; traps = refl; loops = refl; many = λ d t S. refl; loose = λ d t S. refl }
-said (two parallel p q) = record { taken = refl; traps = refl; loops = refl; many = λ d t S. refl; loose = λ d t S. refl }
+said (leaf nothing) = record { traps = refl; loops = refl; many = λ d t S. refl; loose = λ d t S. refl }
+said (leaf pause) = record { traps = refl; loops = refl; many = λ d t S. refl; loose = λ d t S. refl }
+said (leaf (emit s)) = record { traps = refl; loops = refl; many = λ d t S. refl; loose = λ d t S. refl }
+said (leaf (exit level)) = record { traps = refl; loops = refl; many = λ d t S. refl; loose = λ d t S. refl }
+said (one (signal s) p) = record { traps = refl; loops = refl; many = λ d t S. refl; loose = λ d t S. refl }
+said (one (suspend s) p) = record { traps = refl; loops = refl; many = λ d t S. refl; loose = λ d t S. refl }
+said (one loop p) = record { traps = refl; loops = refl; many = λ d t S. refl; loose = λ d t S. refl }
+said (one trap p) = record { traps = refl; loops = refl; many = λ d t S. refl; loose = λ d t S. refl }
+said (two (present s) p q) = record { traps = refl; loops = refl; many = λ d t S. refl; loose = λ d t S. refl }
+said (two sequence p q) = record { traps = refl; loops = refl; many = λ d t S. refl; loose = λ d t S. refl }
+said (two parallel p q) = record { traps = refl; loops = refl; many = λ d t S. refl; loose = λ d t S. refl }
 
 pub bit-small : (b : Bool) → bit b ≤ 1
 bit-small true = omega arith
@@ -71,17 +66,17 @@ loops-more trap n = omega arith
 
 -- what each child has
 module _ (d t l : ℕ) (P : Codes) where
-  pub depth-below : (s : Stmt) (v : ℕ) → v ≡ d + 1 → Each d t l P (λ c. v ≡ c .depth) s
+  pub depth-below : (s : Stmt) (v : ℕ) → v ≡ d + 1 → Last (λ c. c .depth) d t l P s v v
   depth-below (leaf x) v e = tt
   depth-below (one u p) v e = omega arith
   depth-below (two b p q) v e = (omega arith, omega arith)
 
-  pub traps-below : (s : Stmt) (v : ℕ) → v ≡ t + trapsOf s → Each d t l P (λ c. v ≡ c .traps) s
+  pub traps-below : (s : Stmt) (v : ℕ) → v ≡ t + trapsOf s → Last (λ c. c .traps) d t l P s v v
   traps-below (leaf x) v e = tt
   traps-below (one u p) v e = e ∙ traps-more u t
   traps-below (two b p q) v e = (omega arith, omega arith)
 
-  pub loops-below : (s : Stmt) (v : ℕ) → v ≡ l + loopsOf s → Each d t l P (λ c. v ≡ c .loops) s
+  pub loops-below : (s : Stmt) (v : ℕ) → v ≡ l + loopsOf s → Last (λ c. c .loops) d t l P s v v
   loops-below (leaf x) v e = tt
   loops-below (one u p) v e = e ∙ loops-more u l
   loops-below (two b p q) v e = (omega arith, omega arith)

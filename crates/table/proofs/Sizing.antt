@@ -14,7 +14,7 @@ use Rattle.table.specs.Program.{programOf, Readable}
 use Rattle.table.specs.Columns.{onto, sizesOf, Measured}
 use Rattle.table.specs.Check.{Room, spanOf}
 use Rattle.table.specs.declared.Kind.{Kind}
-use Rattle.table.proofs.View.{childCount, arity-of, kind-byte}
+use Rattle.table.proofs.View.{childrenOf, arity-of, kind-byte}
 use Rattle.table.proofs.Filling.{length-column, column-at, Filling, filling-length, filling-at}
 
 pub length-sizes : (p : Stmt) → length (sizesOf p) ≡ size p
@@ -31,7 +31,7 @@ pub record Turn (p : Stmt) (sizes : List ℕ) (i c : ℕ) : Type 0 where
   pub spans : spanOf sizes i c ≡ size (statementAt (nodes p) i)
 
 module _ (p : Stmt) {sizes : List ℕ} (i : ℕ) (long : size p ≤ length sizes) (h : i < size p) (before : (j : ℕ) → j < i → getD sizes j 0 ≡ size (statementAt (nodes p) j)) where
-  by-children : (w : Stmt) → statementAt (nodes p) i ≡ w → Turn p sizes i (childCount w)
+  by-children : (w : Stmt) → statementAt (nodes p) i ≡ w → Turn p sizes i (childrenOf w)
   unfolding spanOf
   by-children (leaf l) e =
       record {

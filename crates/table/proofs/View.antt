@@ -39,12 +39,12 @@ head-two sequence q r = refl
 head-two parallel q r = refl
 
 -- how many children a statement has
-abbrev pub childCount : Stmt → ℕ
-childCount (leaf l) = 0
-childCount (one u q) = 1
-childCount (two b q r) = 2
+abbrev pub childrenOf : Stmt → ℕ
+childrenOf (leaf l) = 0
+childrenOf (one u q) = 1
+childrenOf (two b q r) = 2
 
-pub arity-of : (w : Stmt) → arityOf (kindOf (kind w)) ≡ childCount w
+pub arity-of : (w : Stmt) → arityOf (kindOf (kind w)) ≡ childrenOf w
 unfolding kindOf
 arity-of (leaf nothing) = refl
 arity-of (leaf pause) = refl

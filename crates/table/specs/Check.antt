@@ -4,7 +4,7 @@ use mathlib.Core.Path.{_≡_}
 use mathlib.Core.Bool.{Bool, true, false, not, _&&_, _||_, cond}
 use mathlib.Core.Option.{Option, none, some}
 use mathlib.Core.List.{List, []}
-use lib.ListN.{length, getD}
+use lib.ListN.{length, getD, set}
 use lib.Dec.{eqb, leb, ltb}
 use Rattle.esterel.specs.Limits.{maxNodes, maxDepth, maxTraps}
 use Rattle.esterel.specs.Statement.{Stmt, size, nodes, loopDepth}
@@ -14,6 +14,7 @@ use Rattle.esterel.specs.Table.{Verdict, passed, refused, scan}
 use Rattle.esterel.specs.Checks.{tooDeep, tooManyTraps, uncaught, firstNode}
 use Rattle.esterel.specs.Outcome.{statementAt}
 use Rattle.table.specs.Kinds.{arityOf, plainOf, isTrap, isLoop, isExit}
+use Rattle.table.specs.Stacks.{nextOf, keptOf}
 use Rattle.table.specs.declared.Kind.{Kind}
 use Rattle.table.specs.declared.Kind.the-variants.{Nothing, Pause, Emit, Exit, Signal, Present, Suspend, Loop, Sequence, Parallel, Trap, Unknown}
 use Rattle.table.specs.declared.Check.{Check}
@@ -112,16 +113,44 @@ pub record Seen (o : Faults) (k : Kind) (field node : ℕ) (n : Nesting) (r : Fa
   pub traps : r .traps ≡ cond (isTrap k && ltb maxTraps (n .traps + 1)) node (o .traps)
   pub exits : r .exits ≡ cond (isExit k && leb (n .traps) field) node (o .exits)
 
--- how the children of a node are nested
-pub record Nested (k : Kind) (n r : Nesting) : Type 0 where
-  pub depth : r .depth ≡ n .depth + 1
-  pub traps : r .traps ≡ n .traps + bit (isTrap k)
-  pub loops : r .loops ≡ n .loops + bit (isLoop k)
-
 pub record Shallow (m : ℕ) (n : Nesting) : Type 0 where
   pub depth : n .depth ≤ m
   pub traps : n .traps ≤ m
   pub loops : n .loops ≤ m
+
+-- Where the walk goes on from a node, with the depths xs, the traps ys and the loops zs on the stacks. Past a leaf: what is on top
+pub record TopOf (xs ys zs : List ℕ) (waiting : ℕ) (r : Nesting) : Type 0 where
+  pub depth : r .depth ≡ getD xs (waiting - 1) 0
+  pub traps : r .traps ≡ getD ys (waiting - 1) 0
+  pub loops : r .loops ≡ getD zs (waiting - 1) 0
+  pub waits : r .waiting ≡ waiting - 1
+
+-- into the only child
+pub record OnlyOf (n : Nesting) (t l : ℕ) (r : Nesting) : Type 0 where
+  pub depth : r .depth ≡ n .depth + 1
+  pub traps : r .traps ≡ t
+  pub loops : r .loops ≡ l
+  pub waits : r .waiting ≡ n .waiting
+
+-- into the second of two, while the first waits
+pub record SecondOf (n : Nesting) (xs ys zs xs′ ys′ zs′ : List ℕ) (r : Nesting) : Type 0 where
+  pub depth : r .depth ≡ n .depth + 1
+  pub traps : r .traps ≡ n .traps
+  pub loops : r .loops ≡ n .loops
+  pub waits : r .waiting ≡ n .waiting + 1
+  pub depthsAre : xs′ ≡ set xs (n .waiting) (n .depth + 1)
+  pub trapsAre : ys′ ≡ set ys (n .waiting) (n .traps)
+  pub loopsAre : zs′ ≡ set zs (n .waiting) (n .loops)
+
+-- by the node's kind
+pub record Descended (k : Kind) (n : Nesting) (xs ys zs xs′ ys′ zs′ : List ℕ) (r : Nesting) : Type 0 where
+  pub depth : r .depth ≡ nextOf (arityOf k) (getD xs (n .waiting - 1) 0) (n .depth + 1)
+  pub traps : r .traps ≡ nextOf (arityOf k) (getD ys (n .waiting - 1) 0) (n .traps + bit (isTrap k))
+  pub loops : r .loops ≡ nextOf (arityOf k) (getD zs (n .waiting - 1) 0) (n .loops + bit (isLoop k))
+  pub waits : r .waiting ≡ n .waiting + arityOf k - 1
+  pub depthsAre : xs′ ≡ keptOf (arityOf k) xs (n .waiting) (n .depth + 1)
+  pub trapsAre : ys′ ≡ keptOf (arityOf k) ys (n .waiting) (n .traps + bit (isTrap k))
+  pub loopsAre : zs′ ≡ keptOf (arityOf k) zs (n .waiting) (n .loops + bit (isLoop k))
 
 -- what a survey of a program finds
 pub record Surveyed (p : Stmt) (r : Survey) : Type 0 where

@@ -1,4 +1,5 @@
 pub mod Kinds
 pub mod Program
 pub mod Columns
+pub mod Stacks
 pub mod Check

@@ -2,13 +2,13 @@
 ghost use mathlib.Core.Path.{_≡_};
 ghost use mathlib.Core.Bool.{cond};
 ghost use Prim.Native.Nat.{_+_, _-_, _*_, _<_, _≤_, max};
-ghost use lib.ListN.{length, getD, set};
+ghost use lib.ListN.{length, getD};
 ghost use Rattle.esterel.specs.Limits.{maxNodes};
 ghost use Rattle.esterel.specs.Statement.{size};
 ghost use Rattle.table.specs.Kinds.{kindOf, arityOf, plainOf, numberOf, isSame, isTrap, isLoop, isExit, isSequence, isPresent, isSuspend, isPause};
 ghost use Rattle.table.specs.Program.{programOf, Readable};
 ghost use Rattle.table.specs.Columns.{onto, sizesOf};
-ghost use Rattle.table.specs.Check.{lengthCheck, nodeCheck, nodesCheck, WellSized, Room, spanOf, refuseBelow, Shallow, Nested, Seen, Surveyed};
+ghost use Rattle.table.specs.Check.{lengthCheck, nodeCheck, nodesCheck, WellSized, Room, spanOf, refuseBelow, Shallow, TopOf, OnlyOf, SecondOf, Descended, Seen, Surveyed};
 
 // What a kind byte says.
 pub enum Kind {
@@ -247,11 +247,12 @@ pub fn read_nodes(table: &[u8]) -> Check
     Check::Refused { number: 7, node: 0 }
 }
 
-// How deep a node stands, and in how many traps and loops.
+// How deep a node stands, in how many traps and loops, and how many subtrees wait, its own among them.
 struct Nesting {
     depth: usize,
     traps: usize,
     loops: usize,
+    waiting: usize,
 }
 
 // The lowest node of those seen so far at which check 8, 9 and 10 fails, or MAX_NODES. Numbers keep the survey's loop small.
@@ -272,18 +273,6 @@ fn lower_if(fails: bool, node: usize, higher: usize) -> usize
     ensures { λ r. ⌜ r ≡ cond fails node higher ⌝ }
 {
     if fails { node } else { higher }
-}
-
-// How the children of a node are nested.
-fn nest(kind: Kind, node: Nesting) -> Nesting
-    requires { ⌜ Shallow maxNodes node ⌝ }
-    ensures { λ r. ⌜ Nested kind node r ⌝ }
-{
-    Nesting {
-        depth: node.depth + 1,
-        traps: node.traps + is_trap(kind) as usize,
-        loops: node.loops + is_loop(kind) as usize,
-    }
 }
 
 // Checks 8, 9 and 10 of one more node, the lowest.
@@ -327,24 +316,87 @@ fn first_refusal(faults: Faults) -> Check
     Check::Passed
 }
 
-fn entry(stack: &[u16; esterel::MAX_NODES], index: usize) -> usize
-    requires { ⌜ index < maxNodes ⌝ }
-    ensures { λ r. ⌜ r ≡ getD (now (stack .entry)) index 0 ⌝ }
+// Past a leaf: the subtree that waits next.
+fn next_waiting(
+    depths: &[u16; esterel::MAX_NODES],
+    traps: &[u16; esterel::MAX_NODES],
+    loops: &[u16; esterel::MAX_NODES],
+    waiting: usize,
+) -> Nesting
+    requires { ⌜ (0 < waiting) × (waiting < maxNodes) ⌝ }
+    ensures { λ r. ⌜ TopOf (now (depths .entry)) (now (traps .entry)) (now (loops .entry)) waiting r ⌝ }
 {
-    wide(stack[index])
+    let top = waiting - 1;
+    Nesting {
+        depth: wide(depths[top]),
+        traps: wide(traps[top]),
+        loops: wide(loops[top]),
+        waiting: top,
+    }
 }
 
-// A number on top of a stack, for a child, and once more for a second. They wait if the node has them.
-fn push(stack: &mut [u16; esterel::MAX_NODES], top: usize, number: usize)
-    requires { ⌜ (top + 1 < maxNodes) × (number < 65536) ⌝ }
-    ensures { λ _. ⌜ now (stack .exit) ≡ set (set (now (stack .entry)) top number) (top + 1) number ⌝ }
+// Into the only child.
+fn only_child(node: Nesting, traps: usize, loops: usize) -> Nesting
+    requires { ⌜ node .depth ≤ maxNodes ⌝ }
+    ensures { λ r. ⌜ OnlyOf node traps loops r ⌝ }
 {
-    stack[top] = number as u16;
-    stack[top + 1] = number as u16;
+    Nesting {
+        depth: node.depth + 1,
+        traps,
+        loops,
+        waiting: node.waiting,
+    }
+}
+
+// Into the second of two children. The first waits.
+fn second_child(
+    depths: &mut [u16; esterel::MAX_NODES],
+    traps: &mut [u16; esterel::MAX_NODES],
+    loops: &mut [u16; esterel::MAX_NODES],
+    node: Nesting,
+) -> Nesting
+    requires { ⌜ Shallow maxNodes node × (node .waiting < maxNodes) ⌝ }
+    ensures { λ r. ⌜ SecondOf node (now (depths .entry)) (now (traps .entry)) (now (loops .entry)) (now (depths .exit)) (now (traps .exit)) (now (loops .exit)) r ⌝ }
+{
+    let place = node.waiting;
+    depths[place] = (node.depth + 1) as u16;
+    traps[place] = node.traps as u16;
+    loops[place] = node.loops as u16;
+    Nesting {
+        depth: node.depth + 1,
+        traps: node.traps,
+        loops: node.loops,
+        waiting: place + 1,
+    }
+}
+
+// From a node to the node before it.
+fn descend(
+    kind: Kind,
+    depths: &mut [u16; esterel::MAX_NODES],
+    traps: &mut [u16; esterel::MAX_NODES],
+    loops: &mut [u16; esterel::MAX_NODES],
+    node: Nesting,
+) -> Nesting
+    requires { ⌜ Shallow maxNodes node × (0 < node .waiting) × (node .waiting < maxNodes) ⌝ }
+    ensures { λ r. ⌜ Descended kind node (now (depths .entry)) (now (traps .entry)) (now (loops .entry)) (now (depths .exit)) (now (traps .exit)) (now (loops .exit)) r ⌝ }
+{
+    match kind {
+        Kind::Nothing | Kind::Pause | Kind::Emit | Kind::Exit | Kind::Unknown => {
+            next_waiting(depths, traps, loops, node.waiting)
+        }
+        Kind::Signal | Kind::Suspend => only_child(node, node.traps, node.loops),
+        Kind::Loop => only_child(node, node.traps, node.loops + 1),
+        Kind::Trap => only_child(node, node.traps + 1, node.loops),
+        Kind::Present | Kind::Sequence | Kind::Parallel => {
+            second_child(depths, traps, loops, node)
+        }
+    }
 }
 
 // Checks 8, 9 and 10, and the loop depth, in one pass from the last node to the first. What waits are the subtrees that end
-// right before the nodes seen, the one that ends next on top; three stacks have how each is nested. First the program waits.
+// right before the nodes seen. How the one that ends next is nested is at hand, and how the others are is on three stacks, the
+// next one on top.
 pub fn survey_table(table: &[u8]) -> Survey
     requires { ⌜ Readable (now table) ⌝ }
     ensures { λ r. ⌜ Surveyed (programOf (now (table .entry))) r ⌝ }
@@ -352,31 +404,25 @@ pub fn survey_table(table: &[u8]) -> Survey
     let mut depths = [0u16; esterel::MAX_NODES];
     let mut traps = [0u16; esterel::MAX_NODES];
     let mut loops = [0u16; esterel::MAX_NODES];
-    depths[0] = 1;
     let mut faults = Faults {
         depths: esterel::MAX_NODES,
         traps: esterel::MAX_NODES,
         exits: esterel::MAX_NODES,
     };
     let mut most: usize = 0;
-    let mut waiting: usize = 1;
+    let mut node = Nesting {
+        depth: 1,
+        traps: 0,
+        loops: 0,
+        waiting: 1,
+    };
     let mut i = table.len() / 2;
     while 0 < i {
         i -= 1;
-        waiting -= 1;
         let kind = kind_at(table, i);
-        let nesting = Nesting {
-            depth: entry(&depths, waiting),
-            traps: entry(&traps, waiting),
-            loops: entry(&loops, waiting),
-        };
-        faults = seen(faults, kind, field_at(table, i), i, nesting);
-        most = larger(most, nesting.loops);
-        let inner = nest(kind, nesting);
-        push(&mut depths, waiting, inner.depth);
-        push(&mut traps, waiting, inner.traps);
-        push(&mut loops, waiting, inner.loops);
-        waiting += arity(kind);
+        faults = seen(faults, kind, field_at(table, i), i, node);
+        most = larger(most, node.loops);
+        node = descend(kind, &mut depths, &mut traps, &mut loops, node);
     }
     Survey {
         check: first_refusal(faults),
