@@ -4,8 +4,36 @@ use std::hint::black_box;
 
 use compare::instant::SIGNALS;
 use compare::support::calls::{Calls, COMPARE, FIGURES};
+use ours::OURS;
+use two_pass::TWO_PASS;
 
 use crate::programs::{Shape, SHAPES};
+
+/// Who makes a call.
+#[derive(Clone, Copy, PartialEq, Eq)]
+pub enum Side {
+    Ours,
+    Compare,
+    TwoPass,
+}
+
+impl Side {
+    pub fn name(self) -> &'static str {
+        match self {
+            Side::Ours => "ours",
+            Side::Compare => "compare",
+            Side::TwoPass => "two-pass",
+        }
+    }
+
+    pub fn calls(self) -> Calls {
+        match self {
+            Side::Ours => OURS,
+            Side::Compare => COMPARE,
+            Side::TwoPass => TWO_PASS,
+        }
+    }
+}
 
 pub const SIZES: [usize; 4] = [16, 64, 256, 1024];
 
@@ -24,6 +52,14 @@ impl Call {
             Call::Analyse => "analyse",
             Call::Start => "start",
             Call::Resume => "resume",
+        }
+    }
+
+    /// Those who make this call: ours, compare, and two-pass if it has it.
+    pub fn sides(self) -> &'static [Side] {
+        match self {
+            Call::Analyse => &[Side::Ours, Side::Compare, Side::TwoPass],
+            Call::Start | Call::Resume => &[Side::Ours, Side::Compare],
         }
     }
 
@@ -113,13 +149,16 @@ impl Case {
         )
     }
 
-    /// Sees that both sides do the same, and that a repetition does it again.
-    pub fn check(&self, ours: &Calls) {
+    /// Sees that all sides do the same, and that a repetition does it again.
+    pub fn check(&self) {
         let mut once = self.clone();
         assert_eq!(once.run(&COMPARE), 0, "{}", self.name());
-        let mut again = once.clone();
-        assert_eq!(again.run(ours), 0, "{}", self.name());
-        assert!(again == once, "{}: the two sides differ", self.name());
+        for side in self.call.sides() {
+            let name = format!("{} by {}", self.name(), side.name());
+            let mut again = once.clone();
+            assert_eq!(again.run(&side.calls()), 0, "{name}");
+            assert!(again == once, "{name}: differs from compare");
+        }
     }
 
     /// The nodes of an analysis or the entries of an instant.

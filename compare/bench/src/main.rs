@@ -1,11 +1,13 @@
-//! Measures the proved code's calls beside compare's, on the same inputs.
+//! Measures the proved code's calls beside compare's, on the same inputs; the
+//! analysis also beside C by hand, in two passes.
 //!
 //! Usage:
 //!
 //! ```text
-//! bench [--quick] [--markdown FILE]    both sides, all cases
+//! bench [--quick] [--markdown FILE]    all sides, all cases
 //! bench --list                         each case with its nodes or entries
-//! bench --one CASE SIDE TIMES          one case on one side, ours or compare
+//! bench --one CASE SIDE TIMES          one case on one side: ours, compare
+//!                                      or, for analyse, two-pass
 //! ```
 //!
 //! The last is for tools that count instructions; see `instructions.sh`.
@@ -13,9 +15,7 @@
 use std::process::ExitCode;
 
 use cases::Case;
-use compare::support::calls::{Calls, COMPARE};
 use compare::support::numbers;
-use ours::OURS;
 use report::Line;
 
 mod cases;
@@ -49,8 +49,8 @@ fn run(mut arguments: impl Iterator<Item = String>) -> Result<(), String> {
         }
     }
     let cases: Vec<Case> = cases::all().collect();
-    cases.iter().for_each(|case| case.check(&OURS));
-    let times = measure::measure(&cases, &OURS, &effort);
+    cases.iter().for_each(Case::check);
+    let times = measure::measure(&cases, &effort);
     let lines: Vec<Line> = cases.iter().zip(times).map(Line::new).collect();
     let tables = report::tables(&lines);
     for table in &tables {
@@ -72,14 +72,15 @@ fn one(mut arguments: impl Iterator<Item = String>) -> Result<(), String> {
     let name = arguments.next().ok_or("--one needs a case")?;
     let side = arguments.next().ok_or("--one needs a side")?;
     let times = numbers::read("--one", arguments.next())?;
-    let calls: Calls = match side.as_str() {
-        "ours" => OURS,
-        "compare" => COMPARE,
-        _ => return Err(format!("unknown side {side}")),
-    };
     let mut case = cases::all()
         .find(|case| case.name() == name)
         .ok_or(format!("unknown case {name}"))?;
-    measure::repeat(&mut case, &calls, times);
+    let side = case
+        .call
+        .sides()
+        .iter()
+        .find(|known| known.name() == side)
+        .ok_or(format!("unknown side {side} for {name}"))?;
+    measure::repeat(&mut case, &side.calls(), times);
     Ok(())
 }

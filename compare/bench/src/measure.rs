@@ -4,7 +4,7 @@
 use std::hint::black_box;
 use std::time::{Duration, Instant};
 
-use compare::support::calls::{Calls, COMPARE};
+use compare::support::calls::Calls;
 
 use crate::cases::Case;
 
@@ -28,6 +28,7 @@ pub const QUICK: Effort = Effort {
 pub struct Times {
     pub ours: f64,
     pub theirs: f64,
+    pub two_pass: Option<f64>,
 }
 
 /// A case on one side, with the samples taken so far.
@@ -38,23 +39,36 @@ struct Series {
     nanoseconds: Vec<f64>,
 }
 
-/// The times of all cases. Each round takes one sample of every case on both
-/// sides, so that a time in which the machine is slow hits all alike.
-pub fn measure(cases: &[Case], ours: &Calls, effort: &Effort) -> Vec<Times> {
-    let mut pairs: Vec<[Series; 2]> = cases
+/// The times of all cases. Each round takes one sample of every case on all
+/// its sides, so that a time in which the machine is slow hits all alike.
+pub fn measure(cases: &[Case], effort: &Effort) -> Vec<Times> {
+    let mut sides: Vec<Vec<Series>> = cases
         .iter()
-        .map(|case| [*ours, COMPARE].map(|calls| Series::new(case, calls, effort.sample)))
+        .map(|case| on_all_sides(case, effort.sample))
         .collect();
     for _ in 0..effort.samples {
-        pairs.iter_mut().flatten().for_each(Series::sample);
+        sides.iter_mut().flatten().for_each(Series::sample);
     }
-    pairs
-        .into_iter()
-        .map(|[ours, theirs]| Times {
-            ours: median(ours.nanoseconds),
-            theirs: median(theirs.nanoseconds),
-        })
+    sides.into_iter().map(Times::new).collect()
+}
+
+fn on_all_sides(case: &Case, sample: Duration) -> Vec<Series> {
+    let sides = case.call.sides().iter();
+    sides
+        .map(|side| Series::new(case, side.calls(), sample))
         .collect()
+}
+
+impl Times {
+    /// From the sides of a case, in the order in which its call has them.
+    fn new(sides: Vec<Series>) -> Times {
+        let mut medians = sides.into_iter().map(|side| median(side.nanoseconds));
+        Times {
+            ours: medians.next().expect("ours makes every call"),
+            theirs: medians.next().expect("compare makes every call"),
+            two_pass: medians.next(),
+        }
+    }
 }
 
 impl Series {

@@ -29,17 +29,25 @@ impl Line {
         self.times.ours / self.times.theirs
     }
 
+    /// Only for a call that two-pass makes.
+    fn ratio_to_two_pass(&self) -> Option<f64> {
+        Some(self.times.ours / self.times.two_pass?)
+    }
+
     fn row(&self) -> Vec<String> {
         let units = self.units as f64;
-        vec![
+        let mut row = vec![
             self.shape.to_string(),
             self.nodes.to_string(),
             format!("{:.0}", self.times.ours),
             format!("{:.0}", self.times.theirs),
             format!("{:.2}", self.ratio()),
-            format!("{:.1}", self.times.ours / units),
-            format!("{:.1}", self.times.theirs / units),
-        ]
+        ];
+        row.extend(self.times.two_pass.map(|time| format!("{time:.0}")));
+        row.extend(self.ratio_to_two_pass().map(|ratio| format!("{ratio:.2}")));
+        row.push(format!("{:.1}", self.times.ours / units));
+        row.push(format!("{:.1}", self.times.theirs / units));
+        row
     }
 }
 
@@ -67,18 +75,40 @@ fn times(lines: &[Line], call: Call) -> Table {
         format!("compare, ns {}", call.each()),
     ]];
     rows.extend(of_call.iter().map(|line| line.row()));
-    if call != Call::Analyse {
+    if call == Call::Analyse {
+        let two_pass = ["two-pass, ns", "ours/two-pass"].map(String::from);
+        rows[0].splice(5..5, two_pass);
+    } else {
         rows[0].insert(2, "entries".to_string());
         for (row, line) in rows[1..].iter_mut().zip(&of_call) {
             row.insert(2, line.units.to_string());
         }
     }
-    let logarithms: f64 = of_call.iter().map(|line| line.ratio().ln()).sum();
-    let mean = (logarithms / of_call.len() as f64).exp();
     Table {
-        title: format!("{} (geometric mean of the ratios: {mean:.2})", call.name()),
+        title: format!("{} ({})", call.name(), means(&of_call)),
         rows,
     }
+}
+
+fn means(of_call: &[&Line]) -> String {
+    let to_compare: Vec<f64> = of_call.iter().map(|line| line.ratio()).collect();
+    let to_two_pass: Vec<f64> = of_call
+        .iter()
+        .filter_map(|line| line.ratio_to_two_pass())
+        .collect();
+    let mut text = format!(
+        "geometric mean of the ratios: {:.2}",
+        geometric_mean(&to_compare)
+    );
+    if !to_two_pass.is_empty() {
+        text += &format!(", to two-pass: {:.2}", geometric_mean(&to_two_pass));
+    }
+    text
+}
+
+fn geometric_mean(ratios: &[f64]) -> f64 {
+    let logarithms: f64 = ratios.iter().map(|ratio| ratio.ln()).sum();
+    (logarithms / ratios.len() as f64).exp()
 }
 
 fn growth(lines: &[Line]) -> Table {
