@@ -20,7 +20,7 @@ SECONDS = 600
 soak: archive
 	@tools/differential.sh --soak $(SECONDS)
 
-# ours and the implementation in compare/ on the same inputs in the same run: times, then instructions
+# ours and the implementation in compare/ on the same inputs in the same run, and the analysis in C by hand: times, then instructions
 bench: archive
 	@cd compare && cargo run --release --offline --locked --quiet --package bench
 	@compare/bench/instructions.sh

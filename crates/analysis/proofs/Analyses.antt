@@ -1,7 +1,7 @@
 -- One lemma for each return of `analyse`.
 use mathlib.Core.Path.{_≡_, refl, sym, ap, ap₂, subst, _∙_}
 use mathlib.Core.Bool.{Bool, true, false, _&&_}
-use mathlib.Core.List.{List, [], _∷_, _++_, map}
+use mathlib.Core.List.{List, [], _∷_, map}
 use Prim.Native.Nat.{ℕ, _/_, _≤_}
 use native.Mathlib.Omega.{arith}
 use borrow.Author.Tests.{leb-true}
@@ -22,7 +22,7 @@ use Rattle.table.specs.declared.Check.{Check}
 use Rattle.table.specs.declared.Check.the-variants.{Passed}
 use Rattle.table.specs.declared.Check.the-variants.{Refused as RefusedCheck}
 use Rattle.table.proofs.Found.{pass-true}
-use Rattle.table.proofs.View.{table-length}
+use Rattle.table.proofs.Bytes.{table-length}
 use Rattle.analysis.specs.Steps.{setOfStmt}
 use Rattle.analysis.specs.Passes.{Filled, wordsOf, onto, flagsOf, Fillable, contextWord, contextsOf, marksOf, Ready, Walkable}
 use Rattle.analysis.specs.Analysis.{checkRoom, checked, roomFor, answerOf, refusalOf, kOf, aOf, sOf, markOf, column, verdictFor, Analysis}

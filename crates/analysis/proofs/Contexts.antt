@@ -4,16 +4,14 @@ use mathlib.Core.Bool.{Bool, true, false, cond, or-false}
 use mathlib.Core.List.{List, [], _∷_, map}
 use Prim.Native.Nat.{ℕ, zero, suc, _+_, _-_, _*_, _≤_, _<_}
 use native.Mathlib.Omega.{arith}
-use lib.Dec.{ltb, eqb·zero-suc, nltb→le}
+use lib.Dec.{eqb·zero-suc}
 use lib.ListN.{length, getD, set, length-append, length-map}
 use Rattle.codes.specs.Codes.{Codes, empty, only, union, given, withoutEnded, meets, bit, word}
 use Rattle.codes.specs.Words.{meetsOf}
-use Rattle.codes.proofs.Bools.{toNot}
 use Rattle.codes.proofs.Laws.{singleton-word, union-word, without-ended-word, meets-word, under-trap-word, under-parallel-word, given-word, word-same}
 use Rattle.esterel.specs.Limits.{maxNodes, maxDepth}
 use Rattle.esterel.specs.Statement.{nothing, Unary, signal, suspend, loop, trap, Binary, present, sequence, parallel, Stmt, leaf, one, two, kind, size, nodes}
 use Rattle.esterel.specs.Sets.{startSet, anyInstantSet, Place, at, placesOf, under, underFirst, underLeft, underRight, mark}
-use Rattle.esterel.specs.Checks.{tooDeep}
 use Rattle.esterel.specs.Outcome.{statementAt}
 use Rattle.esterel.proofs.Accepted.{exits-caught, length-places}
 use Rattle.esterel.proofs.Caught.{Caught, caught-places}
@@ -25,15 +23,15 @@ use Rattle.table.specs.Program.{programOf}
 use Rattle.table.specs.declared.Kind.{Kind}
 use Rattle.table.proofs.Buffers.{back, back-none, back-pred, length-back, back-at}
 use Rattle.table.proofs.Said.{said, traps-below, count-below}
-use Rattle.table.proofs.Stacks.{none, here, Last, At, hand-is, descended, length-kept}
+use Rattle.table.proofs.Stacks.{none, here, Last, At, hand-is, descended, moves-length}
 use Rattle.table.proofs.Surveying.{few-nodes}
-use Rattle.table.proofs.View.{childrenOf, arity-of, kind-byte, table-length}
+use Rattle.table.proofs.Bytes.{childrenOf, arity-of, kind-byte, table-length}
 use Rattle.table.proofs.Walk.{Waiting, Walk, Next, program, begin, next, descend, placeOf, placesIn}
 use Rattle.analysis.specs.Steps.{setOfStmt, underFirstOf, underSecondOf, firstOf, lastOf}
 use Rattle.analysis.specs.Contexts.{Descended}
 use Rattle.analysis.specs.declared.Surroundings.{Surroundings}
 use Rattle.analysis.specs.Passes.{Placed, Filled, onto, placeAt, firstEnds, contextWord, contextsOf, marksOf}
-use Rattle.analysis.proofs.Nodes.{PlacesPass, places-pass}
+use Rattle.analysis.proofs.Nodes.{PlacesPass, places-pass, not-deep}
 
 first-word : (P K : Codes) → underFirstOf (word P) (word K) ≡ word (underFirst P K)
 unfolding underFirstOf
@@ -189,12 +187,6 @@ module _ {t : List ℕ} (ok : Placed t) {pending counts : List ℕ} {node : Surr
   pass : PlacesPass (placesOf (programOf t))
   pass = places-pass (placesOf (programOf t)) (ok .passes)
 
-  not-deep : w .depth ≤ maxDepth
-  not-deep =
-      let x = every-at (at 0 0 empty (leaf nothing)) refl (pass .depths) i in
-      let y : tooDeep (placeOf w) ≡ false = rw (ahead .place) at x in
-      nltb→le maxDepth (w .depth) (toNot (ltb maxDepth (w .depth)) y)
-
   few-traps : w .traps ≤ 32
   few-traps =
       let c = every-at (at 0 0 empty (leaf nothing)) record { exits = tt; few = omega arith } (caught-places (programOf t) 1 0 empty (omega arith) (exits-caught (programOf t) 1 0 empty (pass .exits)) (pass .traps)) i in
@@ -202,7 +194,7 @@ module _ {t : List ℕ} (ok : Placed t) {pending counts : List ℕ} {node : Surr
       y .few
 
   fits : node .waiting ≤ maxDepth
-  fits = omega (arith, count, ahead .depth, not-deep)
+  fits = omega (arith, count, ahead .depth, not-deep ok i w (ahead .place))
 
   context-at : At (λ w. word (w .context)) (node .context) pending (w ∷ ahead .below)
   context-at = rw (ahead .is) at (o .contextAt)
@@ -270,13 +262,12 @@ module _ {t : List ℕ} (ok : Placed t) {pending counts : List ℕ} {node : Surr
           ws = descend w (ahead .below);
           walk = ahead .on;
           count = omega (arith, n .waits, children, count, count-below (w .depth) (w .traps) (w .loops) (w .context) (w .root) (ahead .below));
-          pendingLong = ap length (n .pendingIs) ∙ length-kept (arityOf k) pending (node .waiting) _ ∙ o .pendingLong;
-          countsLong = ap length (n .countsAre) ∙ length-kept (arityOf k) counts (node .waiting) _ ∙ o .countsLong;
-          contextAt = rw (n .context, n .pendingIs) (descended (λ c. word (c .context)) w (ahead .below) context-at (node .waiting) (arityOf k) _ _ count children (omega (arith, fits, o .pendingLong)) contexts-below);
+          pendingLong = moves-length (n .context) ∙ o .pendingLong;
+          countsLong = moves-length (n .traps) ∙ o .countsLong;
+          contextAt = descended (λ c. word (c .context)) w (ahead .below) context-at count children (omega (arith, fits, o .pendingLong)) contexts-below (n .context);
           trapsAt =
-              rw (n .traps, n .countsAre)
-              (descended (λ c. c .traps) w (ahead .below) traps-at (node .waiting) (arityOf k) _ _ count children (omega (arith, fits, o .countsLong))
-              (traps-below (w .depth) (w .traps) (w .loops) (w .context) (w .root) (node .traps + bit (isTrap k)) (omega (arith, traps-is, ap (λ j. bit (isTrap j)) kind-is ∙ said (w .root) .traps))));
+              descended (λ c. c .traps) w (ahead .below) traps-at count children (omega (arith, fits, o .countsLong))
+              (traps-below (w .depth) (w .traps) (w .loops) (w .context) (w .root) (node .traps + bit (isTrap k)) (omega (arith, traps-is, ap (λ j. bit (isTrap j)) kind-is ∙ said (w .root) .traps))) (n .traps);
           contextsAre =
               ap (λ l. set l i (node .context)) (o .contextsAre)
               ∙ back-pred (contextsOf (programOf t)) contexts₀ (omega (arith, length-contexts (programOf t))) i (node .context) (omega (arith, inside, length-contexts (programOf t))) (context-is ∙ sym (contexts-at (programOf t) i inside ∙ ap contextWord (ahead .place)));

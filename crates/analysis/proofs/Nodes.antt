@@ -3,21 +3,24 @@ use mathlib.Core.Path.{_≡_, refl, sym, ap, ap₂, _∙_}
 use mathlib.Core.Bool.{Bool, true, false, cond, or-false}
 use mathlib.Core.Logic.{⊎-elim}
 use mathlib.Core.Option.{Option}
-use mathlib.Core.List.{List, []}
+use mathlib.Core.List.{List}
 use Prim.Native.Nat.{ℕ, _+_, _-_, _*_, _≤_, _<_}
 use native.Mathlib.Omega.{arith}
+use lib.Dec.{ltb, nltb→le}
 use lib.ListN.{getD}
-use Rattle.codes.specs.Codes.{Codes, only, union, given, withoutEnded, word}
+use Rattle.codes.specs.Codes.{Codes, empty, only, union, given, withoutEnded, word}
 use Rattle.codes.specs.Words.{_∋_, unionOf, withoutEndedOf}
-use Rattle.codes.proofs.Bools.{either, cannot-pass}
+use Rattle.codes.proofs.Bools.{either, cannot-pass, toNot}
 use Rattle.codes.proofs.Members.{only-in, only-out}
-use Rattle.codes.proofs.Laws.{singleton-word, union-word, without-ended-word, parallel-word, caught-word, given-word, ∋-word, word-same}
+use Rattle.codes.proofs.Laws.{singleton-word, union-word, without-ended-word, parallel-word, caught-word, ∋-word, word-same}
+use Rattle.esterel.specs.Limits.{maxDepth}
 use Rattle.esterel.specs.Statement.{Leaf, nothing, pause, emit, exit, Unary, signal, suspend, loop, trap, Binary, present, sequence, parallel, Stmt, leaf, one, two, kind, field, size, nodes}
-use Rattle.esterel.specs.Sets.{codes, Place, placesOf}
+use Rattle.esterel.specs.Sets.{Place, at, placesOf}
 use Rattle.esterel.specs.Checks.{firstNode, tooDeep, tooManyTraps, uncaught}
 use Rattle.esterel.specs.Outcome.{statementAt}
 use Rattle.esterel.proofs.Accepted.{Passes, first-passes}
 use Rattle.esterel.proofs.Caught.{codes-few}
+use Rattle.esterel.proofs.Every.{every-at}
 use Rattle.esterel.proofs.Subtrees.{only-child}
 use Rattle.table.specs.Kinds.{kindOf}
 use Rattle.table.specs.Program.{programOf}
@@ -26,7 +29,9 @@ use Rattle.table.specs.declared.Kind.{Kind}
 use Rattle.table.specs.declared.Kind.the-variants.{Exit}
 use Rattle.table.specs.declared.Check.{Check}
 use Rattle.table.specs.declared.Check.the-variants.{Passed}
-use Rattle.table.proofs.View.{kind-byte, field-byte}
+use Rattle.table.proofs.Bytes.{kind-byte, field-byte}
+use Rattle.table.proofs.Stacks.{First}
+use Rattle.table.proofs.Walk.{Waiting, placeOf}
 use Rattle.analysis.specs.Steps.{pauseSet, setOfStmt, sequenceOf, codesOf}
 use Rattle.analysis.specs.Passes.{Placed}
 
@@ -87,13 +92,18 @@ module _ (any : Bool) where
   two-step sequence q r = sequence-word (setOfStmt any q) (setOfStmt any r)
   two-step parallel q r = parallel-word (setOfStmt any q) (setOfStmt any r)
 
--- x and y are the words of a statement's children: x of the only one or the first, y of the second
-abbrev pub Children : Bool → Stmt → (x y : ℕ) → Type 0
-Children any (leaf l) x y = Unit {0}
-Children any (one u q) x y = x ≡ word (setOfStmt any q)
-Children any (two b q r) x y = (x ≡ word (setOfStmt any q)) × (y ≡ word (setOfStmt any r))
+-- the word of a subtree
+abbrev pub wordOf : Bool → Waiting → ℕ
+wordOf any w = word (setOfStmt any (w .root))
 
 module _ {t : List ℕ} (ok : Placed t) where
+  -- no node is too deep
+  pub not-deep : (i : ℕ) (w : Waiting) → getD (placesOf (programOf t)) i (at 0 0 empty (leaf nothing)) ≡ placeOf w → w .depth ≤ maxDepth
+  not-deep i w e =
+      let x = every-at (at 0 0 empty (leaf nothing)) refl (places-pass (placesOf (programOf t)) (ok .passes) .depths) i in
+      let y : tooDeep (placeOf w) ≡ false = rw e at x in
+      nltb→le maxDepth (w .depth) (toNot (ltb maxDepth (w .depth)) y)
+
   -- no code is above 33
   few : (any : Bool) (j k : ℕ) → setOfStmt any (statementAt (nodes (programOf t)) j) k ≡ true → k ≤ 33
   few any j k e =
@@ -129,10 +139,11 @@ module _ {t : List ℕ} (ok : Placed t) where
     pub exit-field : k ≡ Exit → f < 62
     exit-field e = rw field-is (exit-low i here refl (sym kind-is ∙ e))
 
-    pub own-word : (any : Bool) (w : Stmt) (x y : ℕ) → here ≡ w → Children any w x y → codesOf any k f x y ≡ word (setOfStmt any w)
-    own-word any w x y e c = ap₂ (λ a b. codesOf any a b x y) (kind-is ∙ ap (λ s. kindOf (kind s)) e) (field-is ∙ ap field e) ∙ go w e c
+    -- x and y are the words of the children
+    pub own-word : (any : Bool) (w : Waiting) (x y : ℕ) → here ≡ w .root → First (wordOf any) (w .depth) (w .traps) (w .loops) (w .context) (w .root) x y → codesOf any k f x y ≡ wordOf any w
+    own-word any w x y e c = ap₂ (λ a b. codesOf any a b x y) (kind-is ∙ ap (λ s. kindOf (kind s)) e) (field-is ∙ ap field e) ∙ go (w .root) e c
       where
-        go : (w : Stmt) → here ≡ w → Children any w x y → codesOf any (kindOf (kind w)) (field w) x y ≡ word (setOfStmt any w)
+        go : (s : Stmt) → here ≡ s → First (wordOf any) (w .depth) (w .traps) (w .loops) (w .context) s x y → codesOf any (kindOf (kind s)) (field s) x y ≡ word (setOfStmt any s)
         go (leaf l) e c = leaf-step any l x y
         go (one u q) e c =
             let (le, child) = only-child (programOf t) i u q e in

@@ -6,7 +6,7 @@ use mathlib.Core.List.{List}
 use lib.ListN.{getD, set}
 use Rattle.codes.specs.Codes.{bit}
 use Rattle.table.specs.Kinds.{arityOf, isTrap}
-use Rattle.table.specs.Stacks.{nextOf, keptOf}
+use Rattle.table.specs.Stacks.{Moves}
 use Rattle.table.specs.declared.Kind.{Kind}
 use Rattle.analysis.specs.Steps.{firstOf, lastOf}
 use Rattle.analysis.specs.declared.Surroundings.{Surroundings}
@@ -31,10 +31,8 @@ pub record SecondOf (n : Surroundings) (first second : ℕ) (xs ys xs′ ys′ :
   pub pendingIs : xs′ ≡ set xs (n .waiting) first
   pub countsAre : ys′ ≡ set ys (n .waiting) (n .traps)
 
--- by the node's kind; K is the start set of its last child
+-- by the node's kind; K is the start set of its last child, if it has one
 pub record Descended (k : Kind) (n : Surroundings) (K ends : ℕ) (xs ys xs′ ys′ : List ℕ) (r : Surroundings) : Type 0 where
-  pub context : r .context ≡ nextOf (arityOf k) (getD xs (n .waiting - 1) 0) (lastOf k (n .context) (n .traps) ends)
-  pub traps : r .traps ≡ nextOf (arityOf k) (getD ys (n .waiting - 1) 0) (n .traps + bit (isTrap k))
+  pub context : Moves (arityOf k) (n .waiting) (firstOf k (n .context) (n .traps) K) (lastOf k (n .context) (n .traps) ends) xs (r .context) xs′
+  pub traps : Moves (arityOf k) (n .waiting) (n .traps + bit (isTrap k)) (n .traps + bit (isTrap k)) ys (r .traps) ys′
   pub waits : r .waiting ≡ n .waiting + arityOf k - 1
-  pub pendingIs : xs′ ≡ keptOf (arityOf k) xs (n .waiting) (firstOf k (n .context) (n .traps) K)
-  pub countsAre : ys′ ≡ keptOf (arityOf k) ys (n .waiting) (n .traps + bit (isTrap k))

@@ -5,7 +5,7 @@ use mathlib.Core.Bool.{Bool, true, false}
 use mathlib.Core.List.{List, [], map}
 use lib.ListN.{length, getD}
 use Rattle.codes.specs.Codes.{empty, bit, word}
-use Rattle.esterel.specs.Statement.{nothing, Unary, Binary, present, sequence, parallel, Stmt, leaf, one, two, size, nodes, loopDepth}
+use Rattle.esterel.specs.Statement.{nothing, present, sequence, parallel, Stmt, leaf, one, two, size, nodes, loopDepth}
 use Rattle.esterel.specs.Sets.{startSet, Place, at, placesOf, mark}
 use Rattle.esterel.specs.Table.{passed, scan}
 use Rattle.esterel.specs.Checks.{firstNode, endsAtOnce, checkProgram}

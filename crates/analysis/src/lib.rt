@@ -65,7 +65,7 @@ fn codes_of(any: bool, kind: Kind, field: usize, first: u64, second: u64) -> u64
 }
 
 // One node on the stack of the codes of the statements that are unused so far: its children's, on top from `base` on, give way to its
-// own.
+// own. Two places are read whatever the number of children, so the stack has one more than can be in use.
 fn push_codes(
     any: bool,
     kind: Kind,
@@ -221,8 +221,8 @@ fn second_child(
     }
 }
 
-// From a node to the node before it. `last` is the start set of the node's last child, and `ends` says whether a sequence's first child
-// may end at once.
+// From a node to the node before it, with the contexts of the other subtrees that wait in `pending` and the traps around them in
+// `counts`. `last` is the start set of the last child, if there is one, and `ends` says whether a sequence's first child may end at once.
 fn descend(
     kind: Kind,
     pending: &mut [u64; esterel::MAX_DEPTH + 1],
@@ -262,7 +262,7 @@ fn mark(set: u64, context: u64) -> u8
     if codes::meets(set, context) { 1 } else { 0 }
 }
 
-// The start set of a node's last child; nothing at the first node, which has none.
+// The start set of the node before, which is the last child of a node that has children; nothing at the first node, which has none.
 fn last_set(sets: &[u64], node: usize) -> u64
     requires { ⌜ node ≤ length (now sets) ⌝ }
     ensures { λ r. ⌜ ((node ≡ 0 → ⊥) → r ≡ getD (now (sets .entry)) (node - 1) 0) ⌝ }

@@ -27,19 +27,19 @@ pub length-postfix : (p : Stmt) → length (postfix p) ≡ 2 * size p
 length-postfix p = length-bytes (nodes p) ∙ rw length-nodes
 
 -- the node of each statement, from its bytes
-node-leaf : (l : Leaf) → nodeOf (kind (leaf l)) (field (leaf l)) ≡ takes0 l
+pub node-leaf : (l : Leaf) → nodeOf (kind (leaf l)) (field (leaf l)) ≡ takes0 l
 node-leaf nothing = refl
 node-leaf pause = refl
 node-leaf (emit s) = refl
 node-leaf (exit level) = refl
 
-node-one : (u : Unary) (p : Stmt) → nodeOf (kind (one u p)) (field (one u p)) ≡ takes1 u
+pub node-one : (u : Unary) (p : Stmt) → nodeOf (kind (one u p)) (field (one u p)) ≡ takes1 u
 node-one (signal s) p = refl
 node-one (suspend s) p = refl
 node-one loop p = refl
 node-one trap p = refl
 
-node-two : (b : Binary) (p q : Stmt) → nodeOf (kind (two b p q)) (field (two b p q)) ≡ takes2 b
+pub node-two : (b : Binary) (p q : Stmt) → nodeOf (kind (two b p q)) (field (two b p q)) ≡ takes2 b
 node-two (present s) p q = refl
 node-two sequence p q = refl
 node-two parallel p q = refl

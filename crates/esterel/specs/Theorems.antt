@@ -1,4 +1,4 @@
--- What is proved of the definitions: the statements alone. The proofs are in proofs/Theorems.antt.
+-- What is proved of the definitions: the statements alone. The proofs are in proofs/.
 use mathlib.Core.Path.{_≡_}
 use mathlib.Core.Logic.{_↔_}
 use mathlib.Core.Bool.{true}
@@ -9,7 +9,7 @@ use lib.ListN.{length, getD, take, drop}
 use Rattle.esterel.specs.Limits.{maxNodes}
 use Rattle.esterel.specs.Statement.{Unary, loop, Binary, Stmt, one, two, kind, field, size, nodes, loopsAround}
 use Rattle.esterel.specs.Sets.{startSet, placesOf}
-use Rattle.esterel.specs.Table.{passed, refused, read, postfix}
+use Rattle.esterel.specs.Table.{Node, takes1, takes2, nodeOf, passed, refused, read, postfix}
 use Rattle.esterel.specs.Checks.{tooDeep, tooManyTraps, uncaught, firstNode, checkPlaces, verdict, planned}
 use Rattle.esterel.specs.Instant.{Entry, Result, closed, starved, stuck, zeros, start, resume, admitted}
 use Rattle.esterel.specs.Outcome.{statementAt, taken, allIn, allGoOn}
@@ -35,33 +35,30 @@ pub record Subtrees : Type 0 where
   pub kindAt : (p : Stmt) (i : ℕ) → i < size p → getD (postfix p) (2 * i) 0 ≡ kind (statementAt (nodes p) i)
   pub fieldAt : (p : Stmt) (i : ℕ) → i < size p → getD (postfix p) (2 * i + 1) 0 ≡ field (statementAt (nodes p) i)
 
--- The same of the bytes (F-3). In a table that reads to p, the statement q stands at node i: its nodes are those from `first` to i, and
--- the bytes of these nodes are its own.
-pub record Stands (bytes : List ℕ) (p : Stmt) (first i : ℕ) (q : Stmt) : Type 0 where
+-- The same of the bytes (F-3). In a table that reads to p, the statement q stands at node i: its nodes are those from `from` to i, and the
+-- bytes of these nodes are its own.
+pub record Stands (bytes : List ℕ) (p : Stmt) (from i : ℕ) (q : Stmt) : Type 0 where
   pub within : i < size p
   pub is : statementAt (nodes p) i ≡ q
-  pub spans : first + size q ≡ suc i
-  pub reads : take (2 * size q) (drop (2 * first) bytes) ≡ postfix q
+  pub spans : from + size q ≡ suc i
+  pub reads : take (2 * size q) (drop (2 * from) bytes) ≡ postfix q
+
+-- what the two bytes of node i say
+abbrev pub nodeAt : List ℕ → ℕ → Node
+nodeAt bytes i = nodeOf (getD bytes (2 * i) 0) (getD bytes (2 * i + 1) 0)
 
 pub record Children : Type 0 where
-  -- at every node one statement stands, and the node's two bytes are its kind and its field
-  pub stands : (bytes : List ℕ) (p : Stmt) → read bytes ≡ passed p → (i : ℕ) → i < size p → (first : ℕ) × (q : Stmt) × Stands bytes p first i q
-  pub alone : (bytes : List ℕ) (p : Stmt) → read bytes ≡ passed p → (f g i : ℕ) (q r : Stmt) → Stands bytes p f i q → Stands bytes p g i r → (f ≡ g) × (q ≡ r)
-  pub kinds :
-      (bytes : List ℕ) (p : Stmt) → read bytes ≡ passed p →
-      (first i : ℕ) (q : Stmt) → Stands bytes p first i q → (getD bytes (2 * i) 0 ≡ kind q) × (getD bytes (2 * i + 1) 0 ≡ field q)
-  -- an only child is the node before its parent
-  pub only :
-      (bytes : List ℕ) (p : Stmt) → read bytes ≡ passed p →
-      (first i : ℕ) (u : Unary) (q : Stmt) → Stands bytes p first i (one u q) → Stands bytes p first (i - 1) q
-  -- of two children the second is the node before their parent
-  pub second :
-      (bytes : List ℕ) (p : Stmt) → read bytes ≡ passed p →
-      (first i : ℕ) (b : Binary) (q r : Stmt) → Stands bytes p first i (two b q r) → Stands bytes p (first + size q) (i - 1) r
-  -- and the first is the node before the second's first node
-  pub first :
-      (bytes : List ℕ) (p : Stmt) → read bytes ≡ passed p →
-      (first i : ℕ) (b : Binary) (q r : Stmt) → Stands bytes p first i (two b q r) → Stands bytes p first (first + size q - 1) q
+  -- at every node a statement stands
+  pub stands : (bytes : List ℕ) (p : Stmt) → read bytes ≡ passed p → (i : ℕ) → i < size p → (from : ℕ) × (q : Stmt) × Stands bytes p from i q
+  -- where the bytes take one statement (kinds 5, 7, 8 and 11), the child is the node before its parent
+  pub single :
+      (bytes : List ℕ) (p : Stmt) → read bytes ≡ passed p → (i : ℕ) → i < size p → (u : Unary) → nodeAt bytes i ≡ takes1 u →
+      (from j : ℕ) × (q : Stmt) × (i ≡ suc j) × Stands bytes p from i (one u q) × Stands bytes p from j q
+  -- where they take two (6, 9 and 10), the second child is the node j before its parent, and the first is the node m before the second's
+  -- first node
+  pub pair :
+      (bytes : List ℕ) (p : Stmt) → read bytes ≡ passed p → (i : ℕ) → i < size p → (b : Binary) → nodeAt bytes i ≡ takes2 b →
+      (from m j : ℕ) × (q r : Stmt) × (i ≡ suc j) × Stands bytes p from i (two b q r) × Stands bytes p (suc m) j r × Stands bytes p from m q
 
 -- Demand 2, exactness: a code is in K of a statement exactly if some answers make the started statement finish with it.
 abbrev pub Finishes : (List ℕ → Result) → ℕ → Type 0

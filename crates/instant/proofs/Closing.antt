@@ -26,7 +26,7 @@ use Rattle.table.specs.declared.Check.{Check}
 use Rattle.table.specs.declared.Check.the-variants.{Passed}
 use Rattle.table.specs.declared.Check.the-variants.{Refused as RefusedCheck}
 use Rattle.table.proofs.Found.{pass-true, pass-false}
-use Rattle.table.proofs.View.{table-length}
+use Rattle.table.proofs.Bytes.{table-length}
 use Rattle.analysis.proofs.Analyses.{verdict-refused}
 use Rattle.instant.specs.Run.{stmtAt, firstAt, bytesAt, Clear, Holding, RanIs, ran, starves, Started, Resumed}
 use Rattle.instant.specs.declared.Ran.{Ran}

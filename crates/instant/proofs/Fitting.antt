@@ -16,7 +16,7 @@ use Rattle.esterel.proofs.Subtrees.{two-children}
 use Rattle.table.specs.Kinds.{kindOf, isPause}
 use Rattle.table.specs.Program.{programOf}
 use Rattle.table.specs.declared.Kind.{Kind}
-use Rattle.table.proofs.View.{kind-byte}
+use Rattle.table.proofs.Bytes.{kind-byte}
 use Rattle.table.specs.Columns.{Measured}
 use Rattle.instant.specs.Admission.{countHeld, Counted, byteFits, childrenApart, nodeFits, byteFitsKind, isExclusive}
 use Rattle.instant.proofs.Admits.{part-holds, count-rises}

@@ -15,7 +15,7 @@ use Rattle.table.specs.Kinds.{kindOf, arityOf, isTrap, isPresent}
 use Rattle.table.specs.Program.{programOf}
 use Rattle.table.specs.declared.Kind.{Kind}
 use Rattle.table.proofs.Surveying.{few-nodes}
-use Rattle.table.proofs.View.{field-byte}
+use Rattle.table.proofs.Bytes.{field-byte}
 use Rattle.instant.specs.Steps.{entriesOf, takenAfter, oneMore, catchRan, catches, Left, both, doneAfter, leafOf, LeafRan}
 use Rattle.instant.specs.Run.{stmtAt, firstAt, Runnable, Room, Clear, RanIs, starves, Started}
 use Rattle.instant.specs.declared.Ran.{Ran}

@@ -10,7 +10,7 @@ use Rattle.table.specs.Kinds.{kindOf, arityOf}
 use Rattle.table.specs.Program.{programOf}
 use Rattle.table.specs.declared.Kind.{Kind}
 use Rattle.table.proofs.Surveying.{few-nodes}
-use Rattle.table.proofs.View.{childrenOf, arity-of, kind-byte, table-length}
+use Rattle.table.proofs.Bytes.{childrenOf, arity-of, kind-byte, table-length}
 use Rattle.instant.specs.Run.{stmtAt, Runnable}
 use Rattle.instant.proofs.Nodes.{Over, over, Both, both}
 

@@ -14,7 +14,7 @@ use Rattle.esterel.specs.Table.{Verdict, passed, refused, read}
 use Rattle.esterel.specs.Checks.{line, lineOf, listing, planned, verdict}
 use Rattle.esterel.proofs.Accepted.{stmtOf}
 use Rattle.table.specs.Program.{programOf, programIn, Readable}
-use Rattle.table.proofs.View.{field-byte}
+use Rattle.table.proofs.Bytes.{field-byte}
 use Rattle.table.proofs.Surveying.{few-nodes}
 use Rattle.analysis.specs.Passes.{placeAt}
 use Rattle.esterel.proofs.LoopCheck.{place-statement}

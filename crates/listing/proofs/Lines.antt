@@ -12,7 +12,7 @@ use Rattle.esterel.specs.Sets.{Place, at, placesOf}
 use Rattle.esterel.specs.Checks.{Line, line, lineOf, listing}
 use Rattle.esterel.proofs.Accepted.{stmtOf, length-places}
 use Rattle.table.specs.Program.{programOf, Readable}
-use Rattle.table.proofs.View.{kind-byte, field-byte}
+use Rattle.table.proofs.Bytes.{kind-byte, field-byte}
 use Rattle.table.proofs.Surveying.{few-nodes}
 use Rattle.analysis.specs.Passes.{placeAt}
 use Rattle.analysis.specs.Analysis.{kOf, aOf, sOf, markOf}

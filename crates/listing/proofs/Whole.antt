@@ -8,7 +8,7 @@ use Rattle.esterel.specs.Statement.{Unary, signal, suspend, loop, trap, Stmt, l
 use Rattle.esterel.specs.Table.{passed}
 use Rattle.esterel.specs.Checks.{listing}
 use Rattle.table.specs.Program.{programOf, Readable}
-use Rattle.table.proofs.View.{table-length}
+use Rattle.table.proofs.Bytes.{table-length}
 use Rattle.table.proofs.Surveying.{few-nodes}
 use Rattle.listing.specs.Text.{linesFrom, headerText, textOf}
 use Rattle.listing.specs.Written.{Written}

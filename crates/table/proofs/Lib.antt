@@ -1,6 +1,6 @@
 pub mod Buffers
 pub mod Filling
-pub mod View
+pub mod Bytes
 pub mod Walk
 pub mod Stack
 pub mod Pass

@@ -13,7 +13,7 @@ use Rattle.esterel.specs.Sets.{at}
 use Rattle.esterel.specs.Checks.{tooManyTraps, uncaught}
 use Rattle.table.specs.Kinds.{kindOf, isTrap, isLoop, isExit}
 use Rattle.table.proofs.Walk.{Waiting, children}
-use Rattle.table.proofs.View.{childrenOf}
+use Rattle.table.proofs.Bytes.{childrenOf}
 use Rattle.table.proofs.Stacks.{Last}
 
 -- the traps and the loops that a statement puts around its children

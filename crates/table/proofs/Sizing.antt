@@ -1,11 +1,10 @@
 -- The sizes of the subtrees, each from those before it.
 use mathlib.Core.Path.{_≡_, refl, sym, ap, _∙_}
 use mathlib.Core.List.{List}
-use Prim.Native.Nat.{ℕ, _+_, _-_, _*_, _≤_, _<_}
+use Prim.Native.Nat.{ℕ, _-_, _*_, _≤_, _<_}
 use native.Mathlib.Omega.{arith}
 use lib.ListN.{length, getD, List·getD-append}
-use Rattle.esterel.specs.Limits.{maxNodes}
-use Rattle.esterel.specs.Statement.{Stmt, leaf, one, two, kind, size, nodes}
+use Rattle.esterel.specs.Statement.{Stmt, leaf, one, two, size, nodes}
 use Rattle.esterel.specs.Outcome.{statementAt}
 use Rattle.esterel.proofs.Sizes.{size-pos}
 use Rattle.esterel.proofs.Subtrees.{only-child, two-children}
@@ -14,7 +13,7 @@ use Rattle.table.specs.Program.{programOf, Readable}
 use Rattle.table.specs.Columns.{onto, sizesOf, Measured}
 use Rattle.table.specs.Check.{Room, spanOf}
 use Rattle.table.specs.declared.Kind.{Kind}
-use Rattle.table.proofs.View.{childrenOf, arity-of, kind-byte}
+use Rattle.table.proofs.Bytes.{childrenOf, arity-of, kind-byte}
 use Rattle.table.proofs.Filling.{length-column, column-at, Filling, filling-length, filling-at}
 
 pub length-sizes : (p : Stmt) → length (sizesOf p) ≡ size p

@@ -1,15 +1,15 @@
 -- The numbers of subtrees that wait, on a stack.
 use mathlib.Core.Path.{_≡_, refl, sym, ap, _∙_}
 use mathlib.Core.List.{List, [], _∷_}
-use Prim.Native.Nat.{ℕ, zero, suc, _+_, _-_, _≤_, _<_}
+use Prim.Native.Nat.{ℕ, zero, suc, _+_, _-_, _/_, _≤_, _<_}
 use native.Mathlib.Omega.{arith}
 use lib.ListN.{length, getD, set, length-set}
 use lib.Seq.{getD-set-same, getD-set-other}
 use Rattle.esterel.specs.Limits.{maxNodes}
 use Rattle.esterel.specs.Statement.{Stmt, leaf, one, two}
 use Rattle.esterel.specs.Codes.{Codes}
-use Rattle.table.specs.Stacks.{nextOf, keptOf}
-use Rattle.table.proofs.View.{childrenOf}
+use Rattle.table.specs.Stacks.{nextOf, keptOf, Moves}
+use Rattle.table.proofs.Bytes.{childrenOf}
 use Rattle.table.proofs.Walk.{Waiting, onlyChild, firstChild, secondChild, children, descend}
 
 -- from place b on an array has the number f of each, the one that comes next last
@@ -72,15 +72,30 @@ module _ (f : Waiting → ℕ) (w : Waiting) (ws : List Waiting) {v : ℕ} {xs :
   hand-is (here _ _ e h) = e
 
   -- the next one gives way to its children
-  pub descended : At f v xs (w ∷ ws) → (waiting c x y : ℕ) → waiting ≡ suc (length ws) → c ≡ childrenOf (w .root) → waiting < length xs
+  pub descended : At f v xs (w ∷ ws) → {waiting c x y v′ : ℕ} {xs′ : List ℕ} → waiting ≡ suc (length ws) → c ≡ childrenOf (w .root) → waiting < length xs
       → Last f (w .depth) (w .traps) (w .loops) (w .context) (w .root) x y
-      → At f (nextOf c (getD xs (waiting - 1) 0) y) (keptOf c xs waiting x) (descend w ws)
-  descended (here _ _ z h) waiting c x y ei ec lt e = rw ec (descend-on f (w .depth) (w .traps) (w .loops) (w .context) (w .root) ws xs waiting x y ei lt e h)
+      → Moves c waiting x y xs v′ xs′ → At f v′ xs′ (descend w ws)
+  descended (here _ _ z h) {waiting} {c} {x} {y} ei ec lt e m =
+      rw (m .hand, m .stack, ec) (descend-on f (w .depth) (w .traps) (w .loops) (w .context) (w .root) ws xs waiting x y ei lt e h)
 
-pub length-kept : (c : ℕ) (xs : List ℕ) (i v : ℕ) → length (keptOf c xs i v) ≡ length xs
-length-kept zero xs i v = refl
-length-kept (suc zero) xs i v = refl
-length-kept (suc (suc c)) xs i v = length-set xs i v
+pub moves-length : {c waiting x y v : ℕ} {xs xs′ : List ℕ} → Moves c waiting x y xs v xs′ → length xs′ ≡ length xs
+moves-length {c} {waiting} {x} {y} {v} {xs} {xs′} m = ap length (m .stack) ∙ go c
+  where
+    go : (c : ℕ) → length (keptOf c xs waiting x) ≡ length xs
+    go zero = refl
+    go (suc zero) = refl
+    go (suc (suc c)) = length-set xs waiting x
+
+-- the three ways: past a leaf, into an only child, into the second of two
+module _ {c waiting x y v : ℕ} {xs : List ℕ} where
+  pub moves-past : c ≡ 0 → v ≡ getD xs (waiting - 1) 0 → Moves c waiting x y xs v xs
+  moves-past e ev = rw e record { hand = ev; stack = refl }
+
+  pub moves-into : c ≡ 1 → v ≡ y → Moves c waiting x y xs v xs
+  moves-into e ev = rw e record { hand = ev; stack = refl }
+
+  pub moves-second : {xs′ : List ℕ} → c ≡ 2 → v ≡ y → xs′ ≡ set xs waiting x → Moves c waiting x y xs v xs′
+  moves-second e ev es = rw e record { hand = ev; stack = es }
 
 -- m bounds the numbers
 pub data Low (f : Waiting → ℕ) (m : ℕ) : List Waiting → Type 0 where
@@ -101,7 +116,7 @@ module _ (f : Waiting → ℕ) (m : ℕ) (d t l : ℕ) (P : Codes) where
 
 -- a number of the survey, at hand and on its stack
 pub record Held (f : Waiting → ℕ) (m v : ℕ) (xs : List ℕ) (ws : List Waiting) : Type 0 where
-  pub long : length xs ≡ maxNodes
+  pub long : length xs ≡ maxNodes / 2 + 1
   pub at : At f v xs ws
   pub low : Low f m ws
 
@@ -117,14 +132,13 @@ module _ (f : Waiting → ℕ) (m : ℕ) (w : Waiting) (ws : List Waiting) {v : 
       go (more _ _ b h) = b
 
   -- its c children, which have the number y, take its place
-  pub descend-held : {waiting c v′ y : ℕ} {xs′ : List ℕ} → waiting ≡ suc (length ws) → c ≡ childrenOf (w .root) → waiting < maxNodes
-      → v′ ≡ nextOf c (getD xs (waiting - 1) 0) y → xs′ ≡ keptOf c xs waiting y → y ≤ suc m
+  pub descend-held : {waiting c v′ y : ℕ} {xs′ : List ℕ} → waiting ≡ suc (length ws) → c ≡ childrenOf (w .root) → waiting ≤ maxNodes / 2
+      → Moves c waiting y y xs v′ xs′ → y ≤ suc m
       → Last f (w .depth) (w .traps) (w .loops) (w .context) (w .root) y y → Held f (suc m) v′ xs′ (descend w ws)
-  descend-held {waiting} {c} {v′} {y} ei ec lt ev ex le e =
-      rw (ev, ex)
+  descend-held {waiting} {c} {v′} {y} ei ec lt moves le e =
       record {
-        long = length-kept c xs waiting y ∙ o .long;
-        at = descended f w ws (o .at) waiting c y y ei ec (omega (arith, o .long)) e;
+        long = moves-length moves ∙ o .long;
+        at = descended f w ws (o .at) ei ec (omega (arith, o .long)) e moves;
         low = go (o .low);
       }
     where

@@ -2,7 +2,7 @@
 use mathlib.Core.Path.{_≡_, refl, ap, ap₂, subst, _∙_}
 use mathlib.Core.Bool.{Bool, true, false, _&&_, cond}
 use mathlib.Core.List.{List, [], _∷_}
-use Prim.Native.Nat.{ℕ, suc, _+_, _-_, _*_, max, _≤_, _<_}
+use Prim.Native.Nat.{ℕ, suc, _+_, _-_, _*_, _/_, max, _≤_, _<_}
 use native.Mathlib.Omega.{arith}
 use lib.ListN.{length, getD, length-append}
 use lib.Dec.{leb, ltb}
@@ -22,7 +22,7 @@ use Rattle.table.specs.declared.Check.{Check}
 use Rattle.table.specs.declared.Check.the-variants.{Passed}
 use Rattle.table.specs.declared.Faults.{Faults}
 use Rattle.table.specs.declared.Nesting.{Nesting}
-use Rattle.table.proofs.View.{childrenOf, arity-of, table-length, kind-byte, field-byte}
+use Rattle.table.proofs.Bytes.{childrenOf, arity-of, table-length, kind-byte, field-byte}
 use Rattle.table.proofs.Walk.{Waiting, Walk, Next, program, begin, next, ended, descend, placeOf, placesIn}
 use Rattle.esterel.proofs.Accepted.{length-places}
 use Rattle.table.proofs.Stacks.{none, more, here, Held, Hand, in-hand, descend-held}
@@ -54,7 +54,7 @@ pub record State (p : Stmt) (depths traps loops : List ℕ) (node : Nesting) (fa
 
 -- at the beginning the program waits
 pub start : (p : Stmt) (depths traps loops : List ℕ) (faults : Faults) (i : ℕ) → i ≡ size p
-    → length depths ≡ maxNodes → length traps ≡ maxNodes → length loops ≡ maxNodes
+    → length depths ≡ maxNodes / 2 + 1 → length traps ≡ maxNodes / 2 + 1 → length loops ≡ maxNodes / 2 + 1
     → faults .depths ≡ maxNodes → faults .traps ≡ maxNodes → faults .exits ≡ maxNodes
     → State p depths traps loops (record { depth = 1; traps = 0; loops = 0; waiting = 1 }) faults 0 i
 unfolding begin
@@ -84,7 +84,7 @@ pub record Turn (t : List ℕ) (node : Nesting) (i : ℕ) : Type 0 where
   pub waits : 0 < node .waiting
   pub low : i < maxNodes
   pub inside : 2 * i + 1 < length t
-  pub room : node .waiting < maxNodes
+  pub room : node .waiting ≤ maxNodes / 2
   pub shallow : Shallow maxNodes node
 
 module _ {p : Stmt} {depths traps loops : List ℕ} {node : Nesting} {faults : Faults} {m : ℕ} where
@@ -135,8 +135,8 @@ module _ (t : List ℕ) (ok : Readable t) {depths traps loops : List ℕ} {node 
   low-fits : o .low ≤ maxNodes
   low-fits = omega (arith, o .sum, few-nodes t ok)
 
-  -- as deep as the stack is high or deeper: so it is at most half full
-  room : node .waiting < maxNodes
+  -- as deep as the stack is high or deeper: so no more wait than half of the nodes
+  room : node .waiting ≤ maxNodes / 2
   room = omega (arith, o .sum, few-nodes t ok, ahead .depth, depth-is .low, few-wait o, count)
 
   pub turn : Turn t node i
@@ -185,13 +185,13 @@ module _ (t : List ℕ) (ok : Readable t) {depths traps loops : List ℕ} {node 
         low = suc (o .low);
         sum = omega (arith, o .sum);
         depthsAre =
-            descend-held (λ w. w .depth) (o .low) w (ahead .below) (rw (ahead .is) at (o .depthsAre)) count children room (n .depth) (n .depthsAre)
+            descend-held (λ w. w .depth) (o .low) w (ahead .below) (rw (ahead .is) at (o .depthsAre)) count children room (n .depth)
             (omega (arith, depth-is .is, depth-is .low)) (depth-below (w .depth) (w .traps) (w .loops) (w .context) (w .root) (node .depth + 1) (omega (arith, depth-is .is)));
         trapsAre =
-            descend-held (λ w. w .traps) (o .low) w (ahead .below) (rw (ahead .is) at (o .trapsAre)) count children room (n .traps) (n .trapsAre)
+            descend-held (λ w. w .traps) (o .low) w (ahead .below) (rw (ahead .is) at (o .trapsAre)) count children room (n .traps)
             (omega (arith, traps-is .is, traps-is .low, bit-small (isTrap k))) (traps-below (w .depth) (w .traps) (w .loops) (w .context) (w .root) (node .traps + bit (isTrap k)) (omega (arith, traps-is .is, catches)));
         loopsAre =
-            descend-held (λ w. w .loops) (o .low) w (ahead .below) (rw (ahead .is) at (o .loopsAre)) count children room (n .loops) (n .loopsAre)
+            descend-held (λ w. w .loops) (o .low) w (ahead .below) (rw (ahead .is) at (o .loopsAre)) count children room (n .loops)
             (omega (arith, loops-is .is, loops-is .low, bit-small (isLoop k))) (loops-below (w .depth) (w .traps) (w .loops) (w .context) (w .root) (node .loops + bit (isLoop k)) (omega (arith, loops-is .is, repeats)));
         answers = rw (ahead .onSeen) (answers-more k f faults′ kw fw s);
         mostIs = rw (ahead .onLoops) (omega (arith, em, loops-is .is, o .mostIs));

@@ -7,14 +7,13 @@ use mathlib.Core.List.{List, []}
 use lib.ListN.{length, getD, set}
 use lib.Dec.{eqb, leb, ltb}
 use Rattle.esterel.specs.Limits.{maxNodes, maxDepth, maxTraps}
-use Rattle.esterel.specs.Statement.{Stmt, size, nodes, loopDepth}
+use Rattle.esterel.specs.Statement.{Stmt, loopDepth}
 use Rattle.esterel.specs.Codes.{bit}
 use Rattle.esterel.specs.Sets.{Place, placesOf}
 use Rattle.esterel.specs.Table.{Verdict, passed, refused, scan}
 use Rattle.esterel.specs.Checks.{tooDeep, tooManyTraps, uncaught, firstNode}
-use Rattle.esterel.specs.Outcome.{statementAt}
 use Rattle.table.specs.Kinds.{arityOf, plainOf, isTrap, isLoop, isExit}
-use Rattle.table.specs.Stacks.{nextOf, keptOf}
+use Rattle.table.specs.Stacks.{Moves}
 use Rattle.table.specs.declared.Kind.{Kind}
 use Rattle.table.specs.declared.Kind.the-variants.{Nothing, Pause, Emit, Exit, Signal, Present, Suspend, Loop, Sequence, Parallel, Trap, Unknown}
 use Rattle.table.specs.declared.Check.{Check}
@@ -142,15 +141,12 @@ pub record SecondOf (n : Nesting) (xs ys zs xs′ ys′ zs′ : List ℕ) (r : N
   pub trapsAre : ys′ ≡ set ys (n .waiting) (n .traps)
   pub loopsAre : zs′ ≡ set zs (n .waiting) (n .loops)
 
--- by the node's kind
+-- by the node's kind; both children have one number
 pub record Descended (k : Kind) (n : Nesting) (xs ys zs xs′ ys′ zs′ : List ℕ) (r : Nesting) : Type 0 where
-  pub depth : r .depth ≡ nextOf (arityOf k) (getD xs (n .waiting - 1) 0) (n .depth + 1)
-  pub traps : r .traps ≡ nextOf (arityOf k) (getD ys (n .waiting - 1) 0) (n .traps + bit (isTrap k))
-  pub loops : r .loops ≡ nextOf (arityOf k) (getD zs (n .waiting - 1) 0) (n .loops + bit (isLoop k))
+  pub depth : Moves (arityOf k) (n .waiting) (n .depth + 1) (n .depth + 1) xs (r .depth) xs′
+  pub traps : Moves (arityOf k) (n .waiting) (n .traps + bit (isTrap k)) (n .traps + bit (isTrap k)) ys (r .traps) ys′
+  pub loops : Moves (arityOf k) (n .waiting) (n .loops + bit (isLoop k)) (n .loops + bit (isLoop k)) zs (r .loops) zs′
   pub waits : r .waiting ≡ n .waiting + arityOf k - 1
-  pub depthsAre : xs′ ≡ keptOf (arityOf k) xs (n .waiting) (n .depth + 1)
-  pub trapsAre : ys′ ≡ keptOf (arityOf k) ys (n .waiting) (n .traps + bit (isTrap k))
-  pub loopsAre : zs′ ≡ keptOf (arityOf k) zs (n .waiting) (n .loops + bit (isLoop k))
 
 -- what a survey of a program finds
 pub record Surveyed (p : Stmt) (r : Survey) : Type 0 where

@@ -1,4 +1,4 @@
--- A lent buffer with an entry for each node.
+-- What a lent buffer holds, and the sizes of the subtrees.
 use Prim.Native.Nat.{ℕ, _<_, _≤_}
 use mathlib.Core.Path.{_≡_}
 use mathlib.Core.List.{List, _++_, map}
@@ -7,7 +7,7 @@ use Rattle.esterel.specs.Statement.{Stmt, size, nodes}
 use Rattle.esterel.specs.Outcome.{statementAt}
 use Rattle.table.specs.Program.{programOf, Readable}
 
--- a number for each node, then what stood in the buffer before
+-- the first entries of a buffer, and behind them what stood there before
 abbrev pub onto : List ℕ → List ℕ → List ℕ
 onto column old = column ++ drop (length column) old
 

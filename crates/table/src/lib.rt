@@ -1,7 +1,7 @@
 // The table of a program: what its bytes say, checks 1, 2 and 4 to 10, and the sizes of the subtrees.
 ghost use mathlib.Core.Path.{_≡_};
 ghost use mathlib.Core.Bool.{cond};
-ghost use Prim.Native.Nat.{_+_, _-_, _*_, _<_, _≤_, max};
+ghost use Prim.Native.Nat.{_+_, _-_, _*_, _/_, _<_, _≤_, max};
 ghost use lib.ListN.{length, getD};
 ghost use Rattle.esterel.specs.Limits.{maxNodes};
 ghost use Rattle.esterel.specs.Statement.{size};
@@ -218,12 +218,6 @@ fn check_node(kind: Kind, field: usize, unused: usize, node: usize) -> Check
     Check::Passed
 }
 
-fn wide(x: u16) -> usize
-    ensures { λ r. ⌜ r ≡ x ⌝ }
-{
-    x as usize
-}
-
 // Checks 4 to 7 in one pass: what is needed of the statements before a node is how many of them are unused.
 pub fn read_nodes(table: &[u8]) -> Check
     requires { ⌜ WellSized (now table) ⌝ }
@@ -316,14 +310,24 @@ fn first_refusal(faults: Faults) -> Check
     Check::Passed
 }
 
+// At most half of the nodes wait at a time, since each that waits is as deep as it stands on the stack, or deeper. Place 0 is read where
+// nothing else waits.
+const WAITING: usize = esterel::MAX_NODES / 2 + 1;
+
+fn wide(x: u16) -> usize
+    ensures { λ r. ⌜ r ≡ x ⌝ }
+{
+    x as usize
+}
+
 // Past a leaf: the subtree that waits next.
 fn next_waiting(
-    depths: &[u16; esterel::MAX_NODES],
-    traps: &[u16; esterel::MAX_NODES],
-    loops: &[u16; esterel::MAX_NODES],
+    depths: &[u16; WAITING],
+    traps: &[u16; WAITING],
+    loops: &[u16; WAITING],
     waiting: usize,
 ) -> Nesting
-    requires { ⌜ (0 < waiting) × (waiting < maxNodes) ⌝ }
+    requires { ⌜ (0 < waiting) × (waiting ≤ maxNodes / 2) ⌝ }
     ensures { λ r. ⌜ TopOf (now (depths .entry)) (now (traps .entry)) (now (loops .entry)) waiting r ⌝ }
 {
     let top = waiting - 1;
@@ -350,12 +354,12 @@ fn only_child(node: Nesting, traps: usize, loops: usize) -> Nesting
 
 // Into the second of two children. The first waits.
 fn second_child(
-    depths: &mut [u16; esterel::MAX_NODES],
-    traps: &mut [u16; esterel::MAX_NODES],
-    loops: &mut [u16; esterel::MAX_NODES],
+    depths: &mut [u16; WAITING],
+    traps: &mut [u16; WAITING],
+    loops: &mut [u16; WAITING],
     node: Nesting,
 ) -> Nesting
-    requires { ⌜ Shallow maxNodes node × (node .waiting < maxNodes) ⌝ }
+    requires { ⌜ Shallow maxNodes node × (node .waiting ≤ maxNodes / 2) ⌝ }
     ensures { λ r. ⌜ SecondOf node (now (depths .entry)) (now (traps .entry)) (now (loops .entry)) (now (depths .exit)) (now (traps .exit)) (now (loops .exit)) r ⌝ }
 {
     let place = node.waiting;
@@ -373,12 +377,12 @@ fn second_child(
 // From a node to the node before it.
 fn descend(
     kind: Kind,
-    depths: &mut [u16; esterel::MAX_NODES],
-    traps: &mut [u16; esterel::MAX_NODES],
-    loops: &mut [u16; esterel::MAX_NODES],
+    depths: &mut [u16; WAITING],
+    traps: &mut [u16; WAITING],
+    loops: &mut [u16; WAITING],
     node: Nesting,
 ) -> Nesting
-    requires { ⌜ Shallow maxNodes node × (0 < node .waiting) × (node .waiting < maxNodes) ⌝ }
+    requires { ⌜ Shallow maxNodes node × (0 < node .waiting) × (node .waiting ≤ maxNodes / 2) ⌝ }
     ensures { λ r. ⌜ Descended kind node (now (depths .entry)) (now (traps .entry)) (now (loops .entry)) (now (depths .exit)) (now (traps .exit)) (now (loops .exit)) r ⌝ }
 {
     match kind {
@@ -401,9 +405,9 @@ pub fn survey_table(table: &[u8]) -> Survey
     requires { ⌜ Readable (now table) ⌝ }
     ensures { λ r. ⌜ Surveyed (programOf (now (table .entry))) r ⌝ }
 {
-    let mut depths = [0u16; esterel::MAX_NODES];
-    let mut traps = [0u16; esterel::MAX_NODES];
-    let mut loops = [0u16; esterel::MAX_NODES];
+    let mut depths = [0u16; WAITING];
+    let mut traps = [0u16; WAITING];
+    let mut loops = [0u16; WAITING];
     let mut faults = Faults {
         depths: esterel::MAX_NODES,
         traps: esterel::MAX_NODES,

@@ -13,7 +13,7 @@ use Rattle.esterel.specs.Statement.{size}
 use Rattle.esterel.specs.Checks.{endsAtOnce}
 use Rattle.table.specs.Program.{programOf}
 use Rattle.table.proofs.Surveying.{few-nodes}
-use Rattle.table.proofs.View.{table-length}
+use Rattle.table.proofs.Bytes.{table-length}
 use Rattle.table.proofs.Walk.{Waiting}
 use Rattle.analysis.specs.Passes.{Placed, placeAt}
 use Rattle.analysis.proofs.Loops.{Searched, search-on, search-found, search-ended}

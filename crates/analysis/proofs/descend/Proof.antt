@@ -1,12 +1,11 @@
 -- `analysis::descend` meets its contract: arm by arm.
 use borrow.Author.Needs.{needs}
 use native.Mathlib.Omega.{arith}
-use mathlib.Core.Path.{_≡_, refl, sym, ap, _∙_}
-use Prim.Native.Nat.{ℕ, _+_}
+use mathlib.Core.Path.{refl, ap, _∙_}
 use Rattle.codes.specs.Codes.{bit}
 use Rattle.codes.specs.Words.{unionOf}
 use Rattle.table.specs.Kinds.{arityOf, isTrap}
-use Rattle.table.proofs.Descending.{leaves, ones}
+use Rattle.table.proofs.Descending.{leaves, signal-or-suspend, ones}
 use Rattle.analysis.specs.Steps.{firstOf, lastOf}
 use Rattle.analysis.proofs.Steps.{by-kind}
 use Rattle.analysis.proofs.Descending.{handed-on, past-leaf, into-only, into-second}
@@ -77,7 +76,7 @@ returns-2 : tie.Need-returns-2
 returns-2 c =
     let a = c .before .before .args in
     let e = ones (a .kind) (c .before .match .keys2) in
-    into-only (e .taken) (handed-on (a .kind) (c .before .match .keys2) (a .node .context) (a .node .traps) (a .ends)) (omega (arith, e .catches)) (c .only-child .ensures)
+    into-only (e .taken) (handed-on (signal-or-suspend (a .kind) (c .before .match .keys2)) (a .node .context) (a .node .traps) (a .ends)) (omega (arith, e .catches)) (c .only-child .ensures)
 
 -- the arms of one kind
 returns-3 : tie.Need-returns-3

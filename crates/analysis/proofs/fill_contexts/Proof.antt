@@ -6,7 +6,7 @@ use mathlib.Core.Path.{refl}
 use mathlib.Core.List.{List}
 use denote.Ref.{now}
 use Rattle.table.specs.Program.{programOf}
-use Rattle.table.proofs.View.{table-length}
+use Rattle.table.proofs.Bytes.{table-length}
 use Rattle.analysis.specs.Passes.{Walkable}
 use Rattle.analysis.proofs.Contexts.{Walking, walk-start, contexts-long, marks-long, stepped, Turn, turn, walk-on, contexts-end, marks-end}
 use Rattle.analysis.proofs.fill_contexts.Statement.{statement}

@@ -13,9 +13,9 @@ use Rattle.esterel.specs.Statement.{size}
 use Rattle.table.specs.Program.{programOf}
 use Rattle.table.proofs.Filling.{Filling, filling-length, filling-next, filling-end, whole}
 use Rattle.table.proofs.Surveying.{few-nodes}
-use Rattle.table.proofs.View.{table-length}
+use Rattle.table.proofs.Bytes.{table-length}
 use Rattle.table.proofs.Walk.{Waiting}
-use Rattle.analysis.specs.Passes.{Placed, Fillable, wordsOf, flagsOf}
+use Rattle.analysis.specs.Passes.{Fillable, wordsOf, flagsOf}
 use Rattle.analysis.proofs.Filling.{length-words, words-at, length-flags, flags-at}
 use Rattle.analysis.proofs.Nodes.{exit-field}
 use Rattle.analysis.proofs.Unused.{Before, Words, begin, no-words, enough, low, next, own-at, words-next, flag-is}

@@ -1,5 +1,4 @@
 -- `analysis::push_codes` meets its contract: what `codes_of` makes of the two words from `base` on is stored there.
-use borrow.Author.Needs.{needs}
 use native.Mathlib.Omega.{arith}
 use mathlib.Core.Path.{ap}
 use denote.Ref.{now}

@@ -4,7 +4,7 @@ use Prim.Native.Nat.{_-_}
 use denote.Ref.{now}
 use Rattle.esterel.specs.Statement.{size}
 use Rattle.table.specs.Program.{programOf}
-use Rattle.table.proofs.View.{table-length}
+use Rattle.table.proofs.Bytes.{table-length}
 use Rattle.listing.proofs.Lines.{Totalling, total-none, total-fits, total-next, total-end, lines-few}
 use Rattle.listing.proofs.lines_length.Statement.{statement}
 use Rattle.listing.proofs.lines_length.Tie as tie

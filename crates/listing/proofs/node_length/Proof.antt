@@ -4,7 +4,7 @@ use native.Mathlib.Omega.{arith}
 use mathlib.Core.Path.{_∙_, ap}
 use denote.Ref.{now}
 use lib.ListN.{length}
-use Rattle.table.proofs.View.{table-length}
+use Rattle.table.proofs.Bytes.{table-length}
 use Rattle.listing.proofs.Lines.{node-text}
 use Rattle.listing.proofs.node_length.Statement.{statement}
 use Rattle.listing.proofs.node_length.Tie as tie

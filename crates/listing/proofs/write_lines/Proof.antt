@@ -4,7 +4,7 @@ use Prim.Native.Nat.{_-_}
 use denote.Ref.{now}
 use Rattle.esterel.specs.Statement.{size}
 use Rattle.table.specs.Program.{programOf}
-use Rattle.table.proofs.View.{table-length}
+use Rattle.table.proofs.Bytes.{table-length}
 use Rattle.listing.proofs.Lines.{Listing, listing-none, listing-fits, listing-next, listing-end}
 use Rattle.listing.proofs.write_lines.Statement.{statement}
 use Rattle.listing.proofs.write_lines.Tie as tie

@@ -2,7 +2,7 @@
 use borrow.Author.Needs.{needs}
 use native.Mathlib.Omega.{arith}
 use denote.Ref.{now}
-use Rattle.table.proofs.View.{table-length}
+use Rattle.table.proofs.Bytes.{table-length}
 use Rattle.listing.proofs.Lines.{node-text}
 use Rattle.listing.proofs.write_node.Statement.{statement}
 use Rattle.listing.proofs.write_node.Tie as tie

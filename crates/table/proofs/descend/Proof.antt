@@ -1,8 +1,7 @@
 -- `table::descend` meets its contract: arm by arm.
 use borrow.Author.Needs.{needs}
 use native.Mathlib.Omega.{arith}
-use mathlib.Core.Path.{_≡_, refl, sym, ap, _∙_}
-use Prim.Native.Nat.{ℕ, _+_}
+use mathlib.Core.Path.{ap}
 use Rattle.esterel.specs.Codes.{bit}
 use Rattle.table.specs.Kinds.{arityOf, isTrap, isLoop}
 use Rattle.table.proofs.Descending.{leaves, ones, twos, past-leaf, into-only, into-second}

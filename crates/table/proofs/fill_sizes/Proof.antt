@@ -10,7 +10,7 @@ use Rattle.esterel.specs.Limits.{maxNodes}
 use Rattle.esterel.specs.Statement.{size}
 use Rattle.table.specs.Program.{programOf, Readable}
 use Rattle.table.specs.Columns.{sizesOf}
-use Rattle.table.proofs.View.{table-length}
+use Rattle.table.proofs.Bytes.{table-length}
 use Rattle.table.proofs.Surveying.{few-nodes}
 use Rattle.table.proofs.Filling.{Filling, filling-length, filling-next, filling-end, whole}
 use Rattle.table.proofs.Sizing.{length-sizes, sizes-at, Turn, sized-turn}

@@ -6,7 +6,7 @@ use Prim.Native.Nat.{ℕ, suc, _-_}
 use native.Mathlib.Omega.{arith}
 use denote.Ref.{now}
 use Rattle.table.specs.Program.{programOf}
-use Rattle.table.proofs.View.{table-length}
+use Rattle.table.proofs.Bytes.{table-length}
 use Rattle.table.proofs.Surveying.{few-nodes, State, start, finish, back, Turn, turn, turned}
 use Rattle.table.proofs.survey_table.Statement.{statement}
 use Rattle.table.proofs.survey_table.Tie as tie

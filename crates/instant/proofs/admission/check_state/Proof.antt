@@ -7,7 +7,7 @@ use denote.Ref.{now}
 use Rattle.esterel.specs.Statement.{size}
 use Rattle.table.specs.Check.{passIf}
 use Rattle.table.specs.Program.{programOf}
-use Rattle.table.proofs.View.{table-length}
+use Rattle.table.proofs.Bytes.{table-length}
 use borrow.Author.Tests.{not-true, not-false}
 use Rattle.instant.proofs.Admits.{FitsTo, fits-begin, fits-next, not-admitted, nothing-held, is-admitted}
 use Rattle.instant.proofs.admission.check_state.Statement.{statement}

@@ -3,7 +3,7 @@ use borrow.Author.Needs.{needs}
 use native.Mathlib.Omega.{arith}
 use native.Mathlib.Omega.{arith}
 use denote.Ref.{now}
-use Rattle.table.proofs.View.{table-length}
+use Rattle.table.proofs.Bytes.{table-length}
 use borrow.Author.Tests.{not-true, not-false}
 use Rattle.instant.proofs.Fitting.{misfit, no-sides, some-before, second-inside, first-inside, first-idle, second-idle}
 use Rattle.instant.proofs.admission.node_fits.Statement.{statement}
