@@ -166,7 +166,7 @@ pub record Turn (t : List ℕ) (node : Surroundings) (contexts marks : List ℕ)
   pub table : 2 * i + 1 < length t
   pub waits : 0 < node .waiting
   pub fits : node .waiting ≤ maxDepth
-  pub traps : node .traps < 62
+  pub traps : node .traps ≤ 62
   pub inContexts : i < length contexts
   pub inMarks : i < length marks
   pub low : i < maxNodes

@@ -231,7 +231,7 @@ fn descend(
     last: u64,
     ends: u8,
 ) -> Surroundings
-    requires { ⌜ (node .traps < 62) × (0 < node .waiting) × (node .waiting ≤ maxDepth) ⌝ }
+    requires { ⌜ (node .traps ≤ 62) × (0 < node .waiting) × (node .waiting ≤ maxDepth) ⌝ }
     ensures { λ r. ⌜ Descended kind node last ends (now (pending .entry)) (now (counts .entry)) (now (pending .exit)) (now (counts .exit)) r ⌝ }
 {
     let context = node.context;
