@@ -69,19 +69,18 @@ nodeCheck k field unused node =
     (cond (plainOf k && not (eqb field 0)) (Refused 5 node) (cond (ltb unused (arityOf k)) (Refused 6 node) Passed))
     (Refused 4 node)
 
--- the size of the subtree at a node with so many children, from the sizes before it
-unfoldable pub spanOf : (sizes : List ℕ) (node children : ℕ) → ℕ
-spanOf sizes i zero = 1
-spanOf sizes i (suc zero) = getD sizes (i - 1) 0 + 1
-spanOf sizes i (suc (suc c)) = getD sizes (i - 1 - getD sizes (i - 1) 0) 0 + getD sizes (i - 1) 0 + 1
+-- the size of the subtree at a node with so many children, from that of the node before it and from the sizes before it
+unfoldable pub spanOf : (sizes : List ℕ) (node children last : ℕ) → ℕ
+spanOf sizes i zero last = 1
+spanOf sizes i (suc zero) last = last + 1
+spanOf sizes i (suc (suc c)) last = getD sizes (i - 1 - last) 0 + last + 1
 
 -- and the children stand before it
-pub record Room (sizes : List ℕ) (node children : ℕ) : Type 0 where
+pub record Room (sizes : List ℕ) (node children last : ℕ) : Type 0 where
   pub within : node ≤ length sizes
   pub few : children ≤ 2
-  pub one : 0 < children → 0 < node
-  pub two : 1 < children → getD sizes (node - 1) 0 < node
-  pub fits : spanOf sizes node children ≤ node + 1
+  pub two : 1 < children → last < node
+  pub fits : spanOf sizes node children last ≤ node + 1
 
 -- checks 4 to 7 of a table
 unfoldable pub nodesCheck : List ℕ → Check

@@ -442,30 +442,32 @@ pub fn size_at(sizes: &[u16], node: usize) -> usize
     wide(sizes[node])
 }
 
-// The size of the subtree at a node with so many children, from the sizes before it.
-fn span(sizes: &[u16], node: usize, children: usize) -> usize
-    requires { ⌜ Room (now sizes) node children ⌝ }
-    ensures { λ r. ⌜ r ≡ spanOf (now (sizes .entry)) node children ⌝ }
+// The size of the subtree at a node with so many children, from that of the node before it and from the sizes before it.
+fn span(sizes: &[u16], node: usize, children: usize, last: usize) -> usize
+    requires { ⌜ Room (now sizes) node children last ⌝ }
+    ensures { λ r. ⌜ r ≡ spanOf (now (sizes .entry)) node children last ⌝ }
 {
     if children == 0 {
         return 1;
     }
-    let last = size_at(sizes, node - 1);
     if children == 1 {
         return last + 1;
     }
     size_at(sizes, node - 1 - last) + last + 1
 }
 
-// The size of the subtree at each node of a table that was read.
+// The size of the subtree at each node of a table that was read. That of the node before is at hand: read back from the list,
+// each would wait for the one before it to be written.
 pub fn fill_sizes(table: &[u8], sizes: &mut [u16])
     requires { ⌜ Readable (now table) × (size (programOf (now table)) ≤ length (now sizes)) ⌝ }
     ensures { λ _. ⌜ now (sizes .exit) ≡ onto (sizesOf (programOf (now (table .entry)))) (now (sizes .entry)) ⌝ }
 {
     let n = table.len() / 2;
+    let mut last: usize = 0;
     let mut i: usize = 0;
     while i < n {
-        sizes[i] = span(sizes, i, arity(kind_at(table, i))) as u16;
+        last = span(sizes, i, arity(kind_at(table, i)), last);
+        sizes[i] = last as u16;
         i += 1;
     }
 }

@@ -1,57 +1,46 @@
 -- `table::span` meets its contract: the children stand before the node, and their sizes with it come to at most node + 1.
 use mathlib.Core.Path.{_≡_, sym}
-use Prim.Native.Nat.{ℕ, _+_, _-_, _<_}
+use Prim.Native.Nat.{ℕ, _+_, _<_}
 use native.Mathlib.Omega.{arith}
-use lib.ListN.{getD}
 use denote.Ref.{now}
 use Rattle.table.specs.Check.{spanOf}
 use Rattle.table.proofs.span.Statement.{statement}
 use Rattle.table.proofs.span.Tie as tie
 
--- where there is a child, a node stands before
-some : (c : tie.Else1) → 0 < c .before .before .args .node
-some c = c .before .before .pre .one (omega arith)
-
-is-two : (c : tie.Else2) → c .before .before .before .before .args .children ≡ 2
+is-two : (c : tie.Else2) → c .before .before .before .args .children ≡ 2
 is-two c = omega arith
 
 -- the size of the last child leaves room for the first
-room : (c : tie.Else2) → getD (now (c .before .before .before .before .args .sizes)) (c .before .before .before .before .args .node - 1) 0 < c .before .before .before .before .args .node
-room c = c .before .before .before .before .pre .two (omega arith)
+room : (c : tie.Else2) → c .before .before .before .args .last < c .before .before .before .args .node
+room c = c .before .before .before .pre .two (omega arith)
 
 abbrev spanAt : tie.Start → ℕ
-spanAt c = spanOf (now (c .args .sizes)) (c .args .node) (c .args .children)
+spanAt c = spanOf (now (c .args .sizes)) (c .args .node) (c .args .children) (c .args .last)
 
-spans : (c : tie.After-size-at2) → spanAt (c .before .before .before .before .before) ≡ c .size-at2 .result + c .before .before .size-at .result + 1
+spans : (c : tie.After-size-at) → spanAt (c .before .before .before .before) ≡ c .size-at .result + c .before .before .before .before .args .last + 1
 unfolding spanOf
-spans c = rw (is-two (c .before), c .size-at2 .ensures, c .before .before .size-at .ensures)
+spans c = rw (is-two (c .before), c .size-at .ensures)
 
 returns : tie.Need-returns
 unfolding spanOf
 returns c = rw (c .if1 .taken)
 
-sub-size-at : tie.Need-sub-size-at
-sub-size-at c = some c
-
-size-at-requires : tie.Need-size-at-requires
-size-at-requires c κs = omega (arith, some c)
-
 add-result : tie.Need-add-result
 unfolding spanOf
-add-result c = omega (arith, rw (c .if2 .taken) at (c .before .before .before .before .pre .fits))
+add-result c = omega (arith, rw (c .if2 .taken) at (c .before .before .before .pre .fits))
 
 returns-2 : tie.Need-returns-2
 unfolding spanOf
-returns-2 c = rw (c .if2 .taken, c .before .size-at .ensures)
+returns-2 c = rw (c .if2 .taken)
+
+sub-size-at : tie.Need-sub-size-at
+sub-size-at c = omega (arith, room c)
 
 sub-size-at-2 : tie.Need-sub-size-at-2
-sub-size-at-2 c = some (c .before .before)
+sub-size-at-2 c = omega (arith, room c)
 
-sub-size-at-3 : tie.Need-sub-size-at-3
-sub-size-at-3 c = omega (arith, room c)
-
-size-at-requires-2 : tie.Need-size-at-requires-2
-size-at-requires-2 c κs = omega (arith, some (c .before .before))
+size-at-requires : tie.Need-size-at-requires
+size-at-requires c κs = omega (arith, room c)
 
 add-result-2 : tie.Need-add-result-2
 add-result-2 c = omega (arith, spans c)
@@ -65,4 +54,4 @@ returns-3 c = sym (spans c)
 pub span-spec : {M : Type 1} → statement M
 span-spec =
     tie.close
-    (tie.spec returns sub-size-at size-at-requires add-result returns-2 sub-size-at-2 sub-size-at-3 size-at-requires-2 add-result-2 add-result-3 returns-3)
+    (tie.spec returns add-result returns-2 sub-size-at sub-size-at-2 size-at-requires add-result-2 add-result-3 returns-3)
