@@ -172,7 +172,7 @@ pub record Turn (t : List ℕ) (node : Surroundings) (contexts marks : List ℕ)
   pub low : i < maxNodes
 
 module _ {t : List ℕ} (ok : Placed t) {pending counts : List ℕ} {node : Surroundings} {contexts₀ contexts marks₀ marks : List ℕ} {i : ℕ} (roomS : size (programOf t) ≤ length contexts₀) (roomM : size (programOf t) ≤ length marks₀) (o : Walking (programOf t) pending counts node contexts₀ contexts marks₀ marks (suc i)) where
-  ahead : Next (programOf t) i (o .ws) (o .walk .seen) (o .walk .seenLoops)
+  ahead : Next (programOf t) i (o .ws) (o .walk .seen)
   ahead = next (programOf t) i (o .ws) (o .walk)
 
   abbrev w : Waiting

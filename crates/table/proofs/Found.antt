@@ -1,14 +1,12 @@
--- The answers of checks 8, 9 and 10 over the places from a node on, and the most loops around any of them.
+-- The answers of checks 8, 9 and 10 over the places from a node on.
 use mathlib.Core.Path.{_≡_, refl, ap, _∙_}
 use mathlib.Core.Bool.{Bool, true, false, cond}
 use mathlib.Core.Option.{Option, none, some}
-use mathlib.Core.List.{List, [], _∷_, _++_}
-use Prim.Native.Nat.{ℕ, suc, _+_, _≤_, _<_, max}
-use native.Mathlib.Omega.{arith}
+use mathlib.Core.List.{List, _∷_}
+use Prim.Native.Nat.{ℕ, suc, _+_, _≤_, _<_}
 use borrow.Author.Tests.{lt-ltb, le-ltb}
 use lib.ListN.{length}
 use Rattle.esterel.specs.Limits.{maxNodes}
-use Rattle.esterel.specs.Statement.{Unary, signal, suspend, loop, trap, Stmt, leaf, one, two, loopsUnder, loopDepth, loopsAround}
 use Rattle.esterel.specs.Sets.{Place}
 use Rattle.esterel.specs.Checks.{tooDeep, tooManyTraps, uncaught, firstNode}
 use Rattle.esterel.proofs.Refusals.{Below, first-below}
@@ -63,27 +61,3 @@ together ps n o h a =
     let third = found-below 10 (firstNode uncaught ps n) Passed (first-below uncaught ps n maxNodes h) in
     let second = found-below 9 (firstNode tooManyTraps ps n) (refuseFound 10 (firstNode uncaught ps n) Passed) (first-below tooManyTraps ps n maxNodes h) in
     rw (a .depths, a .traps, a .exits, third, second) (found-below 8 (firstNode tooDeep ps n) _ (first-below tooDeep ps n maxNodes h))
-
--- the most of some numbers
-abbrev pub most : List ℕ → ℕ
-most [] = 0
-most (x ∷ xs) = max (most xs) x
-
-most-append : (xs ys : List ℕ) → most (xs ++ ys) ≡ max (most xs) (most ys)
-most-append [] ys = omega arith
-most-append (x ∷ xs) ys = rw (most-append xs ys) (omega arith)
-
-under-more : (u : Unary) (n d : ℕ) → max (loopsUnder u n + d) n ≡ n + loopsUnder u d
-under-more (signal s) n d = omega arith
-under-more (suspend s) n d = omega arith
-under-more loop n d = omega arith
-under-more trap n d = omega arith
-
--- of the loops around a program's nodes: the loop depth
-pub most-loops : (n : ℕ) (p : Stmt) → most (loopsAround n p) ≡ n + loopDepth p
-most-loops n (leaf l) = omega arith
-most-loops n (one u p) =
-    most-append (loopsAround (loopsUnder u n) p) (n ∷ []) ∙ rw (most-loops (loopsUnder u n) p) (omega (arith, under-more u n (loopDepth p)))
-most-loops n (two b p q) =
-    most-append (loopsAround n p ++ loopsAround n q) (n ∷ [])
-    ∙ rw (most-append (loopsAround n p) (loopsAround n q), most-loops n p, most-loops n q) (omega arith)

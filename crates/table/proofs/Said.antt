@@ -27,6 +27,15 @@ loopsOf (leaf l) = 0
 loopsOf (one u p) = loopsUnder u 0
 loopsOf (two b p q) = 0
 
+-- a loop has a body
+pub loop-body : (s : Stmt) → loopsOf s ≤ childrenOf s
+loop-body (leaf l) = omega arith
+loop-body (one (signal s) p) = omega arith
+loop-body (one (suspend s) p) = omega arith
+loop-body (one loop p) = omega arith
+loop-body (one trap p) = omega arith
+loop-body (two b p q) = omega arith
+
 -- traps and loops: what it says of these; many and loose: of a node that fails check 9 or 10
 pub record Said (s : Stmt) : Type 0 where
   pub traps : bit (isTrap (kindOf (kind s))) ≡ trapsOf s

@@ -97,14 +97,24 @@ module _ {c waiting x y v : ℕ} {xs : List ℕ} where
   pub moves-second : {xs′ : List ℕ} → c ≡ 2 → v ≡ y → xs′ ≡ set xs waiting x → Moves c waiting x y xs v xs′
   moves-second e ev es = rw e record { hand = ev; stack = es }
 
+-- past what is no leaf, the number of the last child is at hand
+pub moves-down : (s : Stmt) {waiting x y v : ℕ} {xs xs′ : List ℕ} → 0 < childrenOf s → Moves (childrenOf s) waiting x y xs v xs′ → v ≡ y
+moves-down (leaf a) lt m = absurd (omega arith)
+moves-down (one u p) lt m = m .hand
+moves-down (two b p q) lt m = m .hand
+
 -- m bounds the numbers
 pub data Low (f : Waiting → ℕ) (m : ℕ) : List Waiting → Type 0 where
   none : Low f m []
   more : (w : Waiting) (ws : List Waiting) → f w ≤ m → Low f m ws → Low f m (w ∷ ws)
 
-raised : (f : Waiting → ℕ) (m : ℕ) {ws : List Waiting} → Low f m ws → Low f (suc m) ws
-raised f m none = none
-raised f m (more w ws b h) = more w ws (omega arith) (raised f m h)
+module _ (f : Waiting → ℕ) {m : ℕ} where
+  raised : {n : ℕ} {ws : List Waiting} → m ≤ n → Low f m ws → Low f n ws
+  raised le none = none
+  raised le (more w ws b h) = more w ws (omega arith) (raised le h)
+
+  pub low-top : {w : Waiting} {ws : List Waiting} → Low f m (w ∷ ws) → f w ≤ m
+  low-top (more w ws b h) = b
 
 -- one number, of all children
 module _ (f : Waiting → ℕ) (m : ℕ) (d t l : ℕ) (P : Codes) where
@@ -113,6 +123,9 @@ module _ (f : Waiting → ℕ) (m : ℕ) (d t l : ℕ) (P : Codes) where
   children-low (one u p) ws v le e h = more (onlyChild d t l P u p) ws (omega arith) h
   children-low (two b p q) ws v le e h =
       more (secondChild d t l P b p q) (firstChild d t l P b p q ∷ ws) (omega (arith, e .1)) (more (firstChild d t l P b p q) ws (omega (arith, e .0)) h)
+
+pub descend-low : (f : Waiting → ℕ) {m n v : ℕ} {w : Waiting} {ws : List Waiting} → m ≤ n → v ≤ n → Last f (w .depth) (w .traps) (w .loops) (w .context) (w .root) v v → Low f m (w ∷ ws) → Low f n (descend w ws)
+descend-low f {n = n} {v = v} le lv e (more w ws b h) = children-low f n (w .depth) (w .traps) (w .loops) (w .context) (w .root) ws v lv e (raised f le h)
 
 -- a number of the survey, at hand and on its stack
 pub record Held (f : Waiting → ℕ) (m v : ℕ) (xs : List ℕ) (ws : List Waiting) : Type 0 where
@@ -126,10 +139,7 @@ pub record Hand (f : Waiting → ℕ) (m v : ℕ) (w : Waiting) : Type 0 where
 
 module _ (f : Waiting → ℕ) (m : ℕ) (w : Waiting) (ws : List Waiting) {v : ℕ} {xs : List ℕ} (o : Held f m v xs (w ∷ ws)) where
   pub in-hand : Hand f m v w
-  in-hand = record { is = hand-is f w ws (o .at); low = go (o .low) }
-    where
-      go : Low f m (w ∷ ws) → f w ≤ m
-      go (more _ _ b h) = b
+  in-hand = record { is = hand-is f w ws (o .at); low = low-top f (o .low) }
 
   -- its c children, which have the number y, take its place
   pub descend-held : {waiting c v′ y : ℕ} {xs′ : List ℕ} → waiting ≡ suc (length ws) → c ≡ childrenOf (w .root) → waiting ≤ maxNodes / 2
@@ -139,8 +149,5 @@ module _ (f : Waiting → ℕ) (m : ℕ) (w : Waiting) (ws : List Waiting) {v : 
       record {
         long = moves-length moves ∙ o .long;
         at = descended f w ws (o .at) ei ec (omega (arith, o .long)) e moves;
-        low = go (o .low);
+        low = descend-low f (omega arith) le e (o .low);
       }
-    where
-      go : Low f m (w ∷ ws) → Low f (suc m) (descend w ws)
-      go (more _ _ b h) = children-low f (suc m) (w .depth) (w .traps) (w .loops) (w .context) (w .root) ws y le e (raised f m h)

@@ -1,5 +1,5 @@
 -- What holds at each turn of the survey: the walk from the last node to the first, with the stacks and the answers that go with it.
-use mathlib.Core.Path.{_≡_, refl, ap, ap₂, subst, _∙_}
+use mathlib.Core.Path.{_≡_, refl, sym, ap, ap₂, subst, _∙_}
 use mathlib.Core.Bool.{Bool, true, false, _&&_, cond}
 use mathlib.Core.List.{List, [], _∷_}
 use Prim.Native.Nat.{ℕ, suc, _+_, _-_, _*_, _/_, max, _≤_, _<_}
@@ -8,14 +8,15 @@ use lib.ListN.{length, getD, length-append}
 use lib.Dec.{leb, ltb}
 use borrow.Author.Tests.{ltb-false}
 use Rattle.esterel.specs.Limits.{maxNodes, maxDepth, maxTraps}
-use Rattle.esterel.specs.Statement.{Stmt, kind, field, size}
+use Rattle.esterel.specs.Statement.{signal, suspend, loop, trap, Stmt, leaf, one, two, kind, field, size, loopDepth}
 use Rattle.esterel.specs.Table.{Verdict, passed, refused}
-use Rattle.esterel.specs.Codes.{bit, empty}
+use Rattle.esterel.specs.Codes.{Codes, bit, empty}
 use Rattle.esterel.specs.Sets.{places}
 use Rattle.esterel.specs.Checks.{tooDeep, tooManyTraps, uncaught}
 use Rattle.esterel.proofs.Sizes.{size-pos}
 use Rattle.table.specs.Kinds.{kindOf, arityOf, isTrap, isLoop, isExit}
 use Rattle.table.specs.Program.{programOf, Readable}
+use Rattle.table.specs.Stacks.{Moves}
 use Rattle.table.specs.Check.{refuseBelow, placesCheck, Shallow, Descended, Seen, Surveyed}
 use Rattle.table.specs.declared.Kind.{Kind}
 use Rattle.table.specs.declared.Check.{Check}
@@ -23,11 +24,11 @@ use Rattle.table.specs.declared.Check.the-variants.{Passed}
 use Rattle.table.specs.declared.Faults.{Faults}
 use Rattle.table.specs.declared.Nesting.{Nesting}
 use Rattle.table.proofs.Bytes.{childrenOf, arity-of, table-length, kind-byte, field-byte}
-use Rattle.table.proofs.Walk.{Waiting, Walk, Next, program, begin, next, ended, descend, placeOf, placesIn}
+use Rattle.table.proofs.Walk.{Waiting, Walk, Next, program, begin, next, ended, children, descend, placeOf, placesIn}
 use Rattle.esterel.proofs.Accepted.{length-places}
-use Rattle.table.proofs.Stacks.{none, more, here, Held, Hand, in-hand, descend-held}
-use Rattle.table.proofs.Said.{said, trapsOf, loopsOf, bit-small, depth-below, traps-below, loops-below, count-below}
-use Rattle.table.proofs.Found.{Answers, answer-more, together, most, most-loops}
+use Rattle.table.proofs.Stacks.{none, more, here, Low, low-top, descend-low, moves-down, Held, Hand, in-hand, descend-held}
+use Rattle.table.proofs.Said.{said, trapsOf, loopsOf, loop-body, bit-small, depth-below, traps-below, loops-below, count-below}
+use Rattle.table.proofs.Found.{Answers, answer-more, together}
 
 -- a table that was read has at most 1,024 nodes
 few-bytes : (b : Bool) (next : Verdict) (p : Stmt) → cond b (refused 1 0) next ≡ passed p → b ≡ false
@@ -39,8 +40,26 @@ few-nodes t ok =
     let z = few-bytes (ltb (2 * maxNodes) (length t)) _ (programOf t) (ok .reads) in
     omega (arith, ltb-false (2 * maxNodes) (length t) z, table-length t ok)
 
+-- the loop depth that the ones that wait come to
+abbrev deepest : List Waiting → ℕ
+deepest [] = 0
+deepest (w ∷ ws) = max (deepest ws) (w .loops + loopDepth (w .root))
+
+-- The node on top gives way to its children, and m has the loops around them too. Past a leaf nothing is lost, since m has those around it.
+module _ (d t l : ℕ) (P : Codes) (ws : List Waiting) {m : ℕ} (le : l ≤ m) where
+  deepest-below : (s : Stmt) → max (max m (l + loopsOf s)) (deepest (children d t l P s ws)) ≡ max m (max (deepest ws) (l + loopDepth s))
+  deepest-below (leaf x) = omega arith
+  deepest-below (one (signal s) p) = omega arith
+  deepest-below (one (suspend s) p) = omega arith
+  deepest-below (one loop p) = omega arith
+  deepest-below (one trap p) = omega arith
+  deepest-below (two b p q) =
+      let same : max m (l + 0) ≡ m = omega arith in
+      let joined : max (max (deepest ws) (l + loopDepth p)) (l + loopDepth q) ≡ max (deepest ws) (l + max (loopDepth p) (loopDepth q)) = omega arith in
+      ap₂ max same joined
+
 -- before the node i − 1. With each node seen, what waits is at most one deeper, in one more trap and in one more loop.
-pub record State (p : Stmt) (depths traps loops : List ℕ) (node : Nesting) (faults : Faults) (loopsSeen i : ℕ) : Type 0 where
+pub record State (p : Stmt) (depths traps loops : List ℕ) (node : Nesting) (faults : Faults) (most i : ℕ) : Type 0 where
   pub ws : List Waiting
   pub walk : Walk p i ws
   pub count : node .waiting ≡ length ws
@@ -50,7 +69,8 @@ pub record State (p : Stmt) (depths traps loops : List ℕ) (node : Nesting) (fa
   pub trapsAre : Held (λ w. w .traps) low (node .traps) traps ws
   pub loopsAre : Held (λ w. w .loops) low (node .loops) loops ws
   pub answers : Answers (walk .seen) i faults
-  pub mostIs : loopsSeen ≡ most (walk .seenLoops)
+  pub around : Low (λ w. w .loops) most ws
+  pub mostIs : max most (deepest ws) ≡ loopDepth p
 
 -- at the beginning the program waits
 pub start : (p : Stmt) (depths traps loops : List ℕ) (faults : Faults) (i : ℕ) → i ≡ size p
@@ -70,7 +90,8 @@ start p depths traps loops faults i e ld lt ll fd ft fe =
       trapsAre = record { long = lt; at = here (program p) [] refl none; low = more (program p) [] (omega arith) none };
       loopsAre = record { long = ll; at = here (program p) [] refl none; low = more (program p) [] (omega arith) none };
       answers = record { depths = fd; traps = ft; exits = fe };
-      mostIs = refl;
+      around = more (program p) [] (omega arith) none;
+      mostIs = omega arith;
     }
 
 -- each that waits has a node
@@ -103,12 +124,12 @@ module _ {p : Stmt} {depths traps loops : List ℕ} {node : Nesting} {faults : F
       let z = ended p (o .ws) (o .walk) in
       record {
         check = e ∙ together (o .walk .seen) 0 faults (omega (arith, ap length (z .are), length-places p 1 0 empty)) (o .answers) ∙ ap (λ ps. placesCheck ps 0) (z .are);
-        loops = omega (arith, o .mostIs ∙ ap most (z .areLoops) ∙ most-loops 0 p);
+        loops = omega (arith, rw (z .none-wait) at (o .mostIs));
       }
 
 -- a turn, at the node i
 module _ (t : List ℕ) (ok : Readable t) {depths traps loops : List ℕ} {node : Nesting} {faults : Faults} {m i : ℕ} (o : State (programOf t) depths traps loops node faults m (suc i)) where
-  ahead : Next (programOf t) i (o .ws) (o .walk .seen) (o .walk .seenLoops)
+  ahead : Next (programOf t) i (o .ws) (o .walk .seen)
   ahead = next (programOf t) i (o .ws) (o .walk)
 
   abbrev w : Waiting
@@ -166,18 +187,29 @@ module _ (t : List ℕ) (ok : Readable t) {depths traps loops : List ℕ} {node 
         exits = answer-more uncaught (o .walk .seen) i (placeOf w) (isExit k && leb (node .traps) f) _ _ (ap₂ (λ j b. isExit j && b) ek (ap₂ leb (traps-is .is) ef) ∙ q .loose (w .depth) (w .traps) (w .context)) (o .answers .exits) (s .exits);
       }
 
-  -- the state after the turn, where c is the number of children
+  -- a loop is counted when the walk goes into its body
+  most-grows : {m′ v c : ℕ} {zs : List ℕ} (b : Bool) → bit b ≡ loopsOf (w .root) → c ≡ childrenOf (w .root) → Moves c (node .waiting) (node .loops + bit b) (node .loops + bit b) loops v zs
+      → m′ ≡ cond b (max m v) m → m′ ≡ max m (w .loops + loopsOf (w .root))
+  most-grows true e ec n em =
+      let down = moves-down (w .root) (omega (arith, loop-body (w .root))) (rw ec at n) in
+      omega (arith, loops-is .is)
+  most-grows false e ec n em = omega (arith, low-top (λ w. w .loops) (rw (ahead .is) at (o .around)))
+
+  -- the state after the turn
   pub turned : (k : Kind) (f : ℕ) (node′ : Nesting) (faults′ : Faults) (m′ : ℕ) (xs ys zs : List ℕ)
       → k ≡ kindOf (getD t (2 * i) 0) → f ≡ getD t (2 * i + 1) 0
-      → Seen faults k f i node faults′ → m′ ≡ max m (node .loops) → Descended k node depths traps loops xs ys zs node′
+      → Seen faults k f i node faults′ → Descended k node depths traps loops xs ys zs node′
+      → (b : Bool) → isLoop k ≡ b → m′ ≡ cond b (max m (node′ .loops)) m
       → State (programOf t) xs ys zs node′ faults′ m′ i
-  turned k f node′ faults′ m′ xs ys zs ek ef s em n =
+  turned k f node′ faults′ m′ xs ys zs ek ef s n b eb em =
       let q = said (w .root) in
       let kw : k ≡ kindOf (kind (w .root)) = ek ∙ ap kindOf (kind-byte t ok i in-table ∙ ap kind (ahead .statement)) in
       let fw : f ≡ field (w .root) = ef ∙ field-byte t ok i in-table ∙ ap field (ahead .statement) in
       let children : arityOf k ≡ childrenOf (w .root) = ap arityOf kw ∙ arity-of (w .root) in
       let catches : bit (isTrap k) ≡ trapsOf (w .root) = ap (λ j. bit (isTrap j)) kw ∙ q .traps in
       let repeats : bit (isLoop k) ≡ loopsOf (w .root) = ap (λ j. bit (isLoop j)) kw ∙ q .loops in
+      let low : Low (λ w. w .loops) m (w ∷ ahead .below) = rw (ahead .is) at (o .around) in
+      let grown = most-grows (isLoop k) repeats children (n .loops) (em ∙ ap (λ b. cond b (max m (node′ .loops)) m) (sym eb)) in
       record {
         ws = descend w (ahead .below);
         walk = ahead .on;
@@ -194,5 +226,6 @@ module _ (t : List ℕ) (ok : Readable t) {depths traps loops : List ℕ} {node 
             descend-held (λ w. w .loops) (o .low) w (ahead .below) (rw (ahead .is) at (o .loopsAre)) count children room (n .loops)
             (omega (arith, loops-is .is, loops-is .low, bit-small (isLoop k))) (loops-below (w .depth) (w .traps) (w .loops) (w .context) (w .root) (node .loops + bit (isLoop k)) (omega (arith, loops-is .is, repeats)));
         answers = rw (ahead .onSeen) (answers-more k f faults′ kw fw s);
-        mostIs = rw (ahead .onLoops) (omega (arith, em, loops-is .is, o .mostIs));
+        around = descend-low (λ w. w .loops) (omega (arith, grown)) (omega (arith, grown)) (loops-below (w .depth) (w .traps) (w .loops) (w .context) (w .root) (w .loops + loopsOf (w .root)) refl) low;
+        mostIs = rw grown (deepest-below (w .depth) (w .traps) (w .loops) (w .context) (ahead .below) (low-top (λ w. w .loops) low) (w .root)) ∙ rw (ahead .is) at (o .mostIs);
       }

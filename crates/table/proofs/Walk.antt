@@ -6,7 +6,7 @@ use Prim.Native.Nat.{ℕ, zero, suc, _+_, _<_}
 use native.Mathlib.Omega.{arith}
 use lib.ListN.{length, getD, length-append, List·getD-map}
 use lib.Seq.{getD-at}
-use Rattle.esterel.specs.Statement.{nothing, Unary, Binary, Stmt, leaf, one, two, size, nodes, loopsUnder, trapsUnder, loopsAround}
+use Rattle.esterel.specs.Statement.{nothing, Unary, Binary, Stmt, leaf, one, two, size, nodes, loopsUnder, trapsUnder}
 use Rattle.esterel.specs.Codes.{Codes, empty}
 use Rattle.esterel.specs.Sets.{Place, at, places, placesOf, under, underLeft, underRight}
 use Rattle.esterel.specs.Outcome.{statementAt}
@@ -23,10 +23,6 @@ pub record Waiting : Type 0 where
 abbrev pub placesIn : List Waiting → List Place
 placesIn [] = []
 placesIn (w ∷ ws) = placesIn ws ++ places (w .depth) (w .traps) (w .context) (w .root)
-
-abbrev pub loopsIn : List Waiting → List ℕ
-loopsIn [] = []
-loopsIn (w ∷ ws) = loopsIn ws ++ loopsAround (w .loops) (w .root)
 
 -- the children of the node on top take its place
 module _ (d t l : ℕ) (P : Codes) where
@@ -49,11 +45,6 @@ module _ (d t l : ℕ) (P : Codes) where
   places-children (one u p) ws = simp append-assoc
   places-children (two b p q) ws = simp append-assoc
 
-  loops-children : (s : Stmt) (ws : List Waiting) → loopsIn ws ++ loopsAround l s ≡ loopsIn (children s ws) ++ (l ∷ [])
-  loops-children (leaf x) ws = refl
-  loops-children (one u p) ws = simp append-assoc
-  loops-children (two b p q) ws = simp append-assoc
-
 abbrev pub descend : Waiting → List Waiting → List Waiting
 descend w ws = children (w .depth) (w .traps) (w .loops) (w .context) (w .root) ws
 
@@ -73,9 +64,7 @@ deep-children d t l P (two b p q) ws h o = more (secondChild d t l P b p q) (fir
 -- nodes 0 to i − 1 of p wait, and the others are seen
 pub record Walk (p : Stmt) (i : ℕ) (ws : List Waiting) : Type 0 where
   pub seen : List Place
-  pub seenLoops : List ℕ
   pub are : placesOf p ≡ placesIn ws ++ seen
-  pub areLoops : loopsAround 0 p ≡ loopsIn ws ++ seenLoops
   pub left : length (placesIn ws) ≡ i
   pub deep : Deep ws
 
@@ -87,44 +76,38 @@ unfoldable pub begin : (p : Stmt) → Walk p (size p) (program p ∷ [])
 begin p =
     record {
       seen = [];
-      seenLoops = [];
       are = sym (append-nil (placesOf p));
-      areLoops = sym (append-nil (loopsAround 0 p));
       left = length-places p 1 0 empty;
       deep = more (program p) [] (omega arith) none;
     }
 
 -- at the end nothing waits: all are seen
-pub record Ended (p : Stmt) (seen : List Place) (seenLoops : List ℕ) : Type 0 where
+pub record Ended (p : Stmt) (ws : List Waiting) (seen : List Place) : Type 0 where
+  pub none-wait : ws ≡ []
   pub are : seen ≡ placesOf p
-  pub areLoops : seenLoops ≡ loopsAround 0 p
 
-pub ended : (p : Stmt) (ws : List Waiting) (o : Walk p 0 ws) → Ended p (o .seen) (o .seenLoops)
-ended p [] o = record { are = sym (o .are); areLoops = sym (o .areLoops) }
+pub ended : (p : Stmt) (ws : List Waiting) (o : Walk p 0 ws) → Ended p ws (o .seen)
+ended p [] o = record { none-wait = refl; are = sym (o .are) }
 ended p (w ∷ ws) o =
     absurd (omega (arith, o .left, length-append (placesIn ws) (places (w .depth) (w .traps) (w .context) (w .root)), length-places (w .root) (w .depth) (w .traps) (w .context), size-pos (w .root)))
 
 -- the next node: the one on top
-pub record Next (p : Stmt) (i : ℕ) (ws : List Waiting) (seen : List Place) (seenLoops : List ℕ) : Type 0 where
+pub record Next (p : Stmt) (i : ℕ) (ws : List Waiting) (seen : List Place) : Type 0 where
   pub top : Waiting
   pub below : List Waiting
   pub is : ws ≡ top ∷ below
   pub on : Walk p i (descend top below)
   pub onSeen : on .seen ≡ placeOf top ∷ seen
-  pub onLoops : on .seenLoops ≡ top .loops ∷ seenLoops
   pub statement : statementAt (nodes p) i ≡ top .root
   pub place : getD (placesOf p) i (at 0 0 empty (leaf nothing)) ≡ placeOf top
   pub depth : length below < top .depth
 
-pub next : (p : Stmt) (i : ℕ) (ws : List Waiting) (o : Walk p (suc i) ws) → Next p i ws (o .seen) (o .seenLoops)
+pub next : (p : Stmt) (i : ℕ) (ws : List Waiting) (o : Walk p (suc i) ws) → Next p i ws (o .seen)
 next p i [] o = absurd (omega (arith, o .left))
 next p i (w ∷ ws) o = go (o .deep)
   where
     all : placesOf p ≡ placesIn (descend w ws) ++ (placeOf w ∷ o .seen)
     all = o .are ∙ ap (λ l. l ++ o .seen) (places-children (w .depth) (w .traps) (w .loops) (w .context) (w .root) ws) ∙ append-assoc (placesIn (descend w ws)) (placeOf w ∷ []) (o .seen)
-
-    allLoops : loopsAround 0 p ≡ loopsIn (descend w ws) ++ (w .loops ∷ o .seenLoops)
-    allLoops = o .areLoops ∙ ap (λ l. l ++ o .seenLoops) (loops-children (w .depth) (w .traps) (w .loops) (w .context) (w .root) ws) ∙ append-assoc (loopsIn (descend w ws)) (w .loops ∷ []) (o .seenLoops)
 
     left : length (placesIn (descend w ws)) ≡ i
     left =
@@ -139,7 +122,7 @@ next p i (w ∷ ws) o = go (o .deep)
         ap (λ l. getD l i (leaf nothing)) (sym (statements p 1 0 empty))
         ∙ List·getD-map stmtOf (placesOf p) i (at 0 0 empty (leaf nothing)) ∙ ap stmtOf place
 
-    go : Deep (w ∷ ws) → Next p i (w ∷ ws) (o .seen) (o .seenLoops)
+    go : Deep (w ∷ ws) → Next p i (w ∷ ws) (o .seen)
     go (more _ _ h d) =
         record {
           top = w;
@@ -148,14 +131,11 @@ next p i (w ∷ ws) o = go (o .deep)
           on =
               record {
                 seen = placeOf w ∷ o .seen;
-                seenLoops = w .loops ∷ o .seenLoops;
                 are = all;
-                areLoops = allLoops;
                 left = left;
                 deep = deep-children (w .depth) (w .traps) (w .loops) (w .context) (w .root) ws h d;
               };
           onSeen = refl;
-          onLoops = refl;
           statement = statement;
           place = place;
           depth = h;

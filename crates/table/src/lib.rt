@@ -425,8 +425,11 @@ pub fn survey_table(table: &[u8]) -> Survey
         i -= 1;
         let kind = kind_at(table, i);
         faults = seen(faults, kind, field_at(table, i), i, node);
-        most = larger(most, node.loops);
         node = descend(kind, &mut depths, &mut traps, &mut loops, node);
+        // Only a loop puts one more around what comes next.
+        if is_loop(kind) {
+            most = larger(most, node.loops);
+        }
     }
     Survey {
         check: first_refusal(faults),

@@ -1,6 +1,7 @@
 -- `table::survey_table` meets its contract: each turn takes the walk one node further (proofs/Surveying.antt).
 use borrow.Author.Needs.{needs}
-use mathlib.Core.Path.{_≡_, refl}
+use mathlib.Core.Path.{_≡_, refl, sym, _∙_}
+use mathlib.Core.Bool.{true, false}
 use mathlib.Core.List.{List}
 use Prim.Native.Nat.{ℕ, suc, _-_}
 use native.Mathlib.Omega.{arith}
@@ -45,19 +46,30 @@ field-at-requires c κs = needs-here (c .before) .inside
 seen-requires : tie.Need-seen-requires Inv-loop μ-loop
 seen-requires c κs = needs-here (c .before .before) .shallow
 
+descend-requires : tie.Need-descend-requires Inv-loop μ-loop
+descend-requires c κs = let here = needs-here (c .before .before .before .before .before .before) in (here .shallow, here .waits, here .room)
+
+is-loop-requires : tie.Need-is-loop-requires Inv-loop μ-loop
+is-loop-requires c κs = search needs
+
 larger-requires : tie.Need-larger-requires Inv-loop μ-loop
 larger-requires c κs = search needs
-
-descend-requires : tie.Need-descend-requires Inv-loop μ-loop
-descend-requires c κs = let here = needs-here (c .before .before .before .before .before .before .before) in (here .shallow, here .waits, here .room)
 
 loop-less : tie.Need-loop-less Inv-loop μ-loop
 loop-less c = omega arith
 
 loop-again : tie.Need-loop-again Inv-loop μ-loop
 loop-again c =
-    let inside = c .before .before .before .before .before .before .before .before in
-    turned (tableOf inside) (inside .before .before .before .pre) (state inside) _ _ _ _ _ _ _ _ (c .before .before .before .before .before .before .before .kind-at .ensures) (c .before .before .before .before .before .before .field-at .ensures .0) (c .before .before .before .before .before .seen .ensures) (c .before .before .before .before .larger .ensures) (c .descend .ensures)
+    let inside = c .before .before .before .before .before .before .before .before .before .before in
+    turned (tableOf inside) (inside .before .before .before .pre) (state inside) _ _ _ _ _ _ _ _ (c .before .before .before .before .before .before .before .before .before .kind-at .ensures) (c .before .before .before .before .before .before .before .before .field-at .ensures .0) (c .before .before .before .before .before .before .before .seen .ensures) (c .before .before .before .descend .ensures) true (sym (c .before .before .is-loop .ensures) ∙ c .before .if1 .taken) (c .larger .ensures)
+
+loop-less-2 : tie.Need-loop-less-2 Inv-loop μ-loop
+loop-less-2 c = omega arith
+
+loop-again-2 : tie.Need-loop-again-2 Inv-loop μ-loop
+loop-again-2 c =
+    let inside = c .before .before .before .before .before .before .before .before .before in
+    turned (tableOf inside) (inside .before .before .before .pre) (state inside) _ _ _ _ _ _ _ _ (c .before .before .before .before .before .before .before .before .kind-at .ensures) (c .before .before .before .before .before .before .before .field-at .ensures .0) (c .before .before .before .before .before .before .seen .ensures) (c .before .before .descend .ensures) false (sym (c .before .is-loop .ensures) ∙ c .if1 .left) refl
 
 first-refusal-requires : tie.Need-first-refusal-requires Inv-loop μ-loop
 first-refusal-requires c κs = search needs
@@ -70,4 +82,4 @@ returns c =
 pub survey-table-spec : {M : Type 1} → statement M
 survey-table-spec =
     tie.close
-    (tie.spec Inv-loop μ-loop loop-holds sub-i kind-at-requires field-at-requires seen-requires larger-requires descend-requires loop-less loop-again first-refusal-requires returns)
+    (tie.spec Inv-loop μ-loop loop-holds sub-i kind-at-requires field-at-requires seen-requires descend-requires is-loop-requires larger-requires loop-less loop-again loop-less-2 loop-again-2 first-refusal-requires returns)
