@@ -117,7 +117,7 @@ def vectors(file, wanted, chance, theorem):
         numbered = sorted(chance.sample(numbered, wanted))
     return [theorem(at, json.loads(line)) for at, line in numbered]
 
-# ---- the edges; what is expected was worked out by hand from document 01
+# ---- the edges; what is expected was worked out by hand from document 01, and S under a parallel from F-5 of document 02
 
 PAUSE, W1 = [2, 0], [2, 0, 3, 7, 9, 0, 8, 0]
 
@@ -149,10 +149,15 @@ ACCEPTED = {  # n, d and n(1 + d), and tables that are accepted so
 LISTINGS = [  # a line: kind, field, K, A, S, mark
     # t does not count the child itself; S uses the siblings' K and not their A; parallel exits give the larger
     ([2, 0, 11, 0, 2, 0, 10, 0, 8, 0],
-     ok(5, 1, 10, [(2, 0, 2, 3, 5, 1), (11, 0, 2, 3, 1, 1), (2, 0, 2, 3, 1, 1), (10, 0, 2, 3, 1, 1), (8, 0, 2, 2, 0, 0)])),
+     ok(5, 1, 10, [(2, 0, 2, 3, 7, 1), (11, 0, 2, 3, 3, 1), (2, 0, 2, 3, 3, 1), (10, 0, 2, 3, 1, 1), (8, 0, 2, 2, 0, 0)])),
     ([2, 0, 2, 0, 9, 0, 8, 0], ok(4, 1, 8, [(2, 0, 2, 3, 0, 0), (2, 0, 2, 3, 0, 0), (9, 0, 2, 3, 1, 1), (8, 0, 2, 2, 0, 0)])),
     ([4, 1, 4, 0, 10, 0, 11, 0, 11, 0],
      ok(5, 0, 5, [(4, 1, 8, 8, 0, 0), (4, 0, 4, 4, 0, 0), (10, 0, 8, 8, 0, 0), (11, 0, 4, 4, 0, 0), (11, 0, 1, 1, 0, 0)])),
+    # F-5: a branch that only pauses is dropped by its neighbour's exit; and in a parallel that no loop is around, S stays empty
+    ([2, 0, 8, 0, 2, 0, 4, 0, 9, 0, 10, 0, 11, 0, 8, 0],
+     ok(8, 2, 24, [(2, 0, 2, 3, 7, 1), (8, 0, 2, 2, 7, 1), (2, 0, 2, 3, 7, 1), (4, 0, 4, 4, 0, 0), (9, 0, 2, 6, 7, 1), (10, 0, 2, 6, 5, 1),
+                   (11, 0, 2, 3, 1, 1), (8, 0, 2, 2, 0, 0)])),
+    ([2, 0, 2, 0, 10, 0], ok(3, 0, 3, [(2, 0, 2, 3, 0, 0), (2, 0, 2, 3, 0, 0), (10, 0, 2, 3, 0, 0)])),
     ([2, 0, 8, 0, 8, 0], ok(3, 2, 9, [(2, 0, 2, 3, 1, 1), (8, 0, 2, 2, 1, 0), (8, 0, 2, 2, 0, 0)])),
 ]
 INSTANTS = [  # mode, table, state, answers
@@ -245,7 +250,7 @@ def tell(theorem, message):
 
 def run(repo, args):
     chance = random.Random(args.seed)
-    listings = vectors(args.vectors / "listing_open.jsonl", args.listings, chance, listing_theorem)
+    listings = vectors(args.vectors / "listing5_open.jsonl", args.listings, chance, listing_theorem)
     instants = vectors(args.vectors / "instants_open.jsonl", args.instants, chance, instant_theorem)
     edges, controls = edge_theorems(), control_theorems()
     theorems = {x.name: x for x in edges + listings + instants}
@@ -273,7 +278,7 @@ def run(repo, args):
 def main():
     parser = argparse.ArgumentParser(description=__doc__, formatter_class=argparse.RawDescriptionHelpFormatter)
     parser.add_argument("--vectors", type=Path, default=ROOT / "../shared/vectors", metavar="DIR")
-    parser.add_argument("--listings", type=int, default=2000, metavar="N", help="how many, drawn by the seed (default: 2000)")
+    parser.add_argument("--listings", type=int, default=600, metavar="N", help="how many, drawn by the seed (default: all, 600 and 2000)")
     parser.add_argument("--instants", type=int, default=2000, metavar="N")
     parser.add_argument("--seed", type=int, default=random.randrange(10**6), metavar="S")
     parser.add_argument("--keep", action="store_true", help="keep the temporary repository")

@@ -1,8 +1,8 @@
 /*
  * Tests of bavzhrono.h, as C and as C++. One line a test; the exit status says whether all passed.
  *
- * The expected values are those that document 01 prints (Table W and its edges) or that its rules
- * give by hand; the sets of W3 are those of the implementation in compare/.
+ * The expected values are those that document 01 prints (Table W and its edges) or that its rules,
+ * as F-5 amends them, give by hand; the sets of W3 are those of the implementation in compare/.
  */
 #include "bavzhrono.h"
 #include "bavzhrono.h" /* twice, for the include guard */
@@ -48,6 +48,7 @@ static const uint8_t w5[] = {4, 0};
 static const uint8_t w6[] = {1, 0, 2, 0, 6, 5, 8, 0};
 static const uint8_t w7[] = {1, 0, 2, 0, 10, 0};
 static const uint8_t w8[] = {2, 0, 1, 0, 6, 5, 1, 0, 2, 0, 6, 5, 9, 0, 8, 0};
+static const uint8_t lock[] = {2, 0, 8, 0, 2, 0, 4, 0, 9, 0, 10, 0, 11, 0, 8, 0}; /* of F-5 */
 static const uint8_t unknown[] = {2, 0, 12, 0};
 static const uint8_t present[] = {3, 5, 2, 0, 6, 1}; /* present 1 then emit 5 else pause */
 static const char w1_listing[] =
@@ -145,12 +146,20 @@ static void test_sets_of_table_w(void)
 {
     static const node_sets w1_sets[] = {{2, 3, 1, 1}, {1, 1, 0, 0}, {2, 3, 1, 1}, {2, 2, 0, 0}};
     static const node_sets w3_sets[] = {
-        {8, 8, 0x1d, 1}, {4, 4, 0x1d, 1}, {8, 8, 0x15, 0}, {4, 4, 9, 0}, {8, 8, 0, 0}, {4, 4, 8, 0},
+        {8, 8, 0x1f, 1}, {4, 4, 0x1f, 1}, {8, 8, 0x15, 0}, {4, 4, 9, 0}, {8, 8, 0, 0}, {4, 4, 8, 0},
         {1, 1, 4, 0},    {2, 3, 5, 1},    {2, 3, 5, 1},    {2, 3, 1, 1}, {2, 2, 0, 0}};
     static const node_sets w7_sets[] = {{1, 1, 0, 0}, {2, 3, 0, 0}, {2, 3, 0, 0}};
     test_sets("W1", w1, w1_sets, sizeof w1 / 2, 1);
     test_sets("W3, last K is {1}", w3, w3_sets, sizeof w3 / 2, 1);
     test_sets("W7, last K is {1}", w7, w7_sets, sizeof w7 / 2, 0);
+}
+
+/* Node 1 only pauses, is dropped by its neighbour's exit, and is started again: it has a mark. */
+static void test_sets_of_lock_program(void)
+{
+    static const node_sets sets[] = {{2, 3, 7, 1}, {2, 2, 7, 1}, {2, 3, 7, 1}, {4, 4, 0, 0},
+                                     {2, 6, 7, 1}, {2, 6, 5, 1}, {2, 3, 1, 1}, {2, 2, 0, 0}};
+    test_sets("the lock program of F-5", lock, sets, sizeof lock / 2, 2);
 }
 
 /* Writers of tables hand back the length of what they wrote. */
@@ -456,6 +465,7 @@ int main(void)
 {
     prepare();
     test_sets_of_table_w();
+    test_sets_of_lock_program();
     test_sets_of_edges();
     test_refused_by_check();
     test_refused_at_the_last_node();

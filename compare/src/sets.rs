@@ -116,13 +116,14 @@ fn context_under_trap(outer: u64) -> u64 {
     (outer & (ENDED | PAUSED)) | caught | further_out
 }
 
-/// Code 0 and the exits to all traps around: a branch that pauses has not left.
+/// All codes up to the exit to the outermost trap, as F-5 has it from footnote 4
+/// of document 004. Code 1 is among them: a branch that pauses can be dropped by
+/// its neighbour's exit and started again in that instant.
 fn context_under_parallel(outer: u64, traps: usize) -> u64 {
     if outer == 0 {
         return 0;
     }
-    let up_to_outermost = (CAUGHT << traps) - 1;
-    up_to_outermost & !PAUSED
+    (CAUGHT << traps) - 1
 }
 
 /// Writes the marks: 1 where the any-instant set meets the context, else 0.

@@ -1,7 +1,8 @@
-//! The edges of document 01 and the readings on tables, checks and sets.
+//! The edges of document 01 and the readings on tables, checks and sets, with
+//! the contexts of F-5.
 
 use compare::sets;
-use compare::support::edges::{edges, W1};
+use compare::support::edges::{edges, DROPPED, W1};
 use compare::{analyse, listing, resume, start, Refusal};
 
 #[test]
@@ -75,7 +76,8 @@ fn analyse_with(table: &[u8], lengths: [usize; 4]) -> Result<(usize, usize), Ref
 
 #[test]
 fn contexts_of_the_readings() {
-    assert_eq!(contexts(&[2, 0, 11, 0, 2, 0, 10, 0, 8, 0])[1], 1);
+    // Codes 0 and 1 only: a trap is not around itself.
+    assert_eq!(contexts(&[2, 0, 11, 0, 2, 0, 10, 0, 8, 0])[1], 3);
     assert_eq!(contexts(&[2, 0, 2, 0, 9, 0, 8, 0])[..2], [0, 0]);
 }
 
@@ -84,8 +86,30 @@ fn a_context_reaches_code_33_under_32_traps() {
     let mut table = vec![2, 0, 2, 0, 4, 31, 9, 0, 10, 0];
     table.extend([11, 0].repeat(32));
     table.extend([8, 0]);
-    let all_but_paused = (1u64 << 34) - 1 - 2;
-    assert_eq!(contexts(&table)[0], all_but_paused);
+    let up_to_code_33 = (1u64 << 34) - 1;
+    assert_eq!(contexts(&table)[0], up_to_code_33);
+}
+
+#[test]
+fn the_listing_of_a_paused_branch_that_is_dropped() {
+    // Worked out by hand. Nodes 1 and 4 are the branches, under one trap.
+    let text = "ok 8 2 24
+0 2 0 2 3 7 1
+1 8 0 2 2 7 1
+2 2 0 2 3 7 1
+3 4 0 4 4 0 0
+4 9 0 2 6 7 1
+5 10 0 2 6 5 1
+6 11 0 2 3 1 1
+7 8 0 2 2 0 0
+";
+    assert_eq!(listing(DROPPED), text);
+}
+
+#[test]
+fn a_branch_under_an_empty_context_has_no_code() {
+    let table = [2, 0, 4, 0, 10, 0, 11, 0];
+    assert_eq!(contexts(&table), [0; 4]);
 }
 
 fn contexts(table: &[u8]) -> Vec<u64> {

@@ -25,12 +25,59 @@ fn a_missing_file_is_a_failure() {
 
 #[test]
 fn listings() {
-    let vectors = read_listings(&vector_file("listing_open.jsonl"));
+    let vectors = read_listings(&vector_file("listing5_open.jsonl"));
     assert!(!vectors.is_empty());
     for (line, vector) in vectors.iter().enumerate() {
         assert_eq!(listing(&vector.table), vector.listing, "line {}", line + 1);
     }
     println!("{} listings", vectors.len());
+}
+
+/// The listings of this file are by the rule before F-5. F-5 adds codes to
+/// contexts, and with them marks; all else stays.
+#[test]
+fn listings_from_before_f5() {
+    let vectors = read_listings(&vector_file("listing_open.jsonl"));
+    let mut differing = 0;
+    for (line, vector) in vectors.iter().enumerate() {
+        let text = listing(&vector.table);
+        check_additions(&vector.listing, &text, line + 1);
+        differing += usize::from(text != vector.listing);
+    }
+    println!("{} listings, {differing} differ", vectors.len());
+    assert!(differing > 0);
+}
+
+/// The first line is a refusal, or stands before one line a node.
+fn check_additions(before: &str, after: &str, line: usize) {
+    assert_eq!(before.lines().next(), after.lines().next(), "line {line}");
+    assert_eq!(before.lines().count(), after.lines().count(), "line {line}");
+    for (before, after) in before.lines().zip(after.lines()).skip(1) {
+        let (before, after) = (columns(before), columns(after));
+        assert_eq!(before.others, after.others, "line {line}");
+        assert_eq!(before.context & !after.context, 0, "line {line}");
+        assert!(before.mark <= after.mark, "line {line}");
+    }
+}
+
+/// A node's line of a listing.
+struct Columns<'a> {
+    /// Number, kind, field, K and A.
+    others: [&'a str; 5],
+    context: u64,
+    mark: u8,
+}
+
+fn columns(line: &str) -> Columns<'_> {
+    let columns: Vec<&str> = line.split(' ').collect();
+    let [number, kind, field, start_set, any_set, context, mark] = columns[..] else {
+        panic!("not the line of a node: {line}");
+    };
+    Columns {
+        others: [number, kind, field, start_set, any_set],
+        context: u64::from_str_radix(context, 16).expect("a hexadecimal set"),
+        mark: mark.parse().expect("a mark"),
+    }
 }
 
 #[test]

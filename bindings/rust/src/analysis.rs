@@ -8,8 +8,8 @@ use crate::{raw, CodeSet, Refusal, MAX_NODES};
 pub struct Mark(pub u8);
 
 impl Mark {
-    /// Whether the statement may be schizophrenic, that is, end or exit and be started again in
-    /// one instant.
+    /// Whether the statement may be schizophrenic, that is, end, exit, or pause and be dropped by a
+    /// neighbour's exit, and be started again in one instant.
     pub fn may_be_schizophrenic(self) -> bool {
         self.0 != 0
     }

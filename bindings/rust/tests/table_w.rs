@@ -1,4 +1,5 @@
-//! Table W of document 01, by value, and the examples as compare/ lists them.
+//! Table W of document 01 and the lock program of F-5, by value, and the examples as compare/
+//! lists them.
 
 mod common;
 
@@ -78,6 +79,20 @@ fn w9_started_and_resumed() {
     assert_eq!(lent.state, [1, 0, 0, 0]);
     emissions[7] = 1;
     assert_eq!(lent.emissions, emissions);
+}
+
+/// Node 1 only pauses, is dropped by its neighbour's exit, and is started again: it has a mark.
+#[test]
+fn the_lock_program_is_marked() {
+    let sets = Sets::of(LOCK).unwrap();
+    assert_eq!(sets.any_sets, [3, 2, 3, 4, 6, 6, 3, 2].map(CodeSet));
+    assert_eq!(sets.contexts, [7, 7, 7, 0, 7, 5, 1, 0].map(CodeSet));
+    assert_eq!(sets.marks, [1, 1, 1, 0, 1, 1, 1, 0].map(Mark));
+
+    let mut lent = Buffers::for_table(LOCK, 0);
+    assert_eq!(lent.start(LOCK, &[]), closed(Completion::Paused, 0, 7));
+    assert_eq!(lent.resume(LOCK, &[]), closed(Completion::Paused, 0, 15));
+    assert_eq!(lent.state, [1, 0, 1, 0, 0, 0, 0, 0]);
 }
 
 #[test]

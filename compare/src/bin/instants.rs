@@ -72,11 +72,12 @@ impl Files {
 }
 
 fn write_files() -> Result<(), String> {
-    let arguments = arguments::read("--instant-vectors")?;
+    let arguments = arguments::read(["--instant-vectors"])?;
+    let [vectors] = &arguments.options;
     println!("seed {SEED:#x}");
     let mut files = Files::default();
     let random = &mut Random::new(SEED);
-    if let Some(file) = &arguments.vectors {
+    if let Some(file) = vectors {
         add_vectors(&mut files, random, file)?;
     }
     type Family = fn(&mut Random) -> Vec<Case>;

@@ -1,13 +1,16 @@
 //! Writes tables, and the listings that are expected of them.
 //!
-//! Usage: `tables [--listing-vectors FILE] INPUT EXPECTED`
+//! Usage: `tables [--listing-vectors FILE] [--tables-of FILE] INPUT EXPECTED`
 //!
 //! INPUT holds the tables one after the other, each as its length in bytes
 //! (2 bytes, little-endian) followed by that many bytes. EXPECTED holds the
 //! listings or refusal lines of the tables in the same order, exactly as the
 //! listing program prints them. First come the tables of the vector file, with
-//! the texts of that file, then the edges, then random tables.
+//! the texts of that file. Then, with texts of this implementation, come the
+//! tables of a second vector file that the first has not (its own texts, by an
+//! older rule, are not looked at), the edges, and random tables.
 
+use std::collections::HashSet;
 use std::path::Path;
 use std::process::ExitCode;
 
@@ -52,11 +55,16 @@ impl Files {
 }
 
 fn write_files() -> Result<(), String> {
-    let arguments = arguments::read("--listing-vectors")?;
+    let arguments = arguments::read(["--listing-vectors", "--tables-of"])?;
+    let [vectors, tables_of] = &arguments.options;
     println!("seed {SEED:#x}");
     let mut files = Files::default();
-    if let Some(file) = &arguments.vectors {
-        add_vectors(&mut files, file)?;
+    let mut written = HashSet::new();
+    if let Some(file) = vectors {
+        written = add_vectors(&mut files, file)?;
+    }
+    if let Some(file) = tables_of {
+        add_tables_of(&mut files, file, &written);
     }
     add_edges(&mut files)?;
     add_random(&mut files);
@@ -69,7 +77,8 @@ fn write_files() -> Result<(), String> {
     arguments.write(&files.input, files.expected.as_bytes())
 }
 
-fn add_vectors(files: &mut Files, file: &Path) -> Result<(), String> {
+/// Hands back the tables of the file.
+fn add_vectors(files: &mut Files, file: &Path) -> Result<HashSet<Vec<u8>>, String> {
     let vectors = read_listings(file);
     for (line, vector) in vectors.iter().enumerate() {
         let ours = listing(&vector.table);
@@ -84,7 +93,22 @@ fn add_vectors(files: &mut Files, file: &Path) -> Result<(), String> {
         files.add(&vector.table, &vector.listing);
     }
     println!("vectors {}, all agree", vectors.len());
-    Ok(())
+    Ok(vectors.into_iter().map(|vector| vector.table).collect())
+}
+
+fn add_tables_of(files: &mut Files, file: &Path, written: &HashSet<Vec<u8>>) {
+    let (both, others): (Vec<_>, Vec<_>) = read_listings(file)
+        .into_iter()
+        .map(|vector| vector.table)
+        .partition(|table| written.contains(table));
+    for table in &others {
+        files.add(table, &listing(table));
+    }
+    println!(
+        "further tables {}, left out as written already {}",
+        others.len(),
+        both.len()
+    );
 }
 
 fn add_edges(files: &mut Files) -> Result<(), String> {

@@ -3,38 +3,42 @@
 use std::fs;
 use std::path::{Path, PathBuf};
 
-pub struct Arguments {
-    pub vectors: Option<PathBuf>,
+pub struct Arguments<const N: usize> {
+    /// The file of each option, in the order in which the options were named.
+    pub options: [Option<PathBuf>; N],
     pub input: PathBuf,
     pub expected: PathBuf,
 }
 
-/// Reads `[OPTION FILE] INPUT EXPECTED`.
-pub fn read(option: &str) -> Result<Arguments, String> {
-    let mut vectors = None;
+/// Reads `[NAME FILE] INPUT EXPECTED`, with any of the named options.
+pub fn read<const N: usize>(names: [&str; N]) -> Result<Arguments<N>, String> {
+    let mut options = names.map(|_| None);
     let mut files = Vec::new();
     let mut arguments = std::env::args().skip(1);
     while let Some(argument) = arguments.next() {
-        if argument == option {
-            let file = arguments.next().ok_or(format!("{option} needs a file"))?;
-            vectors = Some(PathBuf::from(file));
+        if let Some(option) = names.iter().position(|&name| name == argument) {
+            let file = arguments.next().ok_or(format!("{argument} needs a file"))?;
+            options[option] = Some(PathBuf::from(file));
         } else if argument.starts_with("--") {
             return Err(format!("unknown option {argument}"));
         } else {
             files.push(PathBuf::from(argument));
         }
     }
-    let [input, expected] = files
-        .try_into()
-        .map_err(|_| format!("usage: [{option} FILE] INPUT EXPECTED"))?;
+    let [input, expected] = files.try_into().map_err(|_| usage(&names))?;
     Ok(Arguments {
-        vectors,
+        options,
         input,
         expected,
     })
 }
 
-impl Arguments {
+fn usage(names: &[&str]) -> String {
+    let options: String = names.iter().map(|name| format!("[{name} FILE] ")).collect();
+    format!("usage: {options}INPUT EXPECTED")
+}
+
+impl<const N: usize> Arguments<N> {
     /// Writes both files.
     pub fn write(&self, input: &[u8], expected: &[u8]) -> Result<(), String> {
         write(&self.input, input)?;

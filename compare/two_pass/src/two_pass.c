@@ -1,6 +1,7 @@
 /*
- * The analysis of document 01 in two passes, written by hand for speed: what the proved code is held
- * against. The call is that of bavzhrono_analyse in bindings/c/bavzhrono.h, under another name.
+ * The analysis of document 01, as F-5 of document 02 amends it, in two passes, written by hand for
+ * speed: what the proved code is held against. The call is that of bavzhrono_analyse in
+ * bindings/c/bavzhrono.h, under another name.
  *
  * The last child of a node is the node before it. So each pass has one statement at hand, which does
  * for chains of single children, and a stack that only nodes of two children need.
@@ -132,10 +133,14 @@ static codes context_of_second(codes outer, uint8_t first_ends)
     return outer & -(codes)first_ends;
 }
 
-/* 0 and the exits to all traps around, or nothing under an empty context. */
+/*
+ * All codes up to the exit to the outermost trap (F-5, from footnote 4 of document 004), or nothing
+ * under an empty context. Code 1 is among them: a branch that pauses can be dropped by its
+ * neighbour's exit and started again in that instant.
+ */
 static codes context_under_parallel(codes outer, unsigned traps)
 {
-    return outer != 0 ? exit_to(traps) - 1 - PAUSED : 0;
+    return outer != 0 ? exit_to(traps) - 1 : 0;
 }
 
 /* 0 and 1 stay, 0 brings 2, the codes from 2 move up. */

@@ -2,7 +2,7 @@
 use mathlib.Core.Path.{_≡_, refl, sym, ap, ap₂, _∙_}
 use mathlib.Core.Bool.{Bool, true, false, _&&_, _||_, cond}
 use mathlib.Core.Logic.{_⊎_, inl, inr}
-use Prim.Native.Nat.{ℕ, zero, suc, _<_}
+use Prim.Native.Nat.{ℕ, zero, suc, _+_, _<_}
 use native.Mathlib.Nat.{le-refl, eq-or-lt-of-le}
 use native.Mathlib.Omega.{arith}
 use lib.Dec.{lit<, leb}
@@ -67,12 +67,7 @@ module _ (a : Codes) where
 
   pub under-parallel-word : (t : ℕ) → underParallelOf t (word a) ≡ word (underParallel t a)
   unfolding underParallelOf meetsOf
-  under-parallel-word t = word-same _ _ at
-    where
-      at : (k : ℕ) → k < 64 → underParallel t (setOf (word a)) k ≡ underParallel t a k
-      at zero h = meets-word a a
-      at (suc zero) h = refl
-      at (suc (suc k)) h = ap (λ (x : Bool). leb (suc k) t && x) (meets-word a a)
+  under-parallel-word t = word-same _ _ (λ k h. ap (λ (x : Bool). leb k (1 + t) && x) (meets-word a a))
 
   pub given-word : (t : Bool) → cond t (word a) 0 ≡ word (given t a)
   given-word true = refl

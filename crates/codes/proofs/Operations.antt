@@ -1,6 +1,6 @@
 -- What the machine computes for each operation is the number of the specification's set.
 use mathlib.Core.Path.{_≡_, refl, sym, ap₂, subst, _∙_}
-use mathlib.Core.Bool.{Bool, true, false, not, _&&_, _||_, and-true, and-false, or-false}
+use mathlib.Core.Bool.{Bool, true, not, _&&_, _||_, and-true, and-false, or-false}
 use mathlib.Core.Logic.{⊎-elim}
 use Prim.Native.Nat.{ℕ, zero, suc, _+_, _-_, _*_, _/_, _%_, _^_, _<_, max}
 use native.Mathlib.Nat.{mod-lt, one-mul, lt-of-le-of-lt}
@@ -10,14 +10,14 @@ use lib.Dec.{lit<, eqb, leb, ltb, leb·zero, leb·suc-suc, eqb·zero-suc}
 use lib.Pow.{pow-pos, shr-le}
 use lib.Bits.{bitAnd, bitOr, or-lt, and-le-r, and-self}
 use lib.Count.{trailingZeros, leadingZeros}
-use Rattle.codes.specs.Codes.{Codes, withoutEnded, upTo, larger, caught, meets, underTrap, underParallel}
+use Rattle.codes.specs.Codes.{Codes, withoutEnded, upTo, larger, caught, meets, underTrap}
 use Rattle.codes.specs.Words.{_∋_, setOf, singletonOf, unionOf, withoutEndedOf, meetsOf, leastFrom, greatestBelow, lowestOf, highestOf, largerOf, parallelOf, caughtOf, underTrapOf, underParallelOf, spanOf}
 use Rattle.codes.specs.declared.Found.{Found}
 use Rattle.codes.specs.declared.Found.the-variants.{Code, NoCode}
 use Rattle.codes.proofs.Bools.{both, left, right, either, inl-true, inr-true, same-test}
 use Rattle.codes.proofs.Members.{larger-in, larger-out}
 use Rattle.codes.proofs.Bits.{∋-none, ∋-and, ∋-or, ∋-shr, ∋-shl-mod, ∋-pow, ∋-ones, ∋-from, ∋-mod}
-use Rattle.codes.proofs.WordBits.{word-lt, ∋-word, is-word, word-empty}
+use Rattle.codes.proofs.WordBits.{word-lt, ∋-word, is-word, word-same, word-empty}
 use Rattle.codes.proofs.Ends.{Lowest, Highest, trailing-lowest, trailing-lt, leading-highest, least-found, greatest-found, upTo-same, upTo-none, some-code}
 
 and-fits : (a b : ℕ) → b < 2 ^ 64 → bitAnd a b < 2 ^ 64
@@ -207,25 +207,12 @@ under-trap-is p =
 
 pub under-parallel-none : (t : ℕ) → 0 ≡ underParallelOf t 0
 unfolding underParallelOf _∋_
-under-parallel-none t = sym (word-empty _ at)
-  where
-    at : (k : ℕ) → underParallel t (setOf 0) k ≡ false
-    at zero = refl
-    at (suc zero) = refl
-    at (suc (suc k)) = and-false (leb (suc k) t)
+under-parallel-none t = sym (word-empty _ (λ k. and-false (leb k (1 + t))))
 
-pub under-parallel-is : (t p : ℕ) → 0 < p → p < 2 ^ 64 → bitOr (spanOf 2 (1 + t)) 1 ≡ underParallelOf t p
+pub under-parallel-is : (t p : ℕ) → 0 < p → p < 2 ^ 64 → spanOf 0 (1 + t) ≡ underParallelOf t p
 unfolding underParallelOf spanOf meetsOf
 under-parallel-is t p pp fp =
-    is-word _ _ (or-lt 64 _ 1 (word-lt _) (lit< tt)) (λ k h. ∋-or _ 1 k ∙ ap₂ _||_ (∋-word _ k h) (∋-pow 0 k) ∙ at k)
+    word-same _ _ (λ k h. rw (some, le-leb 0 k (omega arith)) (sym (and-true (leb k (1 + t)))))
   where
     some : meets (setOf p) (setOf p) ≡ true
     some = sym (meets-is p p fp) ∙ rw (and-self, ne-eqb p 0 (omega arith))
-
-    at : (k : ℕ) → (leb 2 k && leb k (1 + t) || eqb 0 k) ≡ underParallel t (setOf p) k
-    at zero = sym some
-    at (suc zero) = refl
-    at (suc (suc k)) =
-        let n = suc (suc k) in
-        let e : 1 + t ≡ suc t = omega arith in
-        rw (some, le-leb 2 n (omega arith), e, leb·suc-suc (suc k) t, eqb·zero-suc) (or-false (leb (suc k) t) ∙ sym (and-true (leb (suc k) t)))

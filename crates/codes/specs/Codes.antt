@@ -50,7 +50,7 @@ caught a (suc (suc k)) = a (suc (suc (suc k)))
 abbrev pub meets : Codes → Codes → Bool
 meets a b = upTo (λ k. a k && b k) 63
 
--- Context sets of a child (Figure 9), from P, its parent's.
+-- Context sets of a child, from P, its parent's: Figure 9, and for a parallel its footnote in document 004 as F-5 has it.
 -- under a trap: 0 if P has it, 1 if P has it, 2 if P has 0, and k + 1 for each k from 2 in P
 abbrev pub underTrap : Codes → Codes
 underTrap P zero = P 0
@@ -58,11 +58,10 @@ underTrap P (suc zero) = P 1
 underTrap P (suc (suc zero)) = P 0
 underTrap P (suc (suc (suc k))) = P (suc (suc k))
 
--- under a parallel, with t traps around the child: empty if P is empty, else 0 and all codes from 2 to 1 + t
+-- under a parallel (F-5): empty if P is empty, else all codes that a child with t traps around it can give, 0 to 1 + t. 1 is among them:
+-- a branch that pauses is dropped by its neighbour's exit, and may be started again in that instant
 abbrev pub underParallel : ℕ → Codes → Codes
-underParallel t P zero = meets P P
-underParallel t P (suc zero) = false
-underParallel t P (suc (suc k)) = leb (suc k) t && meets P P
+underParallel t P k = leb k (1 + t) && meets P P
 
 -- A set is kept as a 64-bit number, with bit k for code k.
 abbrev pub bit : Bool → ℕ

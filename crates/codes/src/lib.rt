@@ -119,7 +119,8 @@ pub fn under_trap(context: u64) -> u64
     context & 3 | (context & 1) << 2 | (context & !3) << 1
 }
 
-// The context of a parallel's child with `traps` traps around it, from the parallel's own.
+// The context of a parallel's child with `traps` traps around it, from the parallel's own: all codes that the child can
+// give, or none under an empty one (F-5).
 pub fn under_parallel(context: u64, traps: u32) -> u64
     requires { ⌜ traps ≤ 62 ⌝ }
     ensures { λ r. ⌜ r ≡ underParallelOf traps context ⌝ }
@@ -127,5 +128,5 @@ pub fn under_parallel(context: u64, traps: u32) -> u64
     if context == 0 {
         return 0;
     }
-    span(2, 1 + traps) | 1
+    span(0, 1 + traps)
 }

@@ -1,4 +1,5 @@
 pub mod TableW
+pub mod Lock
 pub mod Sizes
 pub mod Held
 pub mod Nodes
@@ -18,3 +19,4 @@ pub mod Ranges
 pub mod Subtrees
 pub mod Children
 pub mod Theorems
+pub mod Footnote

@@ -1,4 +1,5 @@
--- Start set K (Figure 6), any-instant set A, context set S (Figure 9), mark. The numbers are the rules of Figures 11 and 12.
+-- Start set K (Figure 6), any-instant set A, context set S (Figure 9; for a parallel its footnote in document 004, as F-5 has it), mark. The
+-- numbers are the rules of Figures 11 and 12.
 use Prim.Native.Nat.{ℕ, zero, suc, _+_}
 use mathlib.Core.Bool.{Bool, true, false}
 use mathlib.Core.List.{List, [], _∷_, _++_}

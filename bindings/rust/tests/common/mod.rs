@@ -1,4 +1,4 @@
-//! Tables of document 01, and filled buffers to lend.
+//! Tables of documents 01 and 02, and filled buffers to lend.
 
 #![allow(dead_code)] // each test file uses a part of this
 
@@ -17,6 +17,8 @@ pub const W5: &[u8] = &[4, 0];
 pub const W6: &[u8] = &[1, 0, 2, 0, 6, 5, 8, 0];
 pub const W7: &[u8] = &[1, 0, 2, 0, 10, 0];
 pub const W8: &[u8] = &[2, 0, 1, 0, 6, 5, 1, 0, 2, 0, 6, 5, 9, 0, 8, 0];
+/// The lock program of F-5.
+pub const LOCK: &[u8] = &[2, 0, 8, 0, 2, 0, 4, 0, 9, 0, 10, 0, 11, 0, 8, 0];
 
 pub const W1_LISTING: &str =
     "ok 4 1 8\n0 2 0 2 3 1 1\n1 3 7 1 1 0 0\n2 9 0 2 3 1 1\n3 8 0 2 2 0 0\n";

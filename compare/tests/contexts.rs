@@ -1,0 +1,239 @@
+//! Contexts and marks by the sentences of document 01, with F-5's in place of
+//! its own for a parallel: each node goes up to the program by itself, and sets
+//! are made code by code. Slow, and so for small tables only: all of them.
+
+use std::collections::BTreeSet;
+
+use compare::analyse;
+
+/// The statements that decide something, with the number of their children:
+/// nothing, pause, two exits, present, loop, sequence, parallel, trap.
+const STATEMENTS: [([u8; 2], usize); 9] = [
+    ([1, 0], 0),
+    ([2, 0], 0),
+    ([4, 0], 0),
+    ([4, 1], 0),
+    ([6, 0], 2),
+    ([8, 0], 1),
+    ([9, 0], 2),
+    ([10, 0], 2),
+    ([11, 0], 1),
+];
+
+const MOST_NODES: usize = 7;
+
+/// What is put around smaller tables as well: the shape of F-5; and, in a branch,
+/// a trap with a pause after it, so that code 1 brings in code 0.
+const AROUND: [&[u8]; 2] = [
+    &[2, 0, 4, 0, 9, 0, 10, 0, 11, 0, 8, 0],
+    &[5, 0, 11, 0, 7, 0, 2, 0, 9, 0, 2, 0, 10, 0, 8, 0],
+];
+
+const MOST_NODES_WITHIN: usize = 5;
+
+type Codes = BTreeSet<usize>;
+
+struct Program<'a> {
+    table: &'a [u8],
+    children: Vec<Vec<usize>>,
+}
+
+impl Program<'_> {
+    /// Reads a table that is known to be accepted.
+    fn new(table: &[u8]) -> Program<'_> {
+        let mut children = Vec::new();
+        let mut unused = Vec::new();
+        for (node, bytes) in table.chunks_exact(2).enumerate() {
+            let count = match bytes[0] {
+                1..=4 => 0,
+                6 | 9 | 10 => 2,
+                _ => 1,
+            };
+            children.push(unused.split_off(unused.len() - count));
+            unused.push(node);
+        }
+        Program { table, children }
+    }
+
+    fn kind(&self, node: usize) -> u8 {
+        self.table[2 * node]
+    }
+
+    fn parent(&self, node: usize) -> Option<usize> {
+        self.children
+            .iter()
+            .position(|children| children.contains(&node))
+    }
+
+    fn traps_around(&self, node: usize) -> usize {
+        match self.parent(node) {
+            None => 0,
+            Some(parent) => usize::from(self.kind(parent) == 11) + self.traps_around(parent),
+        }
+    }
+
+    /// K, where a pause has code 1.
+    fn start_set(&self, node: usize) -> Codes {
+        self.codes(node, &[1])
+    }
+
+    /// A, where a pause has codes 0 and 1.
+    fn any_set(&self, node: usize) -> Codes {
+        self.codes(node, &[0, 1])
+    }
+
+    fn codes(&self, node: usize, pause: &[usize]) -> Codes {
+        let children: Vec<Codes> = self.children[node]
+            .iter()
+            .map(|&child| self.codes(child, pause))
+            .collect();
+        match (self.kind(node), &children[..]) {
+            (1 | 3, []) => Codes::from([0]),
+            (2, []) => pause.iter().copied().collect(),
+            (4, []) => Codes::from([2 + usize::from(self.table[2 * node + 1])]),
+            (5 | 7, [body]) => body.clone(),
+            (6, [then, otherwise]) => then | otherwise,
+            (8, [body]) => without_0(body),
+            (9, [first, second]) if first.contains(&0) => &without_0(first) | second,
+            (9, [first, _]) => without_0(first),
+            (10, [left, right]) => larger_ones(left, right),
+            (11, [body]) => body.iter().map(|&code| out_of_trap(code)).collect(),
+            other => panic!("no such statement: {other:?}"),
+        }
+    }
+
+    /// S. The program has none; `outer` is P, the parent's.
+    fn context(&self, node: usize) -> Codes {
+        let Some(parent) = self.parent(node) else {
+            return Codes::new();
+        };
+        let outer = self.context(parent);
+        match (self.kind(parent), &self.children[parent][..]) {
+            (5..=7, _) => outer,
+            (8, _) => &outer | &Codes::from([0]),
+            (9, &[first, second]) if node == first => {
+                let meets = !self.start_set(second).is_disjoint(&outer);
+                &without_0(&outer) | &Codes::from_iter(meets.then_some(0))
+            }
+            (9, &[first, _]) if self.start_set(first).contains(&0) => outer,
+            (9, _) => Codes::new(),
+            (10, _) if outer.is_empty() => Codes::new(),
+            (10, _) => [0, 1]
+                .into_iter()
+                .chain(2..=1 + self.traps_around(node))
+                .collect(),
+            (11, _) => outer.iter().flat_map(|&code| into_trap(code)).collect(),
+            other => panic!("no such parent: {other:?}"),
+        }
+    }
+}
+
+fn without_0(codes: &Codes) -> Codes {
+    codes.iter().copied().filter(|&code| code != 0).collect()
+}
+
+fn larger_ones(left: &Codes, right: &Codes) -> Codes {
+    let larger = |&one| right.iter().map(move |&other| other.max(one));
+    left.iter().flat_map(larger).collect()
+}
+
+fn out_of_trap(code: usize) -> usize {
+    match code {
+        0 | 2 => 0,
+        1 => 1,
+        further_out => further_out - 1,
+    }
+}
+
+/// The codes within a trap that leave it as this one.
+fn into_trap(code: usize) -> Vec<usize> {
+    match code {
+        0 => vec![0, 2],
+        1 => vec![1],
+        further_out => vec![further_out + 1],
+    }
+}
+
+/// How much was compared.
+#[derive(Debug, Default)]
+struct Counts {
+    tables: usize,
+    nodes: usize,
+    marks: usize,
+    /// Marked nodes whose A and S share code 1 alone: without F-5 they have none.
+    by_code_1: usize,
+}
+
+impl Counts {
+    /// Compares all nodes of a table, if it is accepted.
+    fn compare(&mut self, table: &[u8]) {
+        let size = table.len() / 2;
+        let (mut contexts, mut marks) = (vec![0; size], vec![0; size]);
+        let (mut start_sets, mut any_sets) = (vec![0; size], vec![0; size]);
+        let answer = analyse(
+            table,
+            &mut start_sets,
+            &mut any_sets,
+            &mut contexts,
+            &mut marks,
+        );
+        if answer.is_err() {
+            return;
+        }
+        self.tables += 1;
+        let program = Program::new(table);
+        for node in 0..size {
+            let (any_set, context) = (program.any_set(node), program.context(node));
+            let common: Codes = &any_set & &context;
+            let mark = u8::from(!common.is_empty());
+            assert_eq!(
+                bits(&program.start_set(node)),
+                start_sets[node],
+                "{table:?}"
+            );
+            assert_eq!(bits(&any_set), any_sets[node], "{table:?}");
+            assert_eq!(bits(&context), contexts[node], "{table:?}");
+            assert_eq!(mark, marks[node], "{table:?}");
+            self.nodes += 1;
+            self.marks += usize::from(mark);
+            self.by_code_1 += usize::from(common == Codes::from([1]));
+        }
+    }
+}
+
+fn bits(codes: &Codes) -> u64 {
+    codes.iter().map(|code| 1 << code).sum()
+}
+
+/// All tables that begin with this one, of which so many statements are unused,
+/// and that are one statement at the end.
+fn every_table_from(table: &mut Vec<u8>, unused: usize, visit: &mut impl FnMut(&[u8])) {
+    if unused == 1 {
+        visit(table);
+    }
+    let room = MOST_NODES - table.len() / 2;
+    for (letter, children) in STATEMENTS {
+        // Each node still to come can make one of two.
+        if children <= unused && unused + 1 - children <= room {
+            table.extend(letter);
+            every_table_from(table, unused + 1 - children, visit);
+            table.truncate(table.len() - 2);
+        }
+    }
+}
+
+#[test]
+fn contexts_and_marks_of_all_small_tables() {
+    let mut counts = Counts::default();
+    every_table_from(&mut Vec::new(), 0, &mut |table| {
+        counts.compare(table);
+        if table.len() <= 2 * MOST_NODES_WITHIN {
+            for around in AROUND {
+                counts.compare(&[table, around].concat());
+            }
+        }
+    });
+    println!("{counts:?}");
+    assert!(counts.tables > 20_000, "{counts:?}");
+    assert!(counts.by_code_1 > 1_000, "{counts:?}");
+}

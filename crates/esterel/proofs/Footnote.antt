@@ -1,0 +1,167 @@
+-- S here is the footnote's S without the codes past the traps around a node, and no statement there has such a code.
+use mathlib.Core.Path.{_≡_, refl, sym, ap, ap₂, _∙_}
+use mathlib.Core.Bool.{Bool, true, false, _&&_, or-true, or-false, and-true}
+use mathlib.Core.List.{List, [], _∷_, _++_, map}
+use Prim.Native.Nat.{ℕ, zero, suc, _+_, _≤_, _<_}
+use native.Mathlib.Decide.{decLe}
+use native.Mathlib.Omega.{arith}
+use borrow.Author.Tests.{le-leb, lt-leb}
+use lib.Dec.{leb, eqb·zero-suc}
+use Rattle.codes.proofs.Bools.{both, right, same-test}
+use Rattle.codes.proofs.Members.{upTo-in, upTo-out}
+use Rattle.codes.proofs.Laws.{word-same}
+use Rattle.codes.proofs.Ends.{upTo-same}
+use Rattle.esterel.specs.Statement.{Unary, signal, suspend, loop, trap, Binary, present, sequence, parallel, Stmt, leaf, one, two, kind, field, trapsUnder}
+use Rattle.esterel.specs.Codes.{Codes, empty, given, meets, underParallel, bit, word}
+use Rattle.esterel.specs.Sets.{startSet, anyInstantSet, Place, at, places, under, underLeft, underRight}
+use Rattle.esterel.specs.Checks.{line, lineOf}
+use Rattle.esterel.specs.Footnote.{allCodes, byFootnote, footnotePlaces, footnoteLine, Footnote}
+use Rattle.esterel.proofs.Low.{Exits, start-low, any-low}
+use Rattle.esterel.proofs.Accepted.{exits-in}
+
+-- S here and F by the footnote, of a node with t traps around it. An F that has a code past the traps came from a parallel, and has 1
+record Agree (t : ℕ) (S F : Codes) : Type 0 where
+  same : (k : ℕ) → k ≤ 1 + t → S k ≡ F k
+  past : (k : ℕ) → 1 + t < k → S k ≡ false
+  wide : (k : ℕ) → 1 + t < k → F k ≡ true → F 1 ≡ true
+
+module _ {t : ℕ} {S F : Codes} (g : Agree t S F) where
+  within : (k : ℕ) → S k ≡ (leb k (1 + t) && F k)
+  within k = go (decLe k (1 + t))
+    where
+      go : Dec (k ≤ 1 + t) → S k ≡ (leb k (1 + t) && F k)
+      go (yes h) = g .same k h ∙ sym (ap (λ b. b && F k) (le-leb k (1 + t) h))
+      go (no h) = g .past k (omega arith) ∙ sym (ap (λ b. b && F k) (lt-leb k (1 + t) (omega arith)))
+
+  -- a set without a code past the traps does not tell them apart
+  same-meets : (C : Codes) → ((k : ℕ) → C k ≡ true → k ≤ suc t) → meets C S ≡ meets C F
+  same-meets C low = upTo-same (λ k. C k && S k) (λ k. C k && F k) 63 (λ k h. at-code k (C k) refl)
+    where
+      at-code : (k : ℕ) (b : Bool) → C k ≡ b → (C k && S k) ≡ (C k && F k)
+      at-code k true e = ap (λ b. C k && b) (g .same k (omega (arith, low k e)))
+      at-code k false e = rw e
+
+  -- one is empty exactly if the other is
+  same-some : meets S S ≡ meets F F
+  same-some = same-test (meets S S) (meets F F) into back
+    where
+      into : meets S S ≡ true → meets F F ≡ true
+      into e =
+          let (k, h, f) = upTo-out (λ k. S k && S k) 63 e in
+          let x : F k ≡ true = right (leb k (1 + t)) (sym (within k) ∙ right (S k) f) in
+          upTo-in (λ k. F k && F k) k 63 h (both x x)
+
+      has : (k : ℕ) → k ≤ 63 → k ≤ 1 + t → F k ≡ true → meets S S ≡ true
+      has k h l x = let y : S k ≡ true = g .same k l ∙ x in upTo-in (λ k. S k && S k) k 63 h (both y y)
+
+      found : (k : ℕ) → k ≤ 63 → F k ≡ true → Dec (k ≤ 1 + t) → meets S S ≡ true
+      found k h x (yes l) = has k h l x
+      found k h x (no l) = has 1 (omega arith) (omega arith) (g .wide k (omega arith) x)
+
+      back : meets F F ≡ true → meets S S ≡ true
+      back e =
+          let (k, h, f) = upTo-out (λ k. F k && F k) 63 e in
+          found k h (right (F k) f) (decLe k (1 + t))
+
+-- a loop adds nothing but 0
+but-0 : (P : Codes) (k : ℕ) → under loop P (suc k) ≡ P (suc k)
+but-0 P k = rw eqb·zero-suc (or-false (P (suc k)))
+
+agree-under : (u : Unary) {t : ℕ} {S F : Codes} → Agree t S F → Agree (trapsUnder u t) (under u S) (under u F)
+agree-under (signal s) g = g
+agree-under (suspend s) g = g
+agree-under loop {t} {S} {F} g = record { same = same; past = past; wide = wide }
+  where
+    same : (k : ℕ) → k ≤ 1 + t → under loop S k ≡ under loop F k
+    same zero h = or-true (S 0) ∙ sym (or-true (F 0))
+    same (suc k) h = but-0 S k ∙ g .same (suc k) h ∙ sym (but-0 F k)
+
+    past : (k : ℕ) → 1 + t < k → under loop S k ≡ false
+    past zero h = absurd (omega arith)
+    past (suc k) h = but-0 S k ∙ g .past (suc k) h
+
+    wide : (k : ℕ) → 1 + t < k → under loop F k ≡ true → under loop F 1 ≡ true
+    wide zero h e = absurd (omega arith)
+    wide (suc k) h e = but-0 F 0 ∙ g .wide (suc k) h (sym (but-0 F k) ∙ e)
+agree-under trap {t} {S} {F} g = record { same = same; past = past; wide = wide }
+  where
+    same : (k : ℕ) → k ≤ 1 + suc t → under trap S k ≡ under trap F k
+    same zero h = g .same 0 (omega arith)
+    same (suc zero) h = g .same 1 (omega arith)
+    same (suc (suc zero)) h = g .same 0 (omega arith)
+    same (suc (suc (suc k))) h = g .same (suc (suc k)) (omega arith)
+
+    past : (k : ℕ) → 1 + suc t < k → under trap S k ≡ false
+    past zero h = absurd (omega arith)
+    past (suc zero) h = absurd (omega arith)
+    past (suc (suc zero)) h = absurd (omega arith)
+    past (suc (suc (suc k))) h = g .past (suc (suc k)) (omega arith)
+
+    wide : (k : ℕ) → 1 + suc t < k → under trap F k ≡ true → F 1 ≡ true
+    wide zero h e = absurd (omega arith)
+    wide (suc zero) h e = absurd (omega arith)
+    wide (suc (suc zero)) h e = absurd (omega arith)
+    wide (suc (suc (suc k))) h e = g .wide (suc (suc k)) (omega arith) e
+
+agree-parallel : {t : ℕ} {S F : Codes} → Agree t S F → Agree t (underParallel t S) (given (meets F F) allCodes)
+agree-parallel {t} {S} {F} g =
+    record {
+      same = λ k h. ap₂ _&&_ (le-leb k (1 + t) h) (same-some g) ∙ sym (and-true (meets F F));
+      past = λ k h. ap (λ b. b && meets S S) (lt-leb k (1 + t) h);
+      wide = λ k h e. e;
+    }
+
+agree-left : (b : Binary) (q : Stmt) {t : ℕ} {S F : Codes} → Exits t q → Agree t S F → Agree t (underLeft b t S q) (byFootnote b F (underLeft b t F q))
+agree-left (present s) q x g = g
+agree-left parallel q x g = agree-parallel g
+agree-left sequence q {t} {S} {F} x g = record { same = same; past = past; wide = wide }
+  where
+    same : (k : ℕ) → k ≤ 1 + t → underLeft sequence t S q k ≡ underLeft sequence t F q k
+    same zero h = same-meets g (startSet q) (λ k e. start-low q t k x e)
+    same (suc k) h = g .same (suc k) h
+
+    past : (k : ℕ) → 1 + t < k → underLeft sequence t S q k ≡ false
+    past zero h = absurd (omega arith)
+    past (suc k) h = g .past (suc k) h
+
+    wide : (k : ℕ) → 1 + t < k → underLeft sequence t F q k ≡ true → F 1 ≡ true
+    wide zero h e = absurd (omega arith)
+    wide (suc k) h e = g .wide (suc k) h e
+
+agree-given : (test : Bool) {t : ℕ} {S F : Codes} → Agree t S F → Agree t (given test S) (given test F)
+agree-given true g = record { same = λ k h. g .same k h; past = λ k h. g .past k h; wide = λ k h e. g .wide k h e }
+agree-given false g = record { same = λ k h. refl; past = λ k h. refl; wide = λ k h e. e }
+
+agree-right : (b : Binary) (p : Stmt) {t : ℕ} {S F : Codes} → Agree t S F → Agree t (underRight b t S p) (byFootnote b F (underRight b t F p))
+agree-right (present s) p g = g
+agree-right parallel p g = agree-parallel g
+agree-right sequence p g = agree-given (startSet p 0) g
+
+-- the places of a program by both rules, node by node
+data Matched : List Place → List Place → Type 0 where
+  none : Matched [] []
+  also : {xs ys : List Place} (d t : ℕ) (S F : Codes) (p : Stmt) → Agree t S F → Exits t p → Matched xs ys → Matched (at d t S p ∷ xs) (at d t F p ∷ ys)
+
+join : {xs ys zs ws : List Place} → Matched xs ys → Matched zs ws → Matched (xs ++ zs) (ys ++ ws)
+join none n = n
+join (also d t S F p g x m) n = also d t S F p g x (join m n)
+
+matched : (p : Stmt) (d t : ℕ) (S F : Codes) → Exits t p → Agree t S F → Matched (places d t S p) (footnotePlaces d t F p)
+matched (leaf l) d t S F x g = also d t S F (leaf l) g x none
+matched (one u p) d t S F x g =
+    join (matched p (suc d) (trapsUnder u t) (under u S) (under u F) x (agree-under u g)) (also d t S F (one u p) g x none)
+matched (two b p q) d t S F x g =
+    let first = matched p (suc d) t _ _ (x .0) (agree-left b q (x .1) g) in
+    let second = matched q (suc d) t _ _ (x .1) (agree-right b p g) in
+    join (join first second) (also d t S F (two b p q) g x none)
+
+same-lines : {xs ys : List Place} → Matched xs ys → map lineOf xs ≡ map footnoteLine ys
+same-lines none = refl
+same-lines (also d t S F p g x m) =
+    ap₂ _∷_ (ap₂ (line (kind p) (field p) (word (startSet p)) (word (anyInstantSet p))) (word-same _ _ (λ k h. within g k)) (ap bit (same-meets g (anyInstantSet p) (λ k e. any-low p t k x e))))
+    (same-lines m)
+
+pub footnote : Footnote
+footnote p a =
+    let outside : Agree 0 empty empty = record { same = λ k h. refl; past = λ k h. refl; wide = λ k h e. e } in
+    same-lines (matched p 1 0 empty empty (exits-in p a) outside)
