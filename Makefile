@@ -29,7 +29,7 @@ archive:
 	@rt staticlib abi > target-archive.log 2>&1 || { cat target-archive.log; rm -f target-archive.log; exit 1; }
 	@rm -f target-archive.log
 
-# the definitions against vectors made by another program, and the edges of document 01
+# the definitions against vectors made by another program, and edges of documents 01 and 02
 definitions:
 	@python3 tools/run_definitions.py
 

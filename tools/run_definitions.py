@@ -1,5 +1,5 @@
 #!/usr/bin/env python3
-"""Runs the theory's definitions on outside vectors and on the edges of document 01, and reports each difference.
+"""Runs the theory's definitions on outside vectors and on edges of documents 01 and 02, and reports each difference.
 
     python3 tools/run_definitions.py [--vectors DIR] [--listings N] [--instants N] [--seed S]
 
@@ -113,7 +113,7 @@ def instant_theorem(at, vector):
 
 def vectors(file, wanted, chance, theorem):
     numbered = list(enumerate(file.read_text().splitlines(), 1))
-    if wanted < len(numbered):
+    if wanted is not None and wanted < len(numbered):
         numbered = sorted(chance.sample(numbered, wanted))
     return [theorem(at, json.loads(line)) for at, line in numbered]
 
@@ -278,8 +278,8 @@ def run(repo, args):
 def main():
     parser = argparse.ArgumentParser(description=__doc__, formatter_class=argparse.RawDescriptionHelpFormatter)
     parser.add_argument("--vectors", type=Path, default=ROOT / "../shared/vectors", metavar="DIR")
-    parser.add_argument("--listings", type=int, default=600, metavar="N", help="how many, drawn by the seed (default: all, 600 and 2000)")
-    parser.add_argument("--instants", type=int, default=2000, metavar="N")
+    parser.add_argument("--listings", type=int, metavar="N", help="how many, drawn by the seed (default: all)")
+    parser.add_argument("--instants", type=int, metavar="N", help="likewise")
     parser.add_argument("--seed", type=int, default=random.randrange(10**6), metavar="S")
     parser.add_argument("--keep", action="store_true", help="keep the temporary repository")
     parser.add_argument("--whole", action="store_true", help="prove the two crates whole first; else their definitions and types alone are read")

@@ -2,7 +2,7 @@
 //! the contexts of F-5.
 
 use compare::sets;
-use compare::support::edges::{edges, DROPPED, W1};
+use compare::support::edges::{edges, LOCK, W1};
 use compare::{analyse, listing, resume, start, Refusal};
 
 #[test]
@@ -103,7 +103,7 @@ fn the_listing_of_a_paused_branch_that_is_dropped() {
 6 11 0 2 3 1 1
 7 8 0 2 2 0 0
 ";
-    assert_eq!(listing(DROPPED), text);
+    assert_eq!(listing(LOCK), text);
 }
 
 #[test]

@@ -1,7 +1,7 @@
 //! The table of F-5 run: a branch that pauses, is dropped by its neighbour's
 //! exit, and is started again in that instant.
 
-use compare::support::edges::DROPPED;
+use compare::support::edges::LOCK;
 use compare::How::{Resumed, Started};
 use compare::{analyse, resume_with_trail, start_with_trail, Closed, Entry, How};
 
@@ -20,7 +20,7 @@ fn trail(entries: &[(usize, How, u32)]) -> Vec<Entry> {
 
 fn second_instant() -> (Closed, Vec<Entry>) {
     let mut state = HELD;
-    let answer = resume_with_trail(DROPPED, &[], &mut state, &mut [9; 256]);
+    let answer = resume_with_trail(LOCK, &[], &mut state, &mut [9; 256]);
     assert_eq!(state, HELD);
     answer.expect("an admitted state")
 }
@@ -28,7 +28,7 @@ fn second_instant() -> (Closed, Vec<Entry>) {
 #[test]
 fn started_both_branches_pause() {
     let mut state = [9; 8];
-    let answer = start_with_trail(DROPPED, &[], &mut state, &mut [9; 256]);
+    let answer = start_with_trail(LOCK, &[], &mut state, &mut [9; 256]);
     let expected = trail(&[
         (7, Started, 1),
         (6, Started, 1),
@@ -81,6 +81,6 @@ fn marks() -> [u8; 8] {
     let mut marks = [9; 8];
     let sets = [&mut [0; 8], &mut [0; 8], &mut [0; 8]];
     let [start_sets, any_sets, contexts] = sets;
-    analyse(DROPPED, start_sets, any_sets, contexts, &mut marks).expect("an accepted table");
+    analyse(LOCK, start_sets, any_sets, contexts, &mut marks).expect("an accepted table");
     marks
 }

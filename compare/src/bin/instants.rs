@@ -81,7 +81,7 @@ fn write_files() -> Result<(), String> {
         add_vectors(&mut files, random, file)?;
     }
     type Family = fn(&mut Random) -> Vec<Case>;
-    let families: [(&str, Family); 7] = [
+    let families: [(&str, Family); 8] = [
         ("edges", |random| families::edges(random, LONGEST_EDGE)),
         ("small programs, all admitted states", |random| {
             families::small(random, 90)
@@ -93,6 +93,7 @@ fn write_files() -> Result<(), String> {
         }),
         ("lengths of buffers", |random| families::lengths(random, 18)),
         ("damaged tables", |random| families::damaged(random, 90)),
+        ("the lock program", families::lock),
     ];
     for (name, family) in families {
         let cases = family(random);

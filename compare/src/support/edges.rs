@@ -1,5 +1,5 @@
 //! Table W, the edges of document 01, the tables of its agreed readings, and the
-//! table of F-5.
+//! lock program of F-5.
 
 use crate::Refusal;
 
@@ -21,9 +21,9 @@ pub const W6: &[u8] = &[1, 0, 2, 0, 6, 5, 8, 0];
 pub const W7: &[u8] = &[1, 0, 2, 0, 10, 0];
 pub const W8: &[u8] = &[2, 0, 1, 0, 6, 5, 1, 0, 2, 0, 6, 5, 9, 0, 8, 0];
 
-/// The table of F-5: its inner loop, node 1, only pauses. The exit beside it
+/// The lock program of F-5: its inner loop, node 1, only pauses. The exit beside it
 /// drops it, and the outer loop starts it again in that instant.
-pub const DROPPED: &[u8] = &[2, 0, 8, 0, 2, 0, 4, 0, 9, 0, 10, 0, 11, 0, 8, 0];
+pub const LOCK: &[u8] = &[2, 0, 8, 0, 2, 0, 4, 0, 9, 0, 10, 0, 11, 0, 8, 0];
 
 pub fn edges() -> Vec<Edge> {
     let mut edges = table_w();

@@ -2,7 +2,7 @@
 
 use super::cases::{Call, Case};
 use super::damage::damaged as spoilt;
-use super::edges::{edges as edge_tables, W1};
+use super::edges::{edges as edge_tables, LOCK, W1};
 use super::programs::{accepted, ladder, ladder_answers, ladder_state, SHAPES};
 use super::random::Random;
 use super::states;
@@ -28,6 +28,14 @@ pub fn edges(random: &mut Random, longest: usize) -> Vec<Case> {
         cases.push(Case::new(random, Call::Resume, &edge.table, &first_held).answered(&[0]));
     }
     cases
+}
+
+/// The lock program, started, and resumed from the state that this leaves.
+pub fn lock(random: &mut Random) -> Vec<Case> {
+    vec![
+        Case::new(random, Call::Start, LOCK, &[9; 8]),
+        Case::new(random, Call::Resume, LOCK, &[1, 0, 1, 0, 0, 0, 0, 0]),
+    ]
 }
 
 /// Programs of few pauses: a start and all admitted states, each with exact,

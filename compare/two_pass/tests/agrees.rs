@@ -2,7 +2,7 @@
 //! the margins around them must agree, also where a table is refused.
 
 use compare::support::damage::{bad_table, damaged};
-use compare::support::edges::{edges, DROPPED};
+use compare::support::edges::{edges, LOCK};
 use compare::support::programs::{accepted, balanced, ladder, longest_listing, SHAPES};
 use compare::support::random::Random;
 use compare::support::SEED;
@@ -61,7 +61,7 @@ fn table_w_and_the_edges() {
         };
         assert_eq!(agreed_on(&edge.table), expected, "{}", edge.name);
     }
-    assert_eq!(agreed_on(DROPPED), 0);
+    assert_eq!(agreed_on(LOCK), 0);
 }
 
 #[test]

@@ -3,7 +3,7 @@ use mathlib.Core.Path.{_≡_, refl, sym, ap, subst, _∙_}
 use mathlib.Core.Logic.{_↔_}
 use mathlib.Core.Bool.{Bool, true, false}
 use mathlib.Core.Option.{Option, none, some}
-use mathlib.Core.List.{List, []}
+use mathlib.Core.List.{List, [], map}
 use Prim.Native.Nat.{ℕ, suc, _-_, _/_, _<_}
 use native.Mathlib.Decide.{decLt}
 use native.Mathlib.Omega.{arith}
@@ -26,6 +26,7 @@ use Rattle.esterel.proofs.Accepted.{acceptance, passes}
 use Rattle.esterel.proofs.Caught.{codes-few}
 use Rattle.esterel.proofs.LoopCheck.{decides}
 use Rattle.esterel.proofs.Refusals.{Told, refuses, told-numbered, length-told, program-told, length-first}
+use Rattle.esterel.proofs.Figure9.{figure9}
 use Rattle.esterel.proofs.Theorems.{exactness, loopCheck}
 use Rattle.analysis.specs.Passes.{Filled, wordsOf, onto}
 use Rattle.analysis.specs.Analysis.{checked, roomFor, verdictFor, answerOf, kOf, aOf, sOf, markOf, column, Analysis}
@@ -112,7 +113,7 @@ bit-of a low k = go (decLt k 64)
     go (no h) = ∋-past (word a) 64 k (word-lt a) (omega arith) ∙ sym (cannot-pass (a k) (λ e. h (low k e)))
 
 module _ {t k a s m k′ a′ s′ m′ : List ℕ} {n d : ℕ} (o : Analysis t k a s m k′ a′ s′ m′ (Done n d)) where
-  exact-sets : ExactSets t k′ n d
+  exact-sets : ExactSets t s m k′ s′ m′ n d
   unfolding column Filled
   exact-sets =
       let (p, v, en, ed) = done-of (verdictFor t k a s m) n d (o .answer) in
@@ -129,6 +130,8 @@ module _ {t k a s m k′ a′ s′ m′ : List ℕ} {n d : ℕ} (o : Analysis t 
         bits = λ i j h.
             (let (there, back) = exactness (statementAt (nodes p) i) (suc i - size (statementAt (nodes p) i)) j in
             (λ e. there (sym (entry i j h) ∙ e), λ f. entry i j h ∙ back f));
+        contextsAre = o .contextsAre ∙ ap (λ x. column sOf x s) v ∙ ap (λ x. onto (map sOf x) s) (figure9 p sound);
+        marksAre = o .marksAre ∙ ap (λ x. column markOf x m) v ∙ ap (λ x. onto (map markOf x) m) (figure9 p sound);
       }
 
 -- ---- refusals

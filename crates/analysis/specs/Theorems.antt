@@ -4,7 +4,7 @@ use Prim.Native.Nat.{ℕ, suc, _-_, _≤_, _<_}
 use mathlib.Core.Path.{_≡_}
 use mathlib.Core.Logic.{_↔_}
 use mathlib.Core.Bool.{true}
-use mathlib.Core.List.{List}
+use mathlib.Core.List.{List, map}
 use lib.ListN.{length, getD}
 use Rattle.codes.specs.Words.{_∋_}
 use Rattle.esterel.specs.Limits.{maxNodes}
@@ -13,8 +13,10 @@ use Rattle.esterel.specs.Table.{passed}
 use Rattle.esterel.specs.Checks.{verdict}
 use Rattle.esterel.specs.Instant.{start}
 use Rattle.esterel.specs.Outcome.{statementAt}
+use Rattle.esterel.specs.Figure9.{figureListing}
 use Rattle.esterel.specs.Theorems.{Finishes, WellFormed, EndedInK, EndsAtOnce, LowestLoop, NoLoop}
-use Rattle.analysis.specs.Analysis.{Analysis}
+use Rattle.analysis.specs.Passes.{onto}
+use Rattle.analysis.specs.Analysis.{sOf, markOf, Analysis}
 use Rattle.analysis.specs.declared.Analysed.{Analysed}
 use Rattle.analysis.specs.declared.Analysed.the-variants.{Done, Refused}
 
@@ -34,9 +36,9 @@ pub record ByLoops (p : Stmt) (r : Analysed) : Type 0 where
   pub accepts : (r ≡ Done (size p) (loopDepth p)) ↔ NoLoop p EndedInK
   pub acceptsExactly : (r ≡ Done (size p) (loopDepth p)) ↔ NoLoop p EndsAtOnce
 
--- after Done the table is that of an accepted program, and bit k of entry i of the start sets is 1 exactly if some answers make the
--- statement at node i, started, finish with code k
-pub record ExactSets (t starts′ : List ℕ) (n d : ℕ) : Type 0 where
+-- after Done the table is that of an accepted program; bit k of entry i of the start sets is 1 exactly if some answers make the
+-- statement at node i, started, finish with code k; and the contexts and marks are those of document 004's Figure 9 and its footnote
+pub record ExactSets (t contexts marks starts′ contexts′ marks′ : List ℕ) (n d : ℕ) : Type 0 where
   pub program : Stmt
   pub accepted : verdict t ≡ passed program
   pub nodesAre : n ≡ size program
@@ -44,6 +46,8 @@ pub record ExactSets (t starts′ : List ℕ) (n d : ℕ) : Type 0 where
   pub bits :
       (i k : ℕ) → i < n →
       ((getD starts′ i 0 ∋ k) ≡ true) ↔ Finishes (start (suc i - size (statementAt (nodes program) i)) (statementAt (nodes program) i)) k
+  pub contextsAre : contexts′ ≡ onto (map sOf (figureListing program)) contexts
+  pub marksAre : marks′ ≡ onto (map markOf (figureListing program)) marks
 
 -- a refusal has a number from 1 to 11 and a node that a table can have, and no lent buffer has changed
 pub record Unchanged (number node : ℕ) (starts anys contexts marks starts′ anys′ contexts′ marks′ : List ℕ) : Type 0 where
@@ -59,7 +63,7 @@ pub record Demand2OfCall : Type 0 where
   pub loops :
       (t k a s m k′ a′ s′ m′ : List ℕ) (p : Stmt) (r : Analysed) →
       Lent t p k a s m → Analysis t k a s m k′ a′ s′ m′ r → ByLoops p r
-  pub sets : (t k a s m k′ a′ s′ m′ : List ℕ) (n d : ℕ) → Analysis t k a s m k′ a′ s′ m′ (Done n d) → ExactSets t k′ n d
+  pub sets : (t k a s m k′ a′ s′ m′ : List ℕ) (n d : ℕ) → Analysis t k a s m k′ a′ s′ m′ (Done n d) → ExactSets t s m k′ s′ m′ n d
   pub refusals :
       (t k a s m k′ a′ s′ m′ : List ℕ) (number node : ℕ) →
       Analysis t k a s m k′ a′ s′ m′ (Refused number node) → Unchanged number node k a s m k′ a′ s′ m′

@@ -19,4 +19,4 @@ pub mod Ranges
 pub mod Subtrees
 pub mod Children
 pub mod Theorems
-pub mod Footnote
+pub mod Figure9

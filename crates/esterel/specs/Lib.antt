@@ -7,6 +7,6 @@ pub mod Checks
 pub mod Instant
 pub mod Outcome
 pub mod Theorems
-pub mod Footnote
+pub mod Figure9
 pub mod TableW
 pub mod Lock

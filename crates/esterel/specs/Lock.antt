@@ -6,12 +6,13 @@ use Rattle.esterel.specs.Table.{passed}
 use Rattle.esterel.specs.Checks.{verdict, listing, line}
 use Rattle.esterel.specs.Instant.{entry, started, resumed, closed, start, resume}
 
--- its inner loop only pauses; the neighbour's exit drops it, and the outer loop starts it again in that instant
-abbrev pub inner : Stmt
-inner = one trap (two parallel (one loop (leaf pause)) (two sequence (leaf pause) (leaf (exit 0))))
+-- a loop that only pauses, and beside it what drops it by an exit
+abbrev pub once : Stmt
+once = one trap (two parallel (one loop (leaf pause)) (two sequence (leaf pause) (leaf (exit 0))))
 
+-- the outer loop starts it again in that instant
 abbrev pub lock : Stmt
-lock = one loop inner
+lock = one loop once
 
 pub record Lock : Type 0 where
   pub read : verdict (2 ∷ 0 ∷ 8 ∷ 0 ∷ 2 ∷ 0 ∷ 4 ∷ 0 ∷ 9 ∷ 0 ∷ 10 ∷ 0 ∷ 11 ∷ 0 ∷ 8 ∷ 0 ∷ []) ≡ passed lock
@@ -34,5 +35,7 @@ pub record Lock : Type 0 where
       (1 ∷ 0 ∷ 1 ∷ 0 ∷ 0 ∷ 0 ∷ 0 ∷ 0 ∷ []) []
   -- without the outer loop nothing starts the parallel again: its S is empty, and so is S of its children
   pub linesOnce :
-      listing inner ≡
+      listing once ≡
       line 2 0 2 3 1 1 ∷ line 8 0 2 2 0 0 ∷ line 2 0 2 3 0 0 ∷ line 4 0 4 4 0 0 ∷ line 9 0 2 6 0 0 ∷ line 10 0 2 6 0 0 ∷ line 11 0 2 3 0 0 ∷ []
+  -- without the neighbour nothing drops the inner loop: its S has 0 alone, which it cannot give, and it has no mark
+  pub linesAlone : listing (one loop (one loop (leaf pause))) ≡ line 2 0 2 3 1 1 ∷ line 8 0 2 2 1 0 ∷ line 8 0 2 2 0 0 ∷ []

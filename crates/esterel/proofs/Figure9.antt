@@ -1,33 +1,33 @@
--- S here is the footnote's S without the codes past the traps around a node, and no statement there has such a code.
+-- S is that of Figure 9 without the codes past the traps around a node, and no statement there has such a code.
 use mathlib.Core.Path.{_≡_, refl, sym, ap, ap₂, _∙_}
-use mathlib.Core.Bool.{Bool, true, false, _&&_, or-true, or-false, and-true}
+use mathlib.Core.Bool.{Bool, true, false, _&&_, or-true, or-false, and-true, and-false}
 use mathlib.Core.List.{List, [], _∷_, _++_, map}
 use Prim.Native.Nat.{ℕ, zero, suc, _+_, _≤_, _<_}
 use native.Mathlib.Decide.{decLe}
 use native.Mathlib.Omega.{arith}
-use borrow.Author.Tests.{le-leb, lt-leb}
+use borrow.Author.Tests.{le-leb, lt-leb, ne-eqb}
 use lib.Dec.{leb, eqb·zero-suc}
 use Rattle.codes.proofs.Bools.{both, right, same-test}
 use Rattle.codes.proofs.Members.{upTo-in, upTo-out}
 use Rattle.codes.proofs.Laws.{word-same}
 use Rattle.codes.proofs.Ends.{upTo-same}
 use Rattle.esterel.specs.Statement.{Unary, signal, suspend, loop, trap, Binary, present, sequence, parallel, Stmt, leaf, one, two, kind, field, trapsUnder}
-use Rattle.esterel.specs.Codes.{Codes, empty, given, meets, underParallel, bit, word}
-use Rattle.esterel.specs.Sets.{startSet, anyInstantSet, Place, at, places, under, underLeft, underRight}
+use Rattle.esterel.specs.Codes.{Codes, empty, only, union, given, withoutEnded, meets, underParallel, bit, word}
+use Rattle.esterel.specs.Sets.{startSet, anyInstantSet, Place, at, places, under, underFirst, underLeft, underRight}
 use Rattle.esterel.specs.Checks.{line, lineOf}
-use Rattle.esterel.specs.Footnote.{allCodes, byFootnote, footnotePlaces, footnoteLine, Footnote}
+use Rattle.esterel.specs.Figure9.{figureUnder, figureBranch, figureLeft, figureRight, figurePlaces, figureLine, Figure9}
 use Rattle.esterel.proofs.Low.{Exits, start-low, any-low}
 use Rattle.esterel.proofs.Accepted.{exits-in}
 
--- S here and F by the footnote, of a node with t traps around it. An F that has a code past the traps came from a parallel, and has 1
+-- S of `Sets` and F of Figure 9, of a node with t traps around it. An F that has a code past the traps came from a parallel, and has 1
 record Agree (t : ℕ) (S F : Codes) : Type 0 where
   same : (k : ℕ) → k ≤ 1 + t → S k ≡ F k
   past : (k : ℕ) → 1 + t < k → S k ≡ false
   wide : (k : ℕ) → 1 + t < k → F k ≡ true → F 1 ≡ true
 
 module _ {t : ℕ} {S F : Codes} (g : Agree t S F) where
-  within : (k : ℕ) → S k ≡ (leb k (1 + t) && F k)
-  within k = go (decLe k (1 + t))
+  cut : (k : ℕ) → S k ≡ (leb k (1 + t) && F k)
+  cut k = go (decLe k (1 + t))
     where
       go : Dec (k ≤ 1 + t) → S k ≡ (leb k (1 + t) && F k)
       go (yes h) = g .same k h ∙ sym (ap (λ b. b && F k) (le-leb k (1 + t) h))
@@ -48,7 +48,7 @@ module _ {t : ℕ} {S F : Codes} (g : Agree t S F) where
       into : meets S S ≡ true → meets F F ≡ true
       into e =
           let (k, h, f) = upTo-out (λ k. S k && S k) 63 e in
-          let x : F k ≡ true = right (leb k (1 + t)) (sym (within k) ∙ right (S k) f) in
+          let x : F k ≡ true = right (leb k (1 + t)) (sym (cut k) ∙ right (S k) f) in
           upTo-in (λ k. F k && F k) k 63 h (both x x)
 
       has : (k : ℕ) → k ≤ 63 → k ≤ 1 + t → F k ≡ true → meets S S ≡ true
@@ -103,39 +103,65 @@ agree-under trap {t} {S} {F} g = record { same = same; past = past; wide = wide 
     wide (suc (suc zero)) h e = absurd (omega arith)
     wide (suc (suc (suc k))) h e = g .wide (suc (suc k)) (omega arith) e
 
-agree-parallel : {t : ℕ} {S F : Codes} → Agree t S F → Agree t (underParallel t S) (given (meets F F) allCodes)
-agree-parallel {t} {S} {F} g =
+agree-branch : {t : ℕ} {S F : Codes} → Agree t S F → Agree t (underParallel t S) (figureBranch F)
+agree-branch {t} {S} {F} g =
     record {
       same = λ k h. ap₂ _&&_ (le-leb k (1 + t) h) (same-some g) ∙ sym (and-true (meets F F));
       past = λ k h. ap (λ b. b && meets S S) (lt-leb k (1 + t) h);
       wide = λ k h e. e;
     }
 
-agree-left : (b : Binary) (q : Stmt) {t : ℕ} {S F : Codes} → Exits t q → Agree t S F → Agree t (underLeft b t S q) (byFootnote b F (underLeft b t F q))
-agree-left (present s) q x g = g
-agree-left parallel q x g = agree-parallel g
-agree-left sequence q {t} {S} {F} x g = record { same = same; past = past; wide = wide }
+agree-first : (q : Stmt) {t : ℕ} {S F : Codes} → Exits t q → Agree t S F → Agree t (underFirst S (startSet q)) (underFirst F (startSet q))
+agree-first q {t} {S} {F} x g = record { same = same; past = past; wide = wide }
   where
-    same : (k : ℕ) → k ≤ 1 + t → underLeft sequence t S q k ≡ underLeft sequence t F q k
+    same : (k : ℕ) → k ≤ 1 + t → underFirst S (startSet q) k ≡ underFirst F (startSet q) k
     same zero h = same-meets g (startSet q) (λ k e. start-low q t k x e)
     same (suc k) h = g .same (suc k) h
 
-    past : (k : ℕ) → 1 + t < k → underLeft sequence t S q k ≡ false
+    past : (k : ℕ) → 1 + t < k → underFirst S (startSet q) k ≡ false
     past zero h = absurd (omega arith)
     past (suc k) h = g .past (suc k) h
 
-    wide : (k : ℕ) → 1 + t < k → underLeft sequence t F q k ≡ true → F 1 ≡ true
+    wide : (k : ℕ) → 1 + t < k → underFirst F (startSet q) k ≡ true → F 1 ≡ true
     wide zero h e = absurd (omega arith)
     wide (suc k) h e = g .wide (suc k) h e
 
-agree-given : (test : Bool) {t : ℕ} {S F : Codes} → Agree t S F → Agree t (given test S) (given test F)
-agree-given true g = record { same = λ k h. g .same k h; past = λ k h. g .past k h; wide = λ k h e. g .wide k h e }
-agree-given false g = record { same = λ k h. refl; past = λ k h. refl; wide = λ k h e. e }
+agree-second : (test : Bool) {t : ℕ} {S F : Codes} → Agree t S F → Agree t (given test S) (given test F)
+agree-second true g = record { same = λ k h. g .same k h; past = λ k h. g .past k h; wide = λ k h e. g .wide k h e }
+agree-second false g = record { same = λ k h. refl; past = λ k h. refl; wide = λ k h e. e }
 
-agree-right : (b : Binary) (p : Stmt) {t : ℕ} {S F : Codes} → Agree t S F → Agree t (underRight b t S p) (byFootnote b F (underRight b t F p))
+-- what Figure 9 prints of P is what `Sets` has of it
+under-is : (u : Unary) (P : Codes) (k : ℕ) → figureUnder u P k ≡ under u P k
+under-is (signal s) P k = refl
+under-is (suspend s) P k = refl
+under-is loop P zero = sym (or-true (P 0))
+under-is loop P (suc k) = rw eqb·zero-suc (sym (or-false (P (suc k))))
+under-is trap P zero = simp (and-false, or-false)
+under-is trap P (suc zero) = simp (and-false, or-false)
+under-is trap P (suc (suc zero)) = and-true (P 0)
+under-is trap P (suc (suc (suc k))) = rw (ne-eqb 2 (suc (suc (suc k))) (omega arith), and-false, or-false)
+
+first-is : (P K : Codes) (k : ℕ) → union (withoutEnded P) (given (meets K P) (only 0)) k ≡ underFirst P K k
+first-is P K zero = and-true (meets K P)
+first-is P K (suc k) = rw (eqb·zero-suc, and-false, or-false)
+
+agree-as : {t : ℕ} {S F G : Codes} → ((k : ℕ) → G k ≡ F k) → Agree t S F → Agree t S G
+agree-as e g =
+    record {
+      same = λ k h. g .same k h ∙ sym (e k);
+      past = g .past;
+      wide = λ k h f. e 1 ∙ g .wide k h (sym (e k) ∙ f);
+    }
+
+agree-left : (b : Binary) (q : Stmt) {t : ℕ} {S F : Codes} → Exits t q → Agree t S F → Agree t (underLeft b t S q) (figureLeft b F q)
+agree-left (present s) q x g = g
+agree-left sequence q {t} {S} {F} x g = agree-as (first-is F (startSet q)) (agree-first q x g)
+agree-left parallel q x g = agree-branch g
+
+agree-right : (b : Binary) (p : Stmt) {t : ℕ} {S F : Codes} → Agree t S F → Agree t (underRight b t S p) (figureRight b F p)
 agree-right (present s) p g = g
-agree-right parallel p g = agree-parallel g
-agree-right sequence p g = agree-given (startSet p 0) g
+agree-right sequence p g = agree-second (startSet p 0) g
+agree-right parallel p g = agree-branch g
 
 -- the places of a program by both rules, node by node
 data Matched : List Place → List Place → Type 0 where
@@ -146,22 +172,22 @@ join : {xs ys zs ws : List Place} → Matched xs ys → Matched zs ws → Matche
 join none n = n
 join (also d t S F p g x m) n = also d t S F p g x (join m n)
 
-matched : (p : Stmt) (d t : ℕ) (S F : Codes) → Exits t p → Agree t S F → Matched (places d t S p) (footnotePlaces d t F p)
+matched : (p : Stmt) (d t : ℕ) (S F : Codes) → Exits t p → Agree t S F → Matched (places d t S p) (figurePlaces d t F p)
 matched (leaf l) d t S F x g = also d t S F (leaf l) g x none
 matched (one u p) d t S F x g =
-    join (matched p (suc d) (trapsUnder u t) (under u S) (under u F) x (agree-under u g)) (also d t S F (one u p) g x none)
+    join (matched p (suc d) (trapsUnder u t) (under u S) (figureUnder u F) x (agree-as (under-is u F) (agree-under u g))) (also d t S F (one u p) g x none)
 matched (two b p q) d t S F x g =
     let first = matched p (suc d) t _ _ (x .0) (agree-left b q (x .1) g) in
     let second = matched q (suc d) t _ _ (x .1) (agree-right b p g) in
     join (join first second) (also d t S F (two b p q) g x none)
 
-same-lines : {xs ys : List Place} → Matched xs ys → map lineOf xs ≡ map footnoteLine ys
+same-lines : {xs ys : List Place} → Matched xs ys → map lineOf xs ≡ map figureLine ys
 same-lines none = refl
 same-lines (also d t S F p g x m) =
-    ap₂ _∷_ (ap₂ (line (kind p) (field p) (word (startSet p)) (word (anyInstantSet p))) (word-same _ _ (λ k h. within g k)) (ap bit (same-meets g (anyInstantSet p) (λ k e. any-low p t k x e))))
+    ap₂ _∷_ (ap₂ (line (kind p) (field p) (word (startSet p)) (word (anyInstantSet p))) (word-same _ _ (λ k h. cut g k)) (ap bit (same-meets g (anyInstantSet p) (λ k e. any-low p t k x e))))
     (same-lines m)
 
-pub footnote : Footnote
-footnote p a =
+pub figure9 : Figure9
+figure9 p a =
     let outside : Agree 0 empty empty = record { same = λ k h. refl; past = λ k h. refl; wide = λ k h e. e } in
     same-lines (matched p 1 0 empty empty (exits-in p a) outside)
