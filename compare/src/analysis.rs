@@ -1,4 +1,4 @@
-//! The analysis: all sets and marks of a table, into lent buffers.
+//! The analysis: all sets and marks of a table, into lent buffers or new ones.
 
 use crate::{checks, sets, Refusal};
 
@@ -26,4 +26,34 @@ pub fn analyse(
     sets::fill_contexts(tree, &program.start_sets, &program.around.traps, contexts);
     sets::fill_marks(any_sets, contexts, &mut marks[..size]);
     Ok((size, program.loop_depth()))
+}
+
+/// All that the analysis finds, an entry a node.
+pub struct Sets {
+    pub start_sets: Vec<u64>,
+    pub any_sets: Vec<u64>,
+    pub contexts: Vec<u64>,
+    pub marks: Vec<u8>,
+    pub loop_depth: usize,
+}
+
+impl Sets {
+    pub fn of(table: &[u8]) -> Result<Sets, Refusal> {
+        let size = table.len() / 2;
+        let mut sets = Sets {
+            start_sets: vec![0; size],
+            any_sets: vec![0; size],
+            contexts: vec![0; size],
+            marks: vec![0; size],
+            loop_depth: 0,
+        };
+        (_, sets.loop_depth) = analyse(
+            table,
+            &mut sets.start_sets,
+            &mut sets.any_sets,
+            &mut sets.contexts,
+            &mut sets.marks,
+        )?;
+        Ok(sets)
+    }
 }

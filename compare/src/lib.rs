@@ -12,7 +12,7 @@ pub mod sets;
 pub mod support;
 pub mod table;
 
-pub use analysis::analyse;
+pub use analysis::{analyse, Sets};
 pub use instant::{resume, resume_with_trail, start, start_with_trail, Closed, Entry, How};
 pub use listing::listing;
 

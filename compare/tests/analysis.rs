@@ -3,7 +3,7 @@
 
 use compare::sets;
 use compare::support::edges::{edges, LOCK, W1};
-use compare::{analyse, listing, resume, start, Refusal};
+use compare::{analyse, listing, resume, start, Refusal, Sets};
 
 #[test]
 fn every_call_judges_the_edge_tables_alike() {
@@ -113,17 +113,7 @@ fn a_branch_under_an_empty_context_has_no_code() {
 }
 
 fn contexts(table: &[u8]) -> Vec<u64> {
-    let size = table.len() / 2;
-    let mut contexts = vec![0; size];
-    analyse(
-        table,
-        &mut vec![0; size],
-        &mut vec![0; size],
-        &mut contexts,
-        &mut vec![0; size],
-    )
-    .expect("an accepted table");
-    contexts
+    Sets::of(table).expect("an accepted table").contexts
 }
 
 #[test]
@@ -159,18 +149,8 @@ fn trap_of_sets_goes_code_by_code() {
 #[test]
 fn sets_of_accepted_tables() {
     for edge in edges().iter().filter(|edge| edge.refusal.is_none()) {
-        let size = edge.table.len() / 2;
-        let mut start_sets = vec![0; size];
-        let mut any_sets = vec![0; size];
-        analyse(
-            &edge.table,
-            &mut start_sets,
-            &mut any_sets,
-            &mut vec![0; size],
-            &mut vec![0; size],
-        )
-        .expect("an accepted table");
-        for (start_set, any_set) in start_sets.iter().zip(&any_sets) {
+        let sets = Sets::of(&edge.table).expect("an accepted table");
+        for (start_set, any_set) in sets.start_sets.iter().zip(&sets.any_sets) {
             assert_ne!(*start_set, 0, "{}", edge.name);
             assert_eq!(start_set & !any_set, 0, "{}", edge.name);
         }

@@ -4,7 +4,7 @@
 
 use std::collections::BTreeSet;
 
-use compare::analyse;
+use compare::Sets;
 
 /// The statements that decide something, with the number of their children:
 /// nothing, pause, two exits, present, loop, sequence, parallel, trap.
@@ -167,33 +167,20 @@ struct Counts {
 impl Counts {
     /// Compares all nodes of a table, if it is accepted.
     fn compare(&mut self, table: &[u8]) {
-        let size = table.len() / 2;
-        let (mut contexts, mut marks) = (vec![0; size], vec![0; size]);
-        let (mut start_sets, mut any_sets) = (vec![0; size], vec![0; size]);
-        let answer = analyse(
-            table,
-            &mut start_sets,
-            &mut any_sets,
-            &mut contexts,
-            &mut marks,
-        );
-        if answer.is_err() {
+        let Ok(sets) = Sets::of(table) else {
             return;
-        }
+        };
         self.tables += 1;
         let program = Program::new(table);
-        for node in 0..size {
+        for node in 0..table.len() / 2 {
             let (any_set, context) = (program.any_set(node), program.context(node));
             let common: Codes = &any_set & &context;
             let mark = u8::from(!common.is_empty());
-            assert_eq!(
-                bits(&program.start_set(node)),
-                start_sets[node],
-                "{table:?}"
-            );
-            assert_eq!(bits(&any_set), any_sets[node], "{table:?}");
-            assert_eq!(bits(&context), contexts[node], "{table:?}");
-            assert_eq!(mark, marks[node], "{table:?}");
+            let start_set = program.start_set(node);
+            assert_eq!(bits(&start_set), sets.start_sets[node], "{table:?}");
+            assert_eq!(bits(&any_set), sets.any_sets[node], "{table:?}");
+            assert_eq!(bits(&context), sets.contexts[node], "{table:?}");
+            assert_eq!(mark, sets.marks[node], "{table:?}");
             self.nodes += 1;
             self.marks += usize::from(mark);
             self.by_code_1 += usize::from(common == Codes::from([1]));

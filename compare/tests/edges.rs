@@ -2,7 +2,7 @@
 
 use compare::support::edges::{edges, W3, W7};
 use compare::support::states;
-use compare::{analyse, listing, resume, start, table, Closed};
+use compare::{listing, resume, start, table, Closed, Sets};
 
 /// All answers are absent; there are enough for any table.
 const ABSENT: [u8; 4096] = [0; 4096];
@@ -12,20 +12,7 @@ fn around(leaf: &[u8], nodes: &[u8], times: usize) -> Vec<u8> {
 }
 
 fn start_sets(table: &[u8]) -> Vec<u64> {
-    let size = table.len() / 2;
-    let mut start_sets = vec![0; size];
-    let mut others = vec![0; size];
-    let mut contexts = vec![0; size];
-    let mut marks = vec![0; size];
-    analyse(
-        table,
-        &mut start_sets,
-        &mut others,
-        &mut contexts,
-        &mut marks,
-    )
-    .expect("an accepted table");
-    start_sets
+    Sets::of(table).expect("an accepted table").start_sets
 }
 
 fn first_line(table: &[u8]) -> String {

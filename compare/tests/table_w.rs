@@ -1,7 +1,7 @@
 //! Table W of document 01.
 
 use compare::support::edges::*;
-use compare::{analyse, listing, resume, start, Closed, Refusal};
+use compare::{listing, resume, start, Closed, Refusal, Sets};
 
 #[test]
 fn w1_is_listed_as_the_document_prints_it() {
@@ -25,15 +25,7 @@ fn w3_and_w7_pause_when_started() {
 }
 
 fn last_start_set(table: &[u8]) -> Result<u64, Refusal> {
-    let mut start_sets = [0; 1024];
-    let (size, _) = analyse(
-        table,
-        &mut start_sets,
-        &mut [0; 1024],
-        &mut [0; 1024],
-        &mut [0; 1024],
-    )?;
-    Ok(start_sets[size - 1])
+    Ok(Sets::of(table)?.start_sets[table.len() / 2 - 1])
 }
 
 #[test]

@@ -1,50 +1,34 @@
 //! What holds of every trail, tried on random programs and states.
 
-use compare::analyse;
 use compare::support::programs::{accepted, ladder, ladder_answers, ladder_state, SHAPES};
 use compare::support::random::Random;
 use compare::support::{states, SEED};
 use compare::table::{self, Statement, Tree};
-use compare::{resume_with_trail, start_with_trail, Closed, Entry, How};
+use compare::{resume_with_trail, start_with_trail, Closed, Entry, How, Sets};
 
 struct Tried {
     table: Vec<u8>,
     tree: Tree,
-    start_sets: Vec<u64>,
-    loop_depth: usize,
+    sets: Sets,
 }
 
 impl Tried {
     fn new(table: Vec<u8>) -> Tried {
-        let size = table.len() / 2;
-        let mut start_sets = vec![0; size];
-        let (_, loop_depth) = analyse(
-            &table,
-            &mut start_sets,
-            &mut vec![0; size],
-            &mut vec![0; size],
-            &mut vec![0; size],
-        )
-        .expect("an accepted program");
+        let sets = Sets::of(&table).expect("an accepted program");
         let tree = table::read(&table).expect("an accepted program");
-        Tried {
-            table,
-            tree,
-            start_sets,
-            loop_depth,
-        }
+        Tried { table, tree, sets }
     }
 
     fn check(&self, closed: Closed, trail: &[Entry], state: &[u8]) {
         assert_eq!(closed.entries, trail.len());
         assert_eq!(closed.taken, self.answers_taken(trail));
         assert_eq!(closed.code, trail[0].code);
-        assert!(closed.entries <= self.tree.size() * (1 + self.loop_depth));
+        assert!(closed.entries <= self.tree.size() * (1 + self.sets.loop_depth));
         assert!(closed.code <= 1);
         let holds = state.contains(&1);
         assert_eq!(holds, closed.code == 1);
         for entry in trail.iter().filter(|entry| entry.how == How::Started) {
-            assert_eq!(self.start_sets[entry.node] >> entry.code & 1, 1);
+            assert_eq!(self.sets.start_sets[entry.node] >> entry.code & 1, 1);
             assert!(entry.code != 0 || !self.is_loop_body(entry.node));
         }
     }
@@ -147,6 +131,6 @@ fn a_ladder_enters_its_choice_once_more_than_its_loops() {
         assert_eq!(closed.taken, ladder_answers(steps).len());
         let choice = 2 * steps;
         let times = trail.iter().filter(|entry| entry.node == choice).count();
-        assert_eq!(times, 1 + tried.loop_depth);
+        assert_eq!(times, 1 + tried.sets.loop_depth);
     }
 }

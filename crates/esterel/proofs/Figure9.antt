@@ -1,7 +1,7 @@
 -- S is that of Figure 9 without the codes past the traps around a node, and no statement there has such a code.
 use mathlib.Core.Path.{_≡_, refl, sym, ap, ap₂, _∙_}
 use mathlib.Core.Bool.{Bool, true, false, _&&_, or-true, or-false, and-true, and-false}
-use mathlib.Core.List.{List, [], _∷_, _++_, map}
+use mathlib.Core.List.{map, map-append}
 use Prim.Native.Nat.{ℕ, zero, suc, _+_, _≤_, _<_}
 use native.Mathlib.Decide.{decLe}
 use native.Mathlib.Omega.{arith}
@@ -13,7 +13,7 @@ use Rattle.codes.proofs.Laws.{word-same}
 use Rattle.codes.proofs.Ends.{upTo-same}
 use Rattle.esterel.specs.Statement.{Unary, signal, suspend, loop, trap, Binary, present, sequence, parallel, Stmt, leaf, one, two, kind, field, trapsUnder}
 use Rattle.esterel.specs.Codes.{Codes, empty, only, union, given, withoutEnded, meets, underParallel, bit, word}
-use Rattle.esterel.specs.Sets.{startSet, anyInstantSet, Place, at, places, under, underFirst, underLeft, underRight}
+use Rattle.esterel.specs.Sets.{startSet, anyInstantSet, at, places, under, underFirst, underLeft, underRight}
 use Rattle.esterel.specs.Checks.{line, lineOf}
 use Rattle.esterel.specs.Figure9.{figureUnder, figureBranch, figureLeft, figureRight, figurePlaces, figureLine, Figure9}
 use Rattle.esterel.proofs.Low.{Exits, start-low, any-low}
@@ -155,7 +155,7 @@ agree-as e g =
 
 agree-left : (b : Binary) (q : Stmt) {t : ℕ} {S F : Codes} → Exits t q → Agree t S F → Agree t (underLeft b t S q) (figureLeft b F q)
 agree-left (present s) q x g = g
-agree-left sequence q {t} {S} {F} x g = agree-as (first-is F (startSet q)) (agree-first q x g)
+agree-left sequence q {F = F} x g = agree-as (first-is F (startSet q)) (agree-first q x g)
 agree-left parallel q x g = agree-branch g
 
 agree-right : (b : Binary) (p : Stmt) {t : ℕ} {S F : Codes} → Agree t S F → Agree t (underRight b t S p) (figureRight b F p)
@@ -163,31 +163,18 @@ agree-right (present s) p g = g
 agree-right sequence p g = agree-second (startSet p 0) g
 agree-right parallel p g = agree-branch g
 
--- the places of a program by both rules, node by node
-data Matched : List Place → List Place → Type 0 where
-  none : Matched [] []
-  also : {xs ys : List Place} (d t : ℕ) (S F : Codes) (p : Stmt) → Agree t S F → Exits t p → Matched xs ys → Matched (at d t S p ∷ xs) (at d t F p ∷ ys)
+own-line : (p : Stmt) (d : ℕ) {t : ℕ} {S F : Codes} → Exits t p → Agree t S F → lineOf (at d t S p) ≡ figureLine (at d t F p)
+own-line p d {t} x g =
+    ap₂ (line (kind p) (field p) (word (startSet p)) (word (anyInstantSet p))) (word-same _ _ (λ k h. cut g k))
+    (ap bit (same-meets g (anyInstantSet p) (λ k e. any-low p t k x e)))
 
-join : {xs ys zs ws : List Place} → Matched xs ys → Matched zs ws → Matched (xs ++ zs) (ys ++ ws)
-join none n = n
-join (also d t S F p g x m) n = also d t S F p g x (join m n)
-
-matched : (p : Stmt) (d t : ℕ) (S F : Codes) → Exits t p → Agree t S F → Matched (places d t S p) (figurePlaces d t F p)
-matched (leaf l) d t S F x g = also d t S F (leaf l) g x none
-matched (one u p) d t S F x g =
-    join (matched p (suc d) (trapsUnder u t) (under u S) (figureUnder u F) x (agree-as (under-is u F) (agree-under u g))) (also d t S F (one u p) g x none)
-matched (two b p q) d t S F x g =
-    let first = matched p (suc d) t _ _ (x .0) (agree-left b q (x .1) g) in
-    let second = matched q (suc d) t _ _ (x .1) (agree-right b p g) in
-    join (join first second) (also d t S F (two b p q) g x none)
-
-same-lines : {xs ys : List Place} → Matched xs ys → map lineOf xs ≡ map figureLine ys
-same-lines none = refl
-same-lines (also d t S F p g x m) =
-    ap₂ _∷_ (ap₂ (line (kind p) (field p) (word (startSet p)) (word (anyInstantSet p))) (word-same _ _ (λ k h. cut g k)) (ap bit (same-meets g (anyInstantSet p) (λ k e. any-low p t k x e))))
-    (same-lines m)
+lines : (p : Stmt) (d : ℕ) {t : ℕ} {S F : Codes} → Exits t p → Agree t S F → map lineOf (places d t S p) ≡ map figureLine (figurePlaces d t F p)
+lines (leaf l) d x g = rw (own-line (leaf l) d x g)
+lines (one u p) d {F = F} x g = simp (map-append, lines p (suc d) x (agree-as (under-is u F) (agree-under u g)), own-line (one u p) d x g)
+lines (two b p q) d x g =
+    simp (map-append, lines p (suc d) (x .0) (agree-left b q (x .1) g), lines q (suc d) (x .1) (agree-right b p g), own-line (two b p q) d x g)
 
 pub figure9 : Figure9
 figure9 p a =
     let outside : Agree 0 empty empty = record { same = λ k h. refl; past = λ k h. refl; wide = λ k h e. e } in
-    same-lines (matched p 1 0 empty empty (exits-in p a) outside)
+    lines p 1 (exits-in p a) outside

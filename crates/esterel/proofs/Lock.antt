@@ -5,4 +5,4 @@ use Rattle.esterel.specs.Lock.{Lock}
 
 pub lockProgram : Lock
 unfolding word
-lockProgram = record { read = refl; lines = refl; first = refl; next = refl; linesOnce = refl; linesAlone = refl }
+lockProgram = record { read = refl; lines = refl; first = refl; next = refl; linesOnce = refl; linesAlone = refl; linesFollowed = refl }
