@@ -9,18 +9,11 @@ use lib.Arith.{lt-of-le-ne}
 use lib.Count.{trailingZeros, leadingZeros, leading-top, under}
 use Rattle.codes.specs.Codes.{Codes, upTo}
 use Rattle.codes.specs.Words.{_∋_, setOf, leastFrom, greatestBelow}
+use Rattle.codes.specs.Theorems.{Lowest, Highest}
 use Rattle.codes.specs.declared.Found.the-variants.{Code}
 use Rattle.codes.proofs.Bits.{∋-low, ∋-suc, ∋-none}
 use Rattle.codes.proofs.WordBits.{code-lt}
 use Rattle.codes.proofs.Members.{upTo-in}
-
-pub record Lowest (a : Codes) (k : ℕ) : Type 0 where
-  pub is-in : a k ≡ true
-  pub least : (j : ℕ) → a j ≡ true → k ≤ j
-
-pub record Highest (a : Codes) (k : ℕ) : Type 0 where
-  pub is-in : a k ≡ true
-  pub most : (j : ℕ) → a j ≡ true → j ≤ k
 
 -- ---- the machine's counts
 

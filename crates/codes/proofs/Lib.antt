@@ -5,3 +5,4 @@ pub mod WordBits
 pub mod Ends
 pub mod Operations
 pub mod Laws
+pub mod Theorems

@@ -1,13 +1,15 @@
 -- The codes of each set that the rules make, for all codes together.
 use mathlib.Core.Path.{_≡_, refl}
-use mathlib.Core.Bool.{true, _&&_, _||_, or-true}
-use mathlib.Core.Logic.{_⊎_, inl, inr}
-use Prim.Native.Nat.{ℕ, zero, suc, _≤_, max}
+use mathlib.Core.Bool.{Bool, true, _&&_, _||_, or-true}
+use mathlib.Core.Logic.{_⊎_, inl, inr, ⊎-elim, _↔_}
+use Prim.Native.Nat.{ℕ, zero, suc, _+_, _≤_, max}
 use native.Mathlib.Nat.{max-eq-left, max-eq-right}
 use native.Mathlib.Decide.{decLe}
 use native.Mathlib.Omega.{arith}
-use lib.Dec.{eqb, eqb→eq, eqb-refl}
-use Rattle.codes.specs.Codes.{Codes, only, union, given, withoutEnded, upTo, larger, catchCode, caught}
+use borrow.Author.Tests.{leb-true}
+use lib.Dec.{eqb, leb, eqb→eq, eqb-refl}
+use Rattle.codes.specs.Codes.{Codes, only, union, given, withoutEnded, upTo, larger, catchCode, caught, meets, underTrap, underParallel}
+use Rattle.codes.specs.Theorems.{AtMost}
 use Rattle.codes.proofs.Bools.{both, left, right, either, inl-true, inr-true, toT, fromT}
 
 pub only-in : (k : ℕ) → only k k ≡ true
@@ -74,3 +76,46 @@ caught-out a zero e = go (either (a 0) (a 2) e)
     go (inr f) = (2, f, refl)
 caught-out a (suc zero) e = (1, e, refl)
 caught-out a (suc (suc k)) e = (suc (suc (suc k)), e, refl)
+
+-- `meets` looks below 64, and so overlooks no code where one set has none above 63
+pub meets-common : (a b : Codes) → AtMost 63 b → (meets a b ≡ true) ↔ ((k : ℕ) × (a k ≡ true) × (b k ≡ true))
+meets-common a b low = (
+  λ e. let (k, l, f) = upTo-out (λ k. a k && b k) 63 e in (k, left (a k) (b k) f, right (a k) f),
+  λ (k, e, f). upTo-in (λ k. a k && b k) k 63 (low k f) (both e f),
+)
+
+-- ---- the highest code that each can have
+
+pub only-most : (n c : ℕ) → c ≤ n → AtMost n (only c)
+only-most n c h k e = omega (arith, only-out c k e)
+
+pub given-most : (n : ℕ) (test : Bool) (a : Codes) → AtMost n a → AtMost n (given test a)
+given-most n test a la k e = la k (right test e)
+
+pub without-ended-most : (n : ℕ) (a : Codes) → AtMost n a → AtMost n (withoutEnded a)
+without-ended-most n a la zero e = omega arith
+without-ended-most n a la (suc k) e = la (suc k) e
+
+module _ (n : ℕ) (a b : Codes) (la : AtMost n a) (lb : AtMost n b) where
+  pub union-most : AtMost n (union a b)
+  union-most k e = ⊎-elim (la k) (lb k) (either (a k) (b k) e)
+
+  pub larger-most : AtMost n (larger a b)
+  larger-most k e =
+      let (i, j, f, g, z) = larger-out a b k e in
+      omega (arith, la i f, lb j g)
+
+-- a trap brings the codes from 3 on down by one, and under it those from 2 on go up by one
+pub caught-most : (n : ℕ) (a : Codes) → AtMost (suc (suc n)) a → AtMost (suc n) (caught a)
+caught-most n a la zero e = omega arith
+caught-most n a la (suc zero) e = omega arith
+caught-most n a la (suc (suc k)) e = omega (arith, la (suc (suc (suc k))) e)
+
+pub under-trap-most : (n : ℕ) (P : Codes) → AtMost (suc n) P → AtMost (suc (suc n)) (underTrap P)
+under-trap-most n P l zero e = omega arith
+under-trap-most n P l (suc zero) e = omega arith
+under-trap-most n P l (suc (suc zero)) e = omega arith
+under-trap-most n P l (suc (suc (suc k))) e = omega (arith, l (suc (suc k)) e)
+
+pub under-parallel-most : (t : ℕ) (P : Codes) → AtMost (suc t) (underParallel t P)
+under-parallel-most t P k e = omega (arith, leb-true k (1 + t) (left (leb k (1 + t)) (meets P P) e))

@@ -12,13 +12,14 @@ use lib.Bits.{bitAnd, bitOr, or-lt, and-le-r, and-self}
 use lib.Count.{trailingZeros, leadingZeros}
 use Rattle.codes.specs.Codes.{Codes, withoutEnded, upTo, larger, caught, meets, underTrap}
 use Rattle.codes.specs.Words.{_∋_, setOf, singletonOf, unionOf, withoutEndedOf, meetsOf, leastFrom, greatestBelow, lowestOf, highestOf, largerOf, parallelOf, caughtOf, underTrapOf, underParallelOf, spanOf}
+use Rattle.codes.specs.Theorems.{Lowest, Highest}
 use Rattle.codes.specs.declared.Found.{Found}
 use Rattle.codes.specs.declared.Found.the-variants.{Code, NoCode}
 use Rattle.codes.proofs.Bools.{both, left, right, either, inl-true, inr-true, same-test}
 use Rattle.codes.proofs.Members.{larger-in, larger-out}
 use Rattle.codes.proofs.Bits.{∋-none, ∋-and, ∋-or, ∋-shr, ∋-shl-mod, ∋-pow, ∋-ones, ∋-from, ∋-mod}
 use Rattle.codes.proofs.WordBits.{word-lt, ∋-word, is-word, word-same, word-empty}
-use Rattle.codes.proofs.Ends.{Lowest, Highest, trailing-lowest, trailing-lt, leading-highest, least-found, greatest-found, upTo-same, upTo-none, some-code}
+use Rattle.codes.proofs.Ends.{trailing-lowest, trailing-lt, leading-highest, least-found, greatest-found, upTo-same, upTo-none, some-code}
 
 and-fits : (a b : ℕ) → b < 2 ^ 64 → bitAnd a b < 2 ^ 64
 and-fits a b h = lt-of-le-of-lt (and-le-r a b) h
@@ -81,17 +82,17 @@ highest-none = refl
 -- ---- `parallel`
 
 -- an end of the set that w holds: there is none in 0, and else a code of this kind
-data End (P : Codes → ℕ → Type 0) (w : ℕ) : Found → Type 0 where
+pub data End (P : Codes → ℕ → Type 0) (w : ℕ) : Found → Type 0 where
   without : w ≡ 0 → End P w NoCode
   ends : (k : ℕ) → k < 64 → P (setOf w) k → End P w (Code k)
 
-lowest-end : (w : ℕ) → w < 2 ^ 64 → End Lowest w (lowestOf w)
+pub lowest-end : (w : ℕ) → w < 2 ^ 64 → End Lowest w (lowestOf w)
 lowest-end zero h = subst (End Lowest 0) lowest-none (without refl)
 lowest-end (suc m) h =
     let w = suc m in
     subst (End Lowest w) (lowest-is w (omega arith) h) (ends _ (trailing-lt 64 w (omega arith) h) (trailing-lowest 64 w (omega arith) h))
 
-highest-end : (w : ℕ) → w < 2 ^ 64 → End Highest w (highestOf w)
+pub highest-end : (w : ℕ) → w < 2 ^ 64 → End Highest w (highestOf w)
 highest-end zero h = subst (End Highest 0) highest-none (without refl)
 highest-end (suc m) h =
     let w = suc m in

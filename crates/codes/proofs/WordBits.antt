@@ -4,13 +4,15 @@ use mathlib.Core.Bool.{Bool, true, false, false≢true}
 use mathlib.Core.Logic.{_⊎_, inl, inr}
 use Prim.Native.Nat.{ℕ, zero, suc, _/_, _%_, _^_, _≤_, _<_}
 use native.Mathlib.Nat.{le-refl, zero-lt-suc, mod-lt, mod-eq-of-lt, eq-or-lt-of-le, div-lt-iff-lt-mul}
-use native.Mathlib.Decide.{decLe}
+use native.Mathlib.Decide.{decLe, decLt}
 use native.Mathlib.Omega.{arith}
 use lib.Dec.{eqb}
 use lib.Arith.{digits-lt}
 use lib.Pow.{pow-pos, split, high, low}
 use Rattle.codes.specs.Codes.{Codes, bit, wordBelow, word}
 use Rattle.codes.specs.Words.{_∋_, setOf}
+use Rattle.codes.specs.Theorems.{AtMost}
+use Rattle.codes.proofs.Bools.{cannot-pass}
 use Rattle.codes.proofs.Bits.{bit-test, ∋-mod, ∋-none, ∋-past}
 
 -- ---- at n bits
@@ -59,6 +61,14 @@ word-lt a = below-lt 64 a
 pub ∋-word : (a : Codes) (k : ℕ) → k < 64 → (word a ∋ k) ≡ a k
 unfolding word
 ∋-word a = ∋-below 64 a
+
+-- where no code is above 63, for every code
+pub ∋-all : (a : Codes) → AtMost 63 a → (k : ℕ) → (word a ∋ k) ≡ a k
+∋-all a low k = go (decLt k 64)
+  where
+    go : Dec (k < 64) → (word a ∋ k) ≡ a k
+    go (yes h) = ∋-word a k h
+    go (no h) = ∋-past (word a) 64 k (word-lt a) (omega arith) ∙ sym (cannot-pass (a k) (λ e. omega (arith, low k e)))
 
 pub word-same : (a b : Codes) → ((k : ℕ) → k < 64 → a k ≡ b k) → word a ≡ word b
 unfolding word

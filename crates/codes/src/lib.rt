@@ -1,6 +1,6 @@
 // Sets of completion codes, each held in a u64: bit k is 1 where code k is in the set.
 ghost use mathlib.Core.Path.{_≡_};
-ghost use Prim.Native.Nat.{_≤_, _<_};
+ghost use Prim.Native.Nat.{_+_, _<_};
 ghost use Rattle.codes.specs.Words.{_∋_, singletonOf, unionOf, withoutEndedOf, meetsOf, lowestOf, highestOf, largerOf, parallelOf, caughtOf, underTrapOf, underParallelOf, spanOf};
 
 // A code of a set, or that the set has none.
@@ -122,7 +122,7 @@ pub fn under_trap(context: u64) -> u64
 // The context of a parallel's child with `traps` traps around it, from the parallel's own: all codes that the child can
 // give, or none under an empty one (F-5).
 pub fn under_parallel(context: u64, traps: u32) -> u64
-    requires { ⌜ traps ≤ 62 ⌝ }
+    requires { ⌜ 1 + traps < 64 ⌝ }
     ensures { λ r. ⌜ r ≡ underParallelOf traps context ⌝ }
 {
     if context == 0 {
