@@ -37,7 +37,7 @@ definitions:
 VECTORS = ../shared/vectors
 vectors:
 	@cd compare && cargo build --release --offline --quiet
-	@compare/target/release/tables --listing-vectors $(VECTORS)/listing5_open.jsonl --tables-of $(VECTORS)/listing_open.jsonl crates/tables/stdin crates/tables/stdout
-	@compare/target/release/instants --instant-vectors $(VECTORS)/instants_open.jsonl crates/instants/stdin crates/instants/stdout
+	@compare/target/release/tables --listing-vectors $(VECTORS)/listing7_open.jsonl --tables-of $(VECTORS)/listing5_open.jsonl --tables-of $(VECTORS)/listing_open.jsonl crates/tables/stdin crates/tables/stdout
+	@compare/target/release/instants --instant-vectors $(VECTORS)/instants7_open.jsonl --instants-of $(VECTORS)/instants_open.jsonl crates/instants/stdin crates/instants/stdout
 	@for t in examples/*.table; do compare/target/release/list < $$t > $${t%.table}.listing; done
 	@git diff --stat -- crates examples

@@ -117,7 +117,7 @@ def vectors(file, wanted, chance, theorem):
         numbered = sorted(chance.sample(numbered, wanted))
     return [theorem(at, json.loads(line)) for at, line in numbered]
 
-# ---- the edges; what is expected was worked out by hand from document 01, and S under a parallel from F-5 of document 02
+# ---- the edges; what is expected was worked out by hand from document 01, and from F-5 (S under a parallel) and F-7 (62 traps) of document 02
 
 PAUSE, W1 = [2, 0], [2, 0, 3, 7, 9, 0, 8, 0]
 
@@ -130,6 +130,17 @@ def branches(count):  # a balanced parallel of pauses, of 2 * count - 1 nodes
 FULL = under(5, 1, branches(512))  # 1,024 nodes
 HELD = [int(kind == 2) for kind in FULL[::2]]
 
+# an exit to the outermost of 62 traps, beside a pause; all this beside a pause, in a loop
+LEFT = under(11, 62, [4, 61, 2, 0, 10, 0]) + [2, 0, 10, 0, 8, 0]
+# the same exit after a pause, beside a loop that only pauses; all in a loop
+DROPPED = under(11, 62, [2, 0, 8, 0, 2, 0, 4, 61, 9, 0, 10, 0]) + [8, 0]
+
+def up_to(code):  # the set of the codes from 0 on
+    return 2 ** (code + 1) - 1
+
+def held(size, *pauses):
+    return [int(node in pauses) for node in range(size)]
+
 REFUSED = {  # the number and the node, and tables that are refused so
     (1, 0): [branches(513), FULL + [2]], (2, 0): [[], [2], [12, 0, 1], FULL[:-1]],
     # 4 to 6: the first faulty node, then its lowest number
@@ -137,13 +148,14 @@ REFUSED = {  # the number and the node, and tables that are refused so
     (6, 0): [[9, 0], [9, 0, 12, 0], [5, 7]], (6, 1): [[2, 0, 9, 0]], (7, 0): [[2, 0, 2, 0]],
     # 8 to 11: the lowest node of all that fit, and each check covers the whole table before the next begins
     (8, 0): [under(5, 256, PAUSE), under(5, 256, [1, 0, 8, 0]), under(11, 256, PAUSE)], (8, 1): [PAUSE + under(5, 256, PAUSE) + [10, 0]],
-    (9, 1): [under(11, 33, PAUSE), under(11, 34, PAUSE), under(11, 33, [4, 40]), under(11, 32, [4, 0]) + PAUSE + [9, 0, 11, 0]],
-    (9, 2): [PAUSE + under(11, 33, PAUSE) + [10, 0]], (10, 0): [[4, 255], under(11, 32, [4, 32])],
+    (9, 1): [under(11, 63, PAUSE), under(11, 64, PAUSE), under(11, 63, [4, 70]), under(11, 62, [4, 0]) + PAUSE + [9, 0, 11, 0]],
+    (9, 2): [PAUSE + under(11, 63, PAUSE) + [10, 0]], (10, 0): [[4, 255], under(11, 62, [4, 62]), under(11, 33, [4, 33])],
     (10, 2): [[1, 0, 8, 0, 4, 0, 9, 0]], (11, 2): [[2, 0, 1, 0, 8, 0, 9, 0, 8, 0]],
 }
 ACCEPTED = {  # n, d and n(1 + d), and tables that are accepted so
     (1024, 0, 1024): [FULL], (256, 0, 256): [under(5, 255, PAUSE)], (257, 0, 257): [PAUSE + under(5, 254, PAUSE) + [10, 0]],
-    (256, 255, 65536): [under(8, 255, PAUSE)], (33, 0, 33): [under(11, 32, PAUSE), under(11, 32, [4, 31])],
+    (256, 255, 65536): [under(8, 255, PAUSE)], (63, 0, 63): [under(11, 62, PAUSE), under(11, 62, [4, 61])],
+    (34, 0, 34): [under(11, 33, PAUSE), under(11, 33, [4, 32])],
     (1, 0, 1): [[3, 255]], (2, 0, 2): [[2, 0, 5, 255], [2, 0, 7, 255]], (3, 0, 3): [[2, 0, 2, 0, 6, 255]],
 }
 LISTINGS = [  # a line: kind, field, K, A, S, mark
@@ -159,6 +171,16 @@ LISTINGS = [  # a line: kind, field, K, A, S, mark
                    (11, 0, 2, 3, 1, 1), (8, 0, 2, 2, 0, 0)])),
     ([2, 0, 2, 0, 10, 0], ok(3, 0, 3, [(2, 0, 2, 3, 0, 0), (2, 0, 2, 3, 0, 0), (10, 0, 2, 3, 0, 0)])),
     ([2, 0, 8, 0, 8, 0], ok(3, 2, 9, [(2, 0, 2, 3, 1, 1), (8, 0, 2, 2, 1, 0), (8, 0, 2, 2, 0, 0)])),
+    # F-7: code 63 is in K, A and S of the exit; t traps are around each trap, and the outermost turns code 2 into 0
+    (LEFT,
+     ok(68, 1, 136, [(4, 61, 1 << 63, 1 << 63, up_to(63), 1), (2, 0, 2, 3, up_to(63), 1), (10, 0, 1 << 63, 1 << 63, up_to(63), 1)]
+        + [(11, 0, 2 << t, 2 << t, up_to(1 + t), 1) for t in range(61, 0, -1)] + [(11, 0, 1, 1, 3, 1)]
+        + [(2, 0, 2, 3, 3, 1), (10, 0, 2, 3, 1, 1), (8, 0, 2, 2, 0, 0)])),
+    # code 63 only once the pause has ended: K of the parallel has 1 alone, A and S have 63, and 1 is not in S
+    (DROPPED,
+     ok(69, 2, 207, [(2, 0, 2, 3, up_to(63), 1), (8, 0, 2, 2, up_to(63), 1), (2, 0, 2, 3, up_to(63), 1), (4, 61, 1 << 63, 1 << 63, 0, 0),
+                     (9, 0, 2, 1 << 63 | 2, up_to(63), 1), (10, 0, 2, 1 << 63 | 2, up_to(63) - 2, 1)]
+        + [(11, 0, 2, 2 << t | 2, up_to(1 + t) - 2, 1) for t in range(61, 0, -1)] + [(11, 0, 2, 3, 1, 1), (8, 0, 2, 2, 0, 0)])),
 ]
 INSTANTS = [  # mode, table, state, answers
     # 1 and 2, then 3, then 4; a start's state is measured too, and its old bytes are not looked at
@@ -179,6 +201,12 @@ INSTANTS = [  # mode, table, state, answers
     # the largest program, and the deepest: of 255 loops the innermost alone starts its body once more
     ("started", FULL, [0] * 1024, [], ran(1, 0, 1024, HELD, [])), ("resumed", FULL, HELD, [], ran(0, 0, 1024, [0] * 1024, [])),
     ("resumed", under(8, 255, PAUSE), [1] + [0] * 255, [], ran(1, 0, 257, [1] + [0] * 255, [])),
+    # code 63 goes up to the outermost of 62 traps, which drops the pauses beneath it; the loop then starts its body once more
+    ("started", under(11, 62, [4, 61]), [9] * 63, [], ran(0, 0, 63, [0] * 63, [])),
+    ("started", LEFT, [0] * 68, [], ran(1, 0, 68, held(68, 65), [])), ("resumed", LEFT, held(68, 65), [], ran(1, 0, 3 + 67, held(68, 65), [])),
+    ("resumed", LEFT, held(68, 1), [], ran(1, 0, 66 + 67, held(68, 65), [])),
+    ("started", DROPPED, [0] * 69, [], ran(1, 0, 68, held(69, 0, 2), [])),
+    ("resumed", DROPPED, held(69, 0, 2), [], ran(1, 0, 70 + 67, held(69, 0, 2), [])),
 ]
 
 def edge_theorems():
@@ -250,8 +278,8 @@ def tell(theorem, message):
 
 def run(repo, args):
     chance = random.Random(args.seed)
-    listings = vectors(args.vectors / "listing5_open.jsonl", args.listings, chance, listing_theorem)
-    instants = vectors(args.vectors / "instants_open.jsonl", args.instants, chance, instant_theorem)
+    listings = vectors(args.vectors / "listing7_open.jsonl", args.listings, chance, listing_theorem)
+    instants = vectors(args.vectors / "instants7_open.jsonl", args.instants, chance, instant_theorem)
     edges, controls = edge_theorems(), control_theorems()
     theorems = {x.name: x for x in edges + listings + instants}
     copy_crates(repo, args.whole)

@@ -23,7 +23,7 @@
  * Codes and sets
  *
  * Completion code 0 is ended, 1 is paused, 2 + level is an exit. A set of codes is a 64-bit number
- * with bit k for code k.
+ * with bit k for code k. No code of an accepted program is above 63.
  *
  * What comes back
  *
@@ -45,7 +45,7 @@
  *          6  fewer unused statements stand before a node than it has children  yes
  *          7  more than one statement is left at the end                        no
  *          8  a node's depth is above 256                                       yes
- *          9  more than 32 traps stand around each other                        yes, a trap
+ *          9  more than 62 traps stand around each other                        yes, a trap
  *         10  an exit's level is not below the number of traps around it        yes, an exit
  *         11  a loop's body can end in the instant in which it is started       yes, the loop
  *         12  on resuming, the state is not admitted                            no

@@ -212,14 +212,39 @@ static void test_sets_of_edges(void)
     full_table(table);
     test_sets("2,048 bytes", table, sets, BAVZHRONO_MAX_NODES, 1);
 
-    /* Code 33 comes down by one at each trap, and the outermost catches it. */
-    for (size_t node = 0; node <= 32; node++) {
-        uint64_t set = node < 32 ? (uint64_t)1 << (33 - node) : 1;
+    /* Code 63 comes down by one at each trap, and the outermost catches it. */
+    for (size_t node = 0; node <= 62; node++) {
+        uint64_t set = node < 62 ? (uint64_t)1 << (63 - node) : 1;
         node_sets exited = {set, set, 0, 0};
         sets[node] = exited;
     }
-    around(table, 4, 31, 11, 32);
-    test_sets("level 31 under 32 traps", table, sets, 33, 0);
+    around(table, 4, 61, 11, 62);
+    test_sets("level 61 under 62 traps", table, sets, 63, 0);
+}
+
+/* A loop around two branches: 62 traps around an exit to the outermost beside a pause, and a
+   pause. Code 63 is in all sets of the exit. */
+static void test_code_63_in_all_sets(void)
+{
+    static const uint8_t inside[] = {4, 61, 2, 0, 10, 0}, outside[] = {2, 0, 10, 0, 8, 0};
+    static const uint64_t exited = (uint64_t)1 << 63, all = UINT64_MAX;
+    const node_sets innermost[3] = {{exited, exited, all, 1}, {2, 3, all, 1}, {exited, exited, all, 1}};
+    const node_sets outermost[3] = {{2, 3, 3, 1}, {2, 3, 1, 1}, {2, 2, 0, 0}};
+    uint8_t table[2 * 68];
+    node_sets sets[68];
+
+    memcpy(table, inside, sizeof inside);
+    memcpy(sets, innermost, sizeof innermost);
+    for (size_t node = 3; node < 65; node++) {
+        size_t traps = 64 - node; /* around this one */
+        node_sets trap = {traps == 0 ? 1 : (uint64_t)2 << traps, 0, all >> (62 - traps), 1};
+        trap.any_set = trap.start_set;
+        sets[node] = trap;
+        put(table + 2 * node, 11, 0);
+    }
+    memcpy(table + 2 * 65, outside, sizeof outside);
+    memcpy(sets + 65, outermost, sizeof outermost);
+    test_sets("code 63 in K, A and S", table, sets, 68, 1);
 }
 
 /* Refused tables: by number and node in three functions, as a line of text in the fourth. */
@@ -254,8 +279,8 @@ static void test_refused_by_check(void)
     test_refused("6, 9 0 alone", alone, sizeof alone, 6, 0);
     test_refused("7, 2 0 2 0", two, sizeof two, 7, 0);
     test_refused("8, depth 257", table, around(table, 2, 0, 5, 256), 8, 0);
-    test_refused("9, 33 traps", table, around(table, 2, 0, 11, 33), 9, 1);
-    test_refused("10, level 32 under 32 traps", table, around(table, 4, 32, 11, 32), 10, 0);
+    test_refused("9, 63 traps", table, around(table, 2, 0, 11, 63), 9, 1);
+    test_refused("10, level 62 under 62 traps", table, around(table, 4, 62, 11, 62), 10, 0);
     test_refused("11, W2", w2, sizeof w2, 11, 1);
     test_refused("11, W4", w4, sizeof w4, 11, 2);
     test_refused("10, W5", w5, sizeof w5, 10, 0);
@@ -467,6 +492,7 @@ int main(void)
     test_sets_of_table_w();
     test_sets_of_lock_program();
     test_sets_of_edges();
+    test_code_63_in_all_sets();
     test_refused_by_check();
     test_refused_at_the_last_node();
     test_macros();

@@ -4,8 +4,10 @@ use crate::sets::{self, ENDED};
 use crate::table::{self, Statement, Tree};
 use crate::Refusal;
 
-const MOST_DEPTH: usize = 256;
-const MOST_TRAPS: usize = 32;
+pub const MOST_DEPTH: usize = 256;
+/// By F-7. An exit to the outermost of so many traps has code 63, the last that a
+/// set has room for.
+pub const MOST_TRAPS: usize = 62;
 
 /// What stands around each node.
 pub struct Surroundings {

@@ -1,5 +1,5 @@
 //! Statement tables of pure Esterel, read from documents 01 and 02 alone: all of
-//! document 01, as F-5 of document 02 amends it.
+//! document 01, as F-5 and F-7 of document 02 amend it.
 //!
 //! The specification is in `table`, `checks`, `sets`, `analysis`, `listing`
 //! and `instant`. `support` serves the tests and the generators.

@@ -1,5 +1,5 @@
 //! Sets of completion codes: start sets K, any-instant sets A, context sets S
-//! and marks. A set is a number with bit k for code k.
+//! and marks. A set is a number with bit k for code k, from 0 to 63.
 
 use crate::table::{Statement, Tree};
 
@@ -110,6 +110,8 @@ fn context_of_second(outer: u64, first: u64) -> u64 {
     }
 }
 
+/// Code 63 has no place to move to. It is never in `outer`: a trap has at most 61
+/// others around it, and its codes end with 62.
 fn context_under_trap(outer: u64) -> u64 {
     let caught = if outer & ENDED != 0 { CAUGHT } else { 0 };
     let further_out = (outer & !(ENDED | PAUSED)) << 1;
@@ -123,7 +125,10 @@ fn context_under_parallel(outer: u64, traps: usize) -> u64 {
     if outer == 0 {
         return 0;
     }
-    (CAUGHT << traps) - 1
+    // The last one alone, then with all below it: under 62 traps it is code 63,
+    // and no bit is left above it.
+    let last = PAUSED << traps;
+    last | (last - 1)
 }
 
 /// Writes the marks: 1 where the any-instant set meets the context, else 0.

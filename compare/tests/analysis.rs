@@ -82,15 +82,6 @@ fn contexts_of_the_readings() {
 }
 
 #[test]
-fn a_context_reaches_code_33_under_32_traps() {
-    let mut table = vec![2, 0, 2, 0, 4, 31, 9, 0, 10, 0];
-    table.extend([11, 0].repeat(32));
-    table.extend([8, 0]);
-    let up_to_code_33 = (1u64 << 34) - 1;
-    assert_eq!(contexts(&table)[0], up_to_code_33);
-}
-
-#[test]
 fn the_listing_of_a_paused_branch_that_is_dropped() {
     // Worked out by hand. Nodes 1 and 4 are the branches, under one trap.
     let text = "ok 8 2 24
@@ -116,33 +107,50 @@ fn contexts(table: &[u8]) -> Vec<u64> {
     Sets::of(table).expect("an accepted table").contexts
 }
 
+/// The sets are made of these codes: the first ones, the last ones, and some of all.
+const CODES: [[u32; 6]; 3] = [
+    [0, 1, 2, 3, 4, 5],
+    [58, 59, 60, 61, 62, 63],
+    [0, 1, 2, 3, 33, 63],
+];
+
+/// All sets of some codes, each with its codes one by one.
+fn all_sets(of: [u32; 6]) -> Vec<(u64, Vec<u32>)> {
+    let mut sets = Vec::new();
+    for subset in 0..1 << of.len() {
+        let chosen = (0..of.len()).filter(|at| subset >> at & 1 == 1);
+        let codes: Vec<u32> = chosen.map(|at| of[at]).collect();
+        sets.push((set_of(codes.iter().copied()), codes));
+    }
+    sets
+}
+
+fn set_of(codes: impl Iterator<Item = u32>) -> u64 {
+    codes.fold(0, |set, code| set | 1 << code)
+}
+
 #[test]
 fn parallel_of_sets_is_every_larger_one() {
-    for left in 0..64u64 {
-        for right in 0..64u64 {
-            let mut larger = 0;
-            for one in (0..6).filter(|code| left >> code & 1 == 1) {
-                for other in (0..6).filter(|code| right >> code & 1 == 1) {
-                    larger |= 1 << one.max(other);
-                }
+    for sets in CODES.map(all_sets) {
+        for (left, left_codes) in &sets {
+            for (right, right_codes) in &sets {
+                let larger = |&one| right_codes.iter().map(move |&other| other.max(one));
+                let expected = set_of(left_codes.iter().flat_map(larger));
+                assert_eq!(sets::parallel(*left, *right), expected);
             }
-            assert_eq!(sets::parallel(left, right), larger);
         }
     }
 }
 
 #[test]
 fn trap_of_sets_goes_code_by_code() {
-    for body in 0..256u64 {
-        let mut codes = 0;
-        for code in (0..8u32).filter(|code| body >> code & 1 == 1) {
-            codes |= match code {
-                0 | 2 => 1,
-                1 => 2,
-                further_out => 1 << (further_out - 1),
-            };
-        }
-        assert_eq!(sets::trap(body), codes);
+    for (body, codes) in CODES.into_iter().flat_map(all_sets) {
+        let caught = codes.into_iter().map(|code| match code {
+            0 | 2 => 0,
+            1 => 1,
+            further_out => further_out - 1,
+        });
+        assert_eq!(sets::trap(body), set_of(caught));
     }
 }
 

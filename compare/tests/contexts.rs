@@ -1,6 +1,7 @@
 //! Contexts and marks by the sentences of document 01, with F-5's in place of
 //! its own for a parallel: each node goes up to the program by itself, and sets
-//! are made code by code. Slow, and so for small tables only: all of them.
+//! are made code by code. Slow, and so for small tables only: all of them, and
+//! again where exits have the last codes.
 
 use std::collections::BTreeSet;
 
@@ -31,42 +32,56 @@ const AROUND: [&[u8]; 2] = [
 
 const MOST_NODES_WITHIN: usize = 5;
 
+/// What is put around tables within 60 to 62 traps: a pause beside them, in a loop;
+/// a loop; and a loop within one more trap.
+const AROUND_TRAPS: [&[u8]; 3] = [&[2, 0, 10, 0, 8, 0], &[8, 0], &[8, 0, 11, 0]];
+
+const MOST_NODES_WITHIN_TRAPS: usize = 4;
+
+/// The exits in these tables go so many traps further out.
+const FURTHER_OUT: u8 = 60;
+
 type Codes = BTreeSet<usize>;
 
 struct Program<'a> {
     table: &'a [u8],
     children: Vec<Vec<usize>>,
+    /// The parent of each node; the program has none.
+    parents: Vec<Option<usize>>,
 }
 
 impl Program<'_> {
     /// Reads a table that is known to be accepted.
     fn new(table: &[u8]) -> Program<'_> {
         let mut children = Vec::new();
-        let mut unused = Vec::new();
+        let mut parents = vec![None; table.len() / 2];
+        let mut unused: Vec<usize> = Vec::new();
         for (node, bytes) in table.chunks_exact(2).enumerate() {
             let count = match bytes[0] {
                 1..=4 => 0,
                 6 | 9 | 10 => 2,
                 _ => 1,
             };
-            children.push(unused.split_off(unused.len() - count));
+            let own = unused.split_off(unused.len() - count);
+            for &child in &own {
+                parents[child] = Some(node);
+            }
+            children.push(own);
             unused.push(node);
         }
-        Program { table, children }
+        Program {
+            table,
+            children,
+            parents,
+        }
     }
 
     fn kind(&self, node: usize) -> u8 {
         self.table[2 * node]
     }
 
-    fn parent(&self, node: usize) -> Option<usize> {
-        self.children
-            .iter()
-            .position(|children| children.contains(&node))
-    }
-
     fn traps_around(&self, node: usize) -> usize {
-        match self.parent(node) {
+        match self.parents[node] {
             None => 0,
             Some(parent) => usize::from(self.kind(parent) == 11) + self.traps_around(parent),
         }
@@ -104,7 +119,7 @@ impl Program<'_> {
 
     /// S. The program has none; `outer` is P, the parent's.
     fn context(&self, node: usize) -> Codes {
-        let Some(parent) = self.parent(node) else {
+        let Some(parent) = self.parents[node] else {
             return Codes::new();
         };
         let outer = self.context(parent);
@@ -162,17 +177,19 @@ struct Counts {
     marks: usize,
     /// Marked nodes whose A and S share code 1 alone: without F-5 they have none.
     by_code_1: usize,
+    /// Nodes that have code 63, which is F-7's, in K and S.
+    with_code_63: usize,
 }
 
 impl Counts {
-    /// Compares all nodes of a table, if it is accepted.
-    fn compare(&mut self, table: &[u8]) {
+    /// Compares the first nodes of a table, if it is accepted.
+    fn compare(&mut self, table: &[u8], nodes: usize) {
         let Ok(sets) = Sets::of(table) else {
             return;
         };
         self.tables += 1;
         let program = Program::new(table);
-        for node in 0..table.len() / 2 {
+        for node in 0..nodes {
             let (any_set, context) = (program.any_set(node), program.context(node));
             let common: Codes = &any_set & &context;
             let mark = u8::from(!common.is_empty());
@@ -184,6 +201,7 @@ impl Counts {
             self.nodes += 1;
             self.marks += usize::from(mark);
             self.by_code_1 += usize::from(common == Codes::from([1]));
+            self.with_code_63 += usize::from(start_set.contains(&63) && context.contains(&63));
         }
     }
 }
@@ -193,17 +211,21 @@ fn bits(codes: &Codes) -> u64 {
 }
 
 /// All tables that begin with this one, of which so many statements are unused,
-/// and that are one statement at the end.
-fn every_table_from(table: &mut Vec<u8>, unused: usize, visit: &mut impl FnMut(&[u8])) {
+/// and that are one statement at the end, with room for so many more nodes.
+fn every_table_from(
+    table: &mut Vec<u8>,
+    unused: usize,
+    room: usize,
+    visit: &mut impl FnMut(&[u8]),
+) {
     if unused == 1 {
         visit(table);
     }
-    let room = MOST_NODES - table.len() / 2;
     for (letter, children) in STATEMENTS {
         // Each node still to come can make one of two.
         if children <= unused && unused + 1 - children <= room {
             table.extend(letter);
-            every_table_from(table, unused + 1 - children, visit);
+            every_table_from(table, unused + 1 - children, room - 1, visit);
             table.truncate(table.len() - 2);
         }
     }
@@ -212,15 +234,44 @@ fn every_table_from(table: &mut Vec<u8>, unused: usize, visit: &mut impl FnMut(&
 #[test]
 fn contexts_and_marks_of_all_small_tables() {
     let mut counts = Counts::default();
-    every_table_from(&mut Vec::new(), 0, &mut |table| {
-        counts.compare(table);
-        if table.len() <= 2 * MOST_NODES_WITHIN {
+    every_table_from(&mut Vec::new(), 0, MOST_NODES, &mut |table| {
+        let nodes = table.len() / 2;
+        counts.compare(table, nodes);
+        if nodes <= MOST_NODES_WITHIN {
             for around in AROUND {
-                counts.compare(&[table, around].concat());
+                counts.compare(&[table, around].concat(), nodes + around.len() / 2);
             }
         }
     });
     println!("{counts:?}");
     assert!(counts.tables > 20_000, "{counts:?}");
     assert!(counts.by_code_1 > 1_000, "{counts:?}");
+}
+
+#[test]
+fn contexts_and_marks_of_all_small_tables_within_62_traps() {
+    let mut counts = Counts::default();
+    every_table_from(&mut Vec::new(), 0, MOST_NODES_WITHIN_TRAPS, &mut |table| {
+        let table = exits_further_out(table);
+        for traps in 60..=62 {
+            for around in AROUND_TRAPS {
+                let within = [&table[..], &[11, 0].repeat(traps), around].concat();
+                // What is around these nodes is the same in all the tables.
+                counts.compare(&within, table.len() / 2);
+            }
+        }
+    });
+    println!("{counts:?}");
+    assert!(counts.tables > 900, "{counts:?}");
+    assert!(counts.with_code_63 > 300, "{counts:?}");
+}
+
+fn exits_further_out(table: &[u8]) -> Vec<u8> {
+    let mut table = table.to_vec();
+    for node in table.chunks_exact_mut(2) {
+        if node[0] == 4 {
+            node[1] += FURTHER_OUT;
+        }
+    }
+    table
 }

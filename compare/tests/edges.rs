@@ -1,4 +1,5 @@
-//! The edges of document 01 gone through value by value, and instants at them.
+//! The edges of document 01, with those of F-7, gone through value by value, and
+//! instants at them.
 
 use compare::support::edges::{edges, W3, W7};
 use compare::support::states;
@@ -42,7 +43,7 @@ fn every_field_is_free_or_refused_by_5() {
 
 #[test]
 fn a_level_is_below_the_number_of_traps() {
-    for traps in 0..=32 {
+    for traps in 0..=62 {
         for level in 0..=255 {
             let text = listing(&around(&[4, level], &[11, 0], traps));
             let is_caught = usize::from(level) < traps;
@@ -56,18 +57,26 @@ fn a_level_is_below_the_number_of_traps() {
 }
 
 #[test]
-fn an_exit_loses_a_level_at_each_trap() {
-    let table = around(&[4, 31], &[11, 0], 32);
-    let start_sets = start_sets(&table);
-    for (node, set) in start_sets.iter().enumerate().take(32) {
-        assert_eq!(*set, 1 << (33 - node), "{node}");
+fn more_than_62_traps_are_refused_by_9_at_the_innermost() {
+    for traps in 0..=70 {
+        let text = listing(&around(&[2, 0], &[11, 0], traps));
+        assert_eq!(text == "refused 9 1\n", traps > 62, "{traps}");
     }
-    assert_eq!(start_sets[32], 1);
+}
 
-    let mut state = [9; 33];
+#[test]
+fn an_exit_loses_a_level_at_each_trap() {
+    let table = around(&[4, 61], &[11, 0], 62);
+    let start_sets = start_sets(&table);
+    for (node, set) in start_sets.iter().enumerate().take(62) {
+        assert_eq!(*set, 1 << (63 - node), "{node}");
+    }
+    assert_eq!(start_sets[62], 1);
+
+    let mut state = [9; 63];
     let answer = start(&table, &[], &mut state, &mut [9; 256]);
-    assert_eq!(answer, Ok(Closed::new(0, 0, 33)));
-    assert_eq!(state, [0; 33]);
+    assert_eq!(answer, Ok(Closed::new(0, 0, 63)));
+    assert_eq!(state, [0; 63]);
 }
 
 #[test]

@@ -1,5 +1,6 @@
 //! What holds of every trail, tried on random programs and states.
 
+use compare::checks::MOST_TRAPS;
 use compare::support::programs::{accepted, ladder, ladder_answers, ladder_state, SHAPES};
 use compare::support::random::Random;
 use compare::support::{states, SEED};
@@ -83,7 +84,8 @@ fn answers(random: &mut Random) -> Vec<u8> {
 fn trails_of_random_programs() {
     let random = &mut Random::new(SEED);
     for number in 0..900 {
-        let nodes = if number % 30 == 0 { 1024 } else { 40 };
+        // A large one of every shape: 31 and the number of shapes share no divisor.
+        let nodes = if number % 31 == 0 { 1024 } else { 40 };
         let shape = &SHAPES[number % SHAPES.len()];
         let tried = Tried::new(accepted(random, shape, nodes));
 
@@ -117,7 +119,7 @@ fn trails_from_all_admitted_states_of_small_programs() {
 
 #[test]
 fn a_ladder_enters_its_choice_once_more_than_its_loops() {
-    for steps in 1..=32 {
+    for steps in 1..=MOST_TRAPS {
         let tried = Tried::new(ladder(steps));
         let mut state = ladder_state(steps);
         let (closed, trail) = resume_with_trail(

@@ -3,7 +3,9 @@
 use std::path::PathBuf;
 
 use compare::support::cases::Call;
+use compare::support::programs::traps_around;
 use compare::support::vectors::{directory, read_instants, read_listings};
+use compare::table::{self, Statement};
 use compare::{listing, resume_with_trail, start_with_trail};
 
 /// A test without its file fails, so that none passes unseen.
@@ -25,7 +27,7 @@ fn a_missing_file_is_a_failure() {
 
 #[test]
 fn listings() {
-    let vectors = read_listings(&vector_file("listing5_open.jsonl"));
+    let vectors = read_listings(&vector_file("listing7_open.jsonl"));
     assert!(!vectors.is_empty());
     for (line, vector) in vectors.iter().enumerate() {
         assert_eq!(listing(&vector.table), vector.listing, "line {}", line + 1);
@@ -33,19 +35,58 @@ fn listings() {
     println!("{} listings", vectors.len());
 }
 
-/// The listings of this file are by the rule before F-5. F-5 adds codes to
-/// contexts, and with them marks; all else stays.
+/// These are by F-5, with 32 traps: all that F-7 leaves as it is must be equal.
+#[test]
+fn listings_from_before_f7() {
+    check_older("listing5_open.jsonl", |before, after, line| {
+        assert_eq!(before, after, "line {line}");
+    });
+}
+
+/// These are by the rule before F-5, with 32 traps. F-5 adds codes to contexts, and
+/// with them marks; all else stays.
 #[test]
 fn listings_from_before_f5() {
-    let vectors = read_listings(&vector_file("listing_open.jsonl"));
-    let mut differing = 0;
+    check_older("listing_open.jsonl", check_additions);
+}
+
+/// Checks each listing of the file but those that its limit of 32 traps refused.
+fn check_older(name: &str, check: fn(&str, &str, usize)) {
+    let vectors = read_listings(&vector_file(name));
+    let (mut differing, mut by_9) = (0, 0);
     for (line, vector) in vectors.iter().enumerate() {
         let text = listing(&vector.table);
-        check_additions(&vector.listing, &text, line + 1);
+        if let Some(node) = refused_by_9(&vector.listing) {
+            check_traps(&vector.table, node, refused_by_9(&text));
+            by_9 += usize::from(text != vector.listing);
+        } else {
+            check(&vector.listing, &text, line + 1);
+        }
         differing += usize::from(text != vector.listing);
     }
-    println!("{} listings, {differing} differ", vectors.len());
-    assert!(differing > 0);
+    let all = vectors.len();
+    println!("{all} listings, {differing} differ, {by_9} of them refused by 9 before");
+    assert!(by_9 > 0);
+}
+
+/// The node of a refusal by check 9.
+fn refused_by_9(listing: &str) -> Option<usize> {
+    let node = listing.strip_prefix("refused 9 ")?.trim_end();
+    Some(node.parse().expect("a node"))
+}
+
+/// A table was refused at the lowest trap that is past the 32nd. Now it is only if
+/// one is past the 62nd, and at the lowest of those.
+fn check_traps(table: &[u8], before: usize, after: Option<usize>) {
+    let tree = table::read(table).expect("checks 4 to 7 come before 9");
+    let around = traps_around(&tree);
+    let lowest_past = |limit| {
+        (0..tree.size()).find(|&node| {
+            matches!(tree.statements[node], Statement::Trap { .. }) && around[node] > limit
+        })
+    };
+    assert_eq!(lowest_past(32), Some(before));
+    assert_eq!(lowest_past(62), after);
 }
 
 /// The first line is a refusal, or stands before one line a node.
@@ -82,7 +123,17 @@ fn columns(line: &str) -> Columns<'_> {
 
 #[test]
 fn instants() {
-    let vectors = read_instants(&vector_file("instants_open.jsonl"));
+    check_instants("instants7_open.jsonl");
+}
+
+/// These are with 32 traps. Check 9 refuses none of them, so that all must be equal.
+#[test]
+fn instants_from_before_f7() {
+    check_instants("instants_open.jsonl");
+}
+
+fn check_instants(name: &str) {
+    let vectors = read_instants(&vector_file(name));
     assert!(!vectors.is_empty());
     for (line, vector) in vectors.iter().enumerate() {
         let call = match vector.call {

@@ -3,7 +3,7 @@ use std::iter::FusedIterator;
 
 /// A set of completion codes, with bit k for code k.
 ///
-/// Code 0 is ended, 1 is paused, 2 + level is an exit.
+/// Code 0 is ended, 1 is paused, 2 + level is an exit. No code of an accepted program is above 63.
 ///
 /// ```
 /// use bavzhrono::CodeSet;

@@ -31,7 +31,7 @@ impl Refusal {
             6 => "fewer unused statements stand before a node than it has children",
             7 => "more than one statement is left at the end",
             8 => "a node's depth is above 256",
-            9 => "more than 32 traps stand around each other",
+            9 => "more than 62 traps stand around each other",
             10 => "an exit's level is not below the number of traps around it",
             11 => "a loop's body can end in the instant in which it is started",
             12 => "on resuming, the state is not admitted",

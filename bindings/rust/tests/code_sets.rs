@@ -22,9 +22,9 @@ fn codes_come_in_ascending_order() {
 
 #[test]
 fn a_set_contains_just_its_codes() {
-    let set = CodeSet(1 << 63 | 1 << 33 | 1);
+    let set = CodeSet(1 << 63 | 1 << 62 | 1);
     for code in 0..70 {
-        assert_eq!(set.contains(code), [0, 33, 63].contains(&code));
+        assert_eq!(set.contains(code), [0, 62, 63].contains(&code));
     }
     assert!(!CodeSet(u64::MAX).contains(64));
     assert!(!CodeSet(u64::MAX).contains(u32::MAX));

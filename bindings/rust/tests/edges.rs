@@ -1,4 +1,4 @@
-//! The accepted edges of document 01, with the sets that its rules give by hand.
+//! The accepted edges of documents 01 and 02, with the sets that their rules give by hand.
 
 mod common;
 
@@ -65,17 +65,88 @@ fn loop_depth_255() {
 }
 
 #[test]
-fn thirty_two_traps() {
-    let table = around([2, 0], [11, 0], 32);
-    assert_eq!(Sets::of(&table).unwrap().start_sets, [PAUSED; 33]);
+fn sixty_two_traps() {
+    let table = around([2, 0], [11, 0], 62);
+    assert_eq!(Sets::of(&table).unwrap().start_sets, [PAUSED; 63]);
 }
 
 #[test]
-fn level_31_under_32_traps() {
-    // Code 33 comes down by one at each trap, and the outermost catches it.
-    let codes = (2..=33).rev().chain([0]).map(|code| CodeSet(1 << code));
+fn level_61_under_62_traps() {
+    // Code 63 comes down by one at each trap, and the outermost catches it.
+    let codes = (2..=63).rev().chain([0]).map(|code| CodeSet(1 << code));
     let expected: Vec<CodeSet> = codes.collect();
-    let sets = Sets::of(&around([4, 31], [11, 0], 32)).unwrap();
+    let sets = Sets::of(&around([4, 61], [11, 0], 62)).unwrap();
     assert_eq!(sets.start_sets, expected);
     assert_eq!(sets.any_sets, expected);
+}
+
+/// The set of the codes from 0 to the given one.
+fn up_to(code: u32) -> CodeSet {
+    CodeSet(u64::MAX >> (63 - code))
+}
+
+/// A loop around two branches: 62 traps around an exit to the outermost beside a pause, and a pause.
+fn exit_beside_a_pause() -> Vec<u8> {
+    let exit = vec![4, 61, 2, 0, 10, 0];
+    [exit, [11, 0].repeat(62), vec![2, 0, 10, 0, 8, 0]].concat()
+}
+
+#[test]
+fn code_63_in_all_sets() {
+    let sets = Sets::of(&exit_beside_a_pause()).unwrap();
+    let exit = CodeSet(1 << 63);
+    // The exit, the pause beside it, and their parallel, with 62 traps around.
+    assert_eq!(sets.start_sets[..3], [exit, PAUSED, exit]);
+    assert_eq!(sets.any_sets[..3], [exit, EITHER, exit]);
+    assert_eq!(sets.contexts[..3], [up_to(63); 3]);
+    // The traps, from the innermost out: as many are around each as are still to come.
+    for (node, around) in (3..65).zip((0..62).rev()) {
+        let code = if around == 0 { 0 } else { 1 + around };
+        assert_eq!(sets.start_sets[node], CodeSet(1 << code));
+        assert_eq!(sets.any_sets[node], CodeSet(1 << code));
+        assert_eq!(sets.contexts[node], up_to(1 + around));
+    }
+    // The other pause, the outer parallel and the loop.
+    assert_eq!(sets.start_sets[65..], [PAUSED; 3]);
+    assert_eq!(sets.any_sets[65..], [EITHER, EITHER, PAUSED]);
+    assert_eq!(sets.contexts[65..], [up_to(1), ENDED, CodeSet::EMPTY]);
+    assert_eq!(sets.marks[..67], [Mark(1); 67]);
+    assert_eq!(sets.marks[67], Mark(0));
+}
+
+#[test]
+fn a_started_exit_leaves_62_traps() {
+    let table = exit_beside_a_pause();
+    let mut held = vec![0; 68];
+    held[65] = 1;
+    let mut lent = Buffers::for_table(&table, 0);
+    // Every node once; the outermost trap drops the pause beside the exit.
+    assert_eq!(lent.start(&table, &[]), closed(Completion::Paused, 0, 68));
+    assert_eq!(lent.state, held);
+    // The loop, the parallel and the pause, then all but the loop.
+    assert_eq!(
+        lent.resume(&table, &[]),
+        closed(Completion::Paused, 0, 3 + 67)
+    );
+    assert_eq!(lent.state, held);
+}
+
+#[test]
+fn an_exit_after_a_pause_leaves_62_traps() {
+    // The lock program of F-5 with 62 traps for one: its two pauses are held.
+    let lock = vec![2, 0, 8, 0, 2, 0, 4, 61, 9, 0, 10, 0];
+    let table = [lock, [11, 0].repeat(62), vec![8, 0]].concat();
+    let mut held = vec![0; 69];
+    held[0] = 1;
+    held[2] = 1;
+    let mut lent = Buffers::for_table(&table, 0);
+    // All but the exit.
+    assert_eq!(lent.start(&table, &[]), closed(Completion::Paused, 0, 68));
+    assert_eq!(lent.state, held);
+    // All, pause 0 twice; then the loop's body once more, but not the exit.
+    assert_eq!(
+        lent.resume(&table, &[]),
+        closed(Completion::Paused, 0, 70 + 67)
+    );
+    assert_eq!(lent.state, held);
 }

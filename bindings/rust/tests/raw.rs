@@ -87,7 +87,7 @@ fn refused_tables() -> Vec<(Vec<u8>, u32, u32)> {
         (vec![2, 0, 9, 0], 6, 1),
         (vec![2, 0, 2, 0], 7, 0),
         (right_sequences(256), 8, 255),
-        (around([2, 0], [11, 0], 33), 9, 1),
+        (around([2, 0], [11, 0], 63), 9, 1),
         (vec![2, 0, 4, 0, 9, 0], 10, 1),
         (W8.to_vec(), 11, 7),
         (full_table_of_nothing(), 11, 1023),

@@ -56,12 +56,12 @@ fn check_8_a_node_is_too_deep() {
 
 #[test]
 fn check_9_too_many_traps() {
-    assert_refused(&around([2, 0], [11, 0], 33), 9, 1);
+    assert_refused(&around([2, 0], [11, 0], 63), 9, 1);
 }
 
 #[test]
 fn check_10_an_exit_without_its_trap() {
-    assert_refused(&around([4, 32], [11, 0], 32), 10, 0);
+    assert_refused(&around([4, 62], [11, 0], 62), 10, 0);
 }
 
 #[test]

@@ -4,6 +4,7 @@
 //! signals absent, each ends its pauses, starts the bodies of its loops again
 //! and pauses where it paused before, so that the call can be repeated.
 
+use compare::checks::MOST_TRAPS;
 use compare::support::programs::balanced;
 
 pub struct Shape {
@@ -28,7 +29,7 @@ pub const SHAPES: [Shape; 5] = [
     Shape {
         name: "traps",
         part: traps,
-        most_nodes: 100,
+        most_nodes: 256,
     },
     Shape {
         name: "left",
@@ -80,10 +81,11 @@ fn wide(nodes: usize) -> Vec<u8> {
     filled_up(balanced(&leaf, (nodes + 1) / 5, PARALLEL), nodes)
 }
 
-/// Traps around each other, in each a choice between an exit and the next. A
-/// pause beside them keeps the loop from ending at once.
+/// Traps around each other, as many as there is room for or as are allowed; in each
+/// a choice between an exit and the next. A pause beside them keeps the loop from
+/// ending at once.
 fn traps(nodes: usize) -> Vec<u8> {
-    let count = (nodes - 4) / 3;
+    let count = ((nodes - 4) / 3).min(MOST_TRAPS);
     let mut exits = Vec::new();
     let mut choices = PAUSE.to_vec();
     for around in 1..=count {

@@ -9,8 +9,8 @@ pub struct Guarded<T> {
 }
 
 pub trait Cell: Copy {
-    /// What stands in a cell that has not been written. No call writes such a
-    /// value, so that a cell written by mistake is seen.
+    /// What stands in a cell that has not been written. None of the calls tried
+    /// writes this value to this cell, so that one written by mistake is seen.
     fn untouched(at: usize) -> Self;
 
     fn hex(self) -> String;
@@ -27,10 +27,13 @@ impl Cell for u8 {
     }
 }
 
-/// Calls write small numbers and sets of codes up to 33.
+/// Calls write small numbers and sets of codes. With codes up to 63 almost any
+/// number can be a set, and all ones often is. But for this one loops and sequences
+/// would have to stand between some fifty traps just as its bits have it, and the
+/// last bits would have to be the number of the cell.
 impl Cell for u64 {
     fn untouched(at: usize) -> u64 {
-        u64::MAX - at as u64
+        0xa5a5_a5a5_a5a5_0000 | at as u64
     }
 
     fn hex(self) -> String {

@@ -2,10 +2,10 @@
 
 use compare::support::calls::{Calls, COMPARE};
 use compare::support::cases::Call;
-use compare::support::edges::{W1, W2, W8};
+use compare::support::edges::{exits_through_all_traps, W1, W2, W8};
 use compare::support::random::Random;
 use compare::support::SEED;
-use compare::{sets, table};
+use compare::{sets, table, Sets};
 use differential::groups::refusals;
 use differential::tally::{Difference, Tally};
 use differential::trials::{Analysis, Instant, Rendering, Trial};
@@ -57,6 +57,25 @@ fn a_mark_written_past_the_nodes() {
         ..COMPARE
     };
     assert_noticed(wrong, &Analysis::with_lengths(W1, [4, 4, 4, 5]));
+}
+
+/// The context of node 0 is all 64 codes, which is no sign of an unwritten cell.
+#[test]
+fn a_context_of_all_codes_that_is_left_out() {
+    let wrong = Calls {
+        analyse: |table, start_sets, any_sets, contexts, marks, answer| {
+            let before = contexts[0];
+            let returned = (COMPARE.analyse)(table, start_sets, any_sets, contexts, marks, answer);
+            contexts[0] = before;
+            returned
+        },
+        ..COMPARE
+    };
+    for table in &exits_through_all_traps()[2..] {
+        let sets = Sets::of(table).expect("an accepted table");
+        assert_eq!(sets.contexts[0], u64::MAX);
+        assert_noticed(wrong, &Analysis::new(table));
+    }
 }
 
 #[test]

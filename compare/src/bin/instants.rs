@@ -1,6 +1,6 @@
 //! Writes instants to run, and the outcomes that are expected of them.
 //!
-//! Usage: `instants [--instant-vectors FILE] INPUT EXPECTED`
+//! Usage: `instants [--instant-vectors FILE].. [--instants-of FILE].. INPUT EXPECTED`
 //!
 //! INPUT holds the cases one after the other. All lengths are 2 bytes,
 //! little-endian. A case is
@@ -29,16 +29,18 @@
 //! refused NUMBER NODE STATEHEX =
 //! ```
 //!
-//! First come the cases of the vector file, with the outcomes of that file,
-//! then own ones.
+//! First come the cases of the instant vectors, with the outcomes of that file.
+//! Then, with outcomes of this implementation, come the further cases of older
+//! vector files (whose own outcomes are not looked at), and own ones.
 
+use std::collections::HashSet;
 use std::path::Path;
 use std::process::ExitCode;
 
 use compare::instant::SIGNALS;
 use compare::support::cases::{Case, Outcome};
 use compare::support::random::Random;
-use compare::support::vectors::{read_instants, InstantVector};
+use compare::support::vectors::{read_instants, InstantVector, Lent};
 use compare::support::{arguments, families, hex, SEED};
 use compare::Refusal;
 
@@ -72,16 +74,20 @@ impl Files {
 }
 
 fn write_files() -> Result<(), String> {
-    let arguments = arguments::read(["--instant-vectors"])?;
-    let [vectors] = &arguments.options;
+    let arguments = arguments::read(["--instant-vectors", "--instants-of"])?;
+    let [vectors, instants_of] = &arguments.options;
     println!("seed {SEED:#x}");
     let mut files = Files::default();
     let random = &mut Random::new(SEED);
-    if let Some(file) = vectors {
-        add_vectors(&mut files, random, file)?;
+    let mut written = HashSet::new();
+    for file in vectors {
+        add_vectors(&mut files, random, file, &mut written)?;
+    }
+    for file in instants_of {
+        add_instants_of(&mut files, random, file, &mut written);
     }
     type Family = fn(&mut Random) -> Vec<Case>;
-    let families: [(&str, Family); 8] = [
+    let families: [(&str, Family); 9] = [
         ("edges", |random| families::edges(random, LONGEST_EDGE)),
         ("small programs, all admitted states", |random| {
             families::small(random, 90)
@@ -94,6 +100,7 @@ fn write_files() -> Result<(), String> {
         ("lengths of buffers", |random| families::lengths(random, 18)),
         ("damaged tables", |random| families::damaged(random, 90)),
         ("the lock program", families::lock),
+        ("code 63 up to the outermost trap", families::last_code),
     ];
     for (name, family) in families {
         let cases = family(random);
@@ -112,14 +119,18 @@ fn write_files() -> Result<(), String> {
 }
 
 /// The cases of the file, and some of them again with a short emission buffer.
-fn add_vectors(files: &mut Files, random: &mut Random, file: &Path) -> Result<(), String> {
+fn add_vectors(
+    files: &mut Files,
+    random: &mut Random,
+    file: &Path,
+    written: &mut HashSet<Lent>,
+) -> Result<(), String> {
     let vectors = read_instants(file);
     let mut shortened = 0;
     for (line, vector) in vectors.iter().enumerate() {
-        let mut case =
-            Case::new(random, vector.call, &vector.table, &vector.state).answered(&vector.answers);
+        let mut case = case_of(random, vector);
         add_vector(files, line, vector, &case)?;
-        if line % 40 == 0 {
+        if line % 12 == 0 {
             case.emissions_length = *random.pick(&[0, 1, 128, 255]);
             add_vector(files, line, vector, &case)?;
             shortened += 1;
@@ -129,7 +140,29 @@ fn add_vectors(files: &mut Files, random: &mut Random, file: &Path) -> Result<()
         "vectors {}, all agree; with short emissions {shortened}",
         vectors.len()
     );
+    written.extend(vectors.iter().map(InstantVector::lent));
     Ok(())
+}
+
+fn add_instants_of(
+    files: &mut Files,
+    random: &mut Random,
+    file: &Path,
+    written: &mut HashSet<Lent>,
+) {
+    let mut further = 0;
+    for vector in read_instants(file) {
+        if written.insert(vector.lent()) {
+            let case = case_of(random, &vector);
+            files.add(&case, &case.run());
+            further += 1;
+        }
+    }
+    println!("further instants {further}");
+}
+
+fn case_of(random: &mut Random, vector: &InstantVector) -> Case {
+    Case::new(random, vector.call, &vector.table, &vector.state).answered(&vector.answers)
 }
 
 fn add_vector(

@@ -1,30 +1,30 @@
 //! Writes tables, and the listings that are expected of them.
 //!
-//! Usage: `tables [--listing-vectors FILE] [--tables-of FILE] INPUT EXPECTED`
+//! Usage: `tables [--listing-vectors FILE].. [--tables-of FILE].. INPUT EXPECTED`
 //!
 //! INPUT holds the tables one after the other, each as its length in bytes
 //! (2 bytes, little-endian) followed by that many bytes. EXPECTED holds the
 //! listings or refusal lines of the tables in the same order, exactly as the
-//! listing program prints them. First come the tables of the vector file, with
+//! listing program prints them. First come the tables of the listing vectors, with
 //! the texts of that file. Then, with texts of this implementation, come the
-//! tables of a second vector file that the first has not (its own texts, by an
-//! older rule, are not looked at), the edges, and random tables.
+//! further tables of older vector files (whose texts, by an older rule, are not
+//! looked at), the edges, and random tables.
 
 use std::collections::HashSet;
 use std::path::Path;
 use std::process::ExitCode;
 
+use compare::checks::MOST_TRAPS;
 use compare::listing;
-use compare::support::damage::bad_table;
+use compare::support::damage::{bad_table, BAD_NUMBERS};
 use compare::support::edges::edges;
 use compare::support::programs::{accepted, ladder, SHAPES};
 use compare::support::random::Random;
-use compare::support::vectors::read_listings;
+use compare::support::vectors::{read_listings, ListingVector};
 use compare::support::{arguments, hex, SEED};
 
 const ACCEPTED: usize = 250;
-const DAMAGED: usize = 190;
-const LADDERS: [usize; 4] = [1, 2, 8, 32];
+const LADDERS: [usize; 4] = [1, 2, 8, MOST_TRAPS];
 
 fn main() -> ExitCode {
     match write_files() {
@@ -60,11 +60,11 @@ fn write_files() -> Result<(), String> {
     println!("seed {SEED:#x}");
     let mut files = Files::default();
     let mut written = HashSet::new();
-    if let Some(file) = vectors {
-        written = add_vectors(&mut files, file)?;
+    for file in vectors {
+        add_vectors(&mut files, file, &mut written)?;
     }
-    if let Some(file) = tables_of {
-        add_tables_of(&mut files, file, &written);
+    for file in tables_of {
+        add_tables_of(&mut files, file, &mut written);
     }
     add_edges(&mut files)?;
     add_random(&mut files);
@@ -77,8 +77,11 @@ fn write_files() -> Result<(), String> {
     arguments.write(&files.input, files.expected.as_bytes())
 }
 
-/// Hands back the tables of the file.
-fn add_vectors(files: &mut Files, file: &Path) -> Result<HashSet<Vec<u8>>, String> {
+fn add_vectors(
+    files: &mut Files,
+    file: &Path,
+    written: &mut HashSet<Vec<u8>>,
+) -> Result<(), String> {
     let vectors = read_listings(file);
     for (line, vector) in vectors.iter().enumerate() {
         let ours = listing(&vector.table);
@@ -93,22 +96,20 @@ fn add_vectors(files: &mut Files, file: &Path) -> Result<HashSet<Vec<u8>>, Strin
         files.add(&vector.table, &vector.listing);
     }
     println!("vectors {}, all agree", vectors.len());
-    Ok(vectors.into_iter().map(|vector| vector.table).collect())
+    written.extend(vectors.into_iter().map(|vector| vector.table));
+    Ok(())
 }
 
-fn add_tables_of(files: &mut Files, file: &Path, written: &HashSet<Vec<u8>>) {
-    let (both, others): (Vec<_>, Vec<_>) = read_listings(file)
-        .into_iter()
-        .map(|vector| vector.table)
-        .partition(|table| written.contains(table));
-    for table in &others {
-        files.add(table, &listing(table));
+fn add_tables_of(files: &mut Files, file: &Path, written: &mut HashSet<Vec<u8>>) {
+    let mut further = 0;
+    for ListingVector { table, .. } in read_listings(file) {
+        if !written.contains(&table) {
+            files.add(&table, &listing(&table));
+            written.insert(table);
+            further += 1;
+        }
     }
-    println!(
-        "further tables {}, left out as written already {}",
-        others.len(),
-        both.len()
-    );
+    println!("further tables {further}");
 }
 
 fn add_edges(files: &mut Files) -> Result<(), String> {
@@ -142,11 +143,11 @@ fn add_random(files: &mut Files) {
         files.add(&table, &listing(&table));
     }
     println!("ladders {}", LADDERS.len());
-    for number in 0..DAMAGED {
+    for number in 0..BAD_NUMBERS {
         let table = bad_table(random, number);
         files.add(&table, &listing(&table));
     }
-    println!("damaged tables {DAMAGED}");
+    println!("damaged tables {BAD_NUMBERS}");
 }
 
 /// One big table of each shape, then mostly small ones.

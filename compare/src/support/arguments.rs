@@ -4,21 +4,21 @@ use std::fs;
 use std::path::{Path, PathBuf};
 
 pub struct Arguments<const N: usize> {
-    /// The file of each option, in the order in which the options were named.
-    pub options: [Option<PathBuf>; N],
+    /// The files of each option, in the order in which the options were named.
+    pub options: [Vec<PathBuf>; N],
     pub input: PathBuf,
     pub expected: PathBuf,
 }
 
-/// Reads `[NAME FILE] INPUT EXPECTED`, with any of the named options.
+/// Reads `[NAME FILE].. INPUT EXPECTED`, with the named options any number of times.
 pub fn read<const N: usize>(names: [&str; N]) -> Result<Arguments<N>, String> {
-    let mut options = names.map(|_| None);
+    let mut options = names.map(|_| Vec::new());
     let mut files = Vec::new();
     let mut arguments = std::env::args().skip(1);
     while let Some(argument) = arguments.next() {
         if let Some(option) = names.iter().position(|&name| name == argument) {
             let file = arguments.next().ok_or(format!("{argument} needs a file"))?;
-            options[option] = Some(PathBuf::from(file));
+            options[option].push(PathBuf::from(file));
         } else if argument.starts_with("--") {
             return Err(format!("unknown option {argument}"));
         } else {
@@ -34,7 +34,10 @@ pub fn read<const N: usize>(names: [&str; N]) -> Result<Arguments<N>, String> {
 }
 
 fn usage(names: &[&str]) -> String {
-    let options: String = names.iter().map(|name| format!("[{name} FILE] ")).collect();
+    let options: String = names
+        .iter()
+        .map(|name| format!("[{name} FILE].. "))
+        .collect();
     format!("usage: {options}INPUT EXPECTED")
 }
 

@@ -7,7 +7,7 @@ use crate::{resume, start, Closed, Refusal};
 /// Enough answers for a first try of any drawn program.
 const PLENTY: usize = 5000;
 
-#[derive(Clone, Copy, Debug, PartialEq, Eq)]
+#[derive(Clone, Copy, Debug, PartialEq, Eq, Hash)]
 pub enum Call {
     Start,
     Resume,

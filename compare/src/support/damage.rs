@@ -1,8 +1,13 @@
 //! Damaged tables: accepted programs that are spoilt in many ways. Some of the
 //! results are still accepted.
 
-use super::programs::{accepted, SHAPES};
+use super::programs::{accepted, traps_around, SHAPES};
 use super::random::Random;
+use crate::checks::MOST_TRAPS;
+use crate::table;
+
+/// The numbers of `bad_table` that give each way its share.
+pub const BAD_NUMBERS: usize = 190;
 
 /// A table for each check in turn, then damage of all kinds. Where a limit is
 /// tried, some tables stay within it.
@@ -14,7 +19,10 @@ pub fn bad_table(random: &mut Random, number: usize) -> Vec<u8> {
             let length = random.between(1, 40);
             random.bytes(length)
         }
-        10..=21 => wrapped(&small(random, number), 11, random.between(25, 36)),
+        10..=21 => {
+            let table = small(random, number);
+            within_traps(random, table)
+        }
         22..=27 => wrapped(&small(random, number), 5, random.between(244, 257)),
         28..=45 => {
             let mut table = small(random, number);
@@ -41,6 +49,22 @@ fn small(random: &mut Random, number: usize) -> Vec<u8> {
 /// The table with so many more nodes of one child around it.
 fn wrapped(table: &[u8], kind: u8, times: usize) -> Vec<u8> {
     [table, &[kind, 0].repeat(times)].concat()
+}
+
+/// The table within traps, about as many as are allowed. Some of its leaves become
+/// exits from all of them.
+fn within_traps(random: &mut Random, mut table: Vec<u8>) -> Vec<u8> {
+    let tree = table::read(&table).expect("an accepted program");
+    let own = traps_around(&tree);
+    // Below 60, since a small program has at most 60 nodes.
+    let most = own.iter().max().expect("at least one node");
+    let further = random.between(MOST_TRAPS - 2, MOST_TRAPS + 2) - most;
+    for (node, traps) in table.chunks_exact_mut(2).zip(own) {
+        if node[0] <= 4 && random.one_in(4) {
+            node.copy_from_slice(&[4, (traps + further - 1) as u8]);
+        }
+    }
+    wrapped(&table, 11, further)
 }
 
 /// Spoils a table in one of many ways.
@@ -92,7 +116,7 @@ fn flip_bit(random: &mut Random, bytes: &mut [u8]) {
 fn set_random_levels(random: &mut Random, bytes: &mut [u8]) {
     for node in bytes.chunks_exact_mut(2) {
         if node[0] == 4 && random.one_in(2) {
-            node[1] = *random.pick(&[0, 1, 2, 5, 31, 32, 63, 255]);
+            node[1] = *random.pick(&[0, 1, 2, 5, 33, 60, 61, 62, 255]);
         }
     }
 }

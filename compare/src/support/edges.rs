@@ -1,5 +1,5 @@
-//! Table W, the edges of document 01, the tables of its agreed readings, and the
-//! lock program of F-5.
+//! Table W, the edges of document 01 with those of F-7, the tables of its agreed
+//! readings, and the lock program of F-5.
 
 use crate::Refusal;
 
@@ -33,6 +33,7 @@ pub fn edges() -> Vec<Edge> {
     edges.extend(traps_and_levels());
     edges.extend(order_of_checks());
     edges.extend(sets_and_instants());
+    edges.extend(last_code());
     edges
 }
 
@@ -128,18 +129,22 @@ fn depths() -> Vec<Edge> {
 
 fn traps_and_levels() -> Vec<Edge> {
     vec![
-        accepted("32 traps", around(&[2, 0], &[11, 0], 32)),
-        refused("33 traps", around(&[2, 0], &[11, 0], 33), 9, 1),
-        refused("34 traps", around(&[2, 0], &[11, 0], 34), 9, 1),
+        // Refused before F-7.
+        accepted("33 traps", around(&[2, 0], &[11, 0], 33)),
+        accepted("level 32 under 33", around(&[4, 32], &[11, 0], 33)),
+        accepted("62 traps", around(&[2, 0], &[11, 0], 62)),
+        refused("63 traps", around(&[2, 0], &[11, 0], 63), 9, 1),
+        refused("64 traps", around(&[2, 0], &[11, 0], 64), 9, 1),
         refused(
-            "33 traps with signals between",
-            around(&[2, 0, 5, 0], &[11, 0, 5, 0], 33),
+            "63 traps with signals between",
+            around(&[2, 0, 5, 0], &[11, 0, 5, 0], 63),
             9,
             2,
         ),
-        accepted("level 31 under 32", around(&[4, 31], &[11, 0], 32)),
-        refused("level 32 under 32", around(&[4, 32], &[11, 0], 32), 10, 0),
-        refused("level 255 under 32", around(&[4, 255], &[11, 0], 32), 10, 0),
+        accepted("level 61 under 62", around(&[4, 61], &[11, 0], 62)),
+        refused("level 62 under 62", around(&[4, 62], &[11, 0], 62), 10, 0),
+        refused("level 255 under 62", around(&[4, 255], &[11, 0], 62), 10, 0),
+        refused("9 before level 62", around(&[4, 62], &[11, 0], 63), 9, 1),
         refused("level 1 under 1", [4, 1, 11, 0], 10, 0),
         accepted("level 0 under 1", [4, 0, 11, 0]),
         refused("level 0 beside the trap", [4, 0, 11, 0, 4, 0, 9, 0], 10, 2),
@@ -159,7 +164,7 @@ fn order_of_checks() -> Vec<Edge> {
         ),
         refused(
             "9 at node 2 before 10 at node 0",
-            early_exit(&around(&[2, 0], &[11, 0], 33)),
+            early_exit(&around(&[2, 0], &[11, 0], 63)),
             9,
             2,
         ),
@@ -196,20 +201,48 @@ fn sets_and_instants() -> Vec<Edge> {
         accepted("an emit under its own signal", [3, 7, 5, 7]),
         accepted("a pause beside an exit", [2, 0, 4, 0, 10, 0, 11, 0]),
         accepted("a loop left by an exit", [4, 0, 8, 0, 11, 0]),
+    ]
+}
+
+/// Code 63, the last one, in each of the sets.
+fn last_code() -> Vec<Edge> {
+    let [before_a_pause, after_a_pause, beside_a_pause, lock] = exits_through_all_traps();
+    vec![
+        accepted("an exit from 62 traps, in a loop", before_a_pause),
+        accepted("an exit from 62 traps, after a pause", after_a_pause),
+        accepted("code 63 in K, A and S", beside_a_pause),
+        accepted("the lock program with 62 traps", lock),
         accepted(
-            "an exit from 32 traps, in a loop",
+            "a context of all codes up to 63",
             after(
-                &around(&[4, 31, 2, 0, 10, 0], &[11, 0], 32),
-                &[2, 0, 9, 0, 8, 0],
-            ),
-        ),
-        accepted(
-            "a context of all codes up to 33",
-            after(
-                &around(&[2, 0, 2, 0, 4, 31, 9, 0, 10, 0], &[11, 0], 32),
+                &around(&[2, 0, 2, 0, 4, 61, 9, 0, 10, 0], &[11, 0], 62),
                 &[8, 0],
             ),
         ),
+        accepted(
+            "code 63 in S by the parallel alone",
+            after(&around(EXIT_AND_PAUSE, &[11, 0], 61), &[8, 0, 11, 0]),
+        ),
+    ]
+}
+
+/// An exit to the outermost of 62 traps, beside a pause.
+const EXIT_AND_PAUSE: &[u8] = &[4, 61, 2, 0, 10, 0];
+
+/// The branches of the lock program, with such an exit.
+const LOCK_BRANCHES: &[u8] = &[2, 0, 8, 0, 2, 0, 4, 61, 9, 0, 10, 0];
+
+/// Exits through 62 traps, in a loop: when the program is started or resumed, code 63
+/// goes up to the outermost trap, which catches it and drops a pause beneath. Before
+/// a pause, after one, beside one; and the lock program.
+pub fn exits_through_all_traps() -> [Vec<u8>; 4] {
+    let exit_and_pause = around(EXIT_AND_PAUSE, &[11, 0], 62);
+    let lock = around(LOCK_BRANCHES, &[11, 0], 62);
+    [
+        after(&exit_and_pause, &[2, 0, 9, 0, 8, 0]),
+        after(&[2, 0], &after(&exit_and_pause, &[9, 0, 8, 0])),
+        after(&exit_and_pause, &[2, 0, 10, 0, 8, 0]),
+        after(&lock, &[8, 0]),
     ]
 }
 

@@ -2,10 +2,11 @@
 
 use super::cases::{Call, Case};
 use super::damage::damaged as spoilt;
-use super::edges::{edges as edge_tables, LOCK, W1};
+use super::edges::{edges as edge_tables, exits_through_all_traps, LOCK, W1};
 use super::programs::{accepted, ladder, ladder_answers, ladder_state, SHAPES};
 use super::random::Random;
 use super::states;
+use crate::checks::MOST_TRAPS;
 use crate::table::{self, Tree};
 
 /// W9, then a start and a resumption of every edge table up to a length.
@@ -36,6 +37,20 @@ pub fn lock(random: &mut Random) -> Vec<Case> {
         Case::new(random, Call::Start, LOCK, &[9; 8]),
         Case::new(random, Call::Resume, LOCK, &[1, 0, 1, 0, 0, 0, 0, 0]),
     ]
+}
+
+/// Code 63 on its way to the outermost trap: a start, and all admitted states.
+pub fn last_code(random: &mut Random) -> Vec<Case> {
+    let mut cases = Vec::new();
+    for table in exits_through_all_traps() {
+        let tree = table::read(&table).expect("an accepted program");
+        let old = random.bytes(tree.size());
+        cases.push(Case::new(random, Call::Start, &table, &old));
+        for state in states::all_admitted(&tree) {
+            cases.push(Case::new(random, Call::Resume, &table, &state));
+        }
+    }
+    cases
 }
 
 /// Programs of few pauses: a start and all admitted states, each with exact,
@@ -143,7 +158,7 @@ fn counted(random: &mut Random, case: Case) -> Vec<Case> {
 /// Many entries in one instant.
 pub fn ladders(random: &mut Random) -> Vec<Case> {
     let mut cases = Vec::new();
-    for steps in [1, 2, 3, 5, 12, 32] {
+    for steps in [1, 2, 3, 5, 12, 32, MOST_TRAPS] {
         let table = ladder(steps);
         let answers = ladder_answers(steps);
         let state = ladder_state(steps);

@@ -1,7 +1,9 @@
 //! Random accepted programs of many shapes.
 
 use super::random::Random;
+use crate::checks::{MOST_DEPTH, MOST_TRAPS};
 use crate::sets;
+use crate::table::{Statement, Tree};
 
 /// How a family of programs is drawn.
 pub struct Shape {
@@ -26,7 +28,7 @@ pub const SHAPES: [Shape; 9] = [
     },
     Shape {
         name: "traps",
-        weights: [0, 1, 3, 1, 8, 1, 2, 1, 2, 2, 3, 14],
+        weights: [0, 1, 3, 1, 8, 1, 1, 1, 1, 1, 2, 20],
         split: Split::Even,
     },
     Shape {
@@ -65,9 +67,6 @@ pub const SHAPES: [Shape; 9] = [
         split: Split::Right,
     },
 ];
-
-const MOST_DEPTH: usize = 256;
-const MOST_TRAPS: usize = 32;
 
 /// Draws an accepted program of at most so many nodes.
 pub fn accepted(random: &mut Random, shape: &Shape, nodes: usize) -> Vec<u8> {
@@ -245,7 +244,7 @@ impl Draft<'_> {
 /// A program whose innermost statement can be entered 1 + d times in one
 /// instant, with loop depth d. Innermost is a loop around a choice between a
 /// pause and an exit to any of the traps. Each step puts a loop around a
-/// parallel of a pause and a trap around what there is. At most 32 steps.
+/// parallel of a pause and a trap around what there is. At most `MOST_TRAPS` steps.
 pub fn ladder(steps: usize) -> Vec<u8> {
     let mut table = vec![2, 0];
     for level in 0..steps {
@@ -285,6 +284,18 @@ pub fn ladder_answers(steps: usize) -> Vec<u8> {
     answers
 }
 
+/// The traps around each node, itself counted.
+pub fn traps_around(tree: &Tree) -> Vec<usize> {
+    let mut around = vec![0; tree.size()];
+    for (node, statement) in tree.statements.iter().enumerate() {
+        if let Statement::Trap { .. } = statement {
+            let within = &mut around[tree.lowest[node]..=node];
+            within.iter_mut().for_each(|traps| *traps += 1);
+        }
+    }
+    around
+}
+
 /// So many equal leaves under nodes of two children, as flat as can be.
 pub fn balanced(leaf: &[u8], leaves: usize, node: &[u8]) -> Vec<u8> {
     if leaves == 1 {
@@ -295,11 +306,9 @@ pub fn balanced(leaf: &[u8], leaves: usize, node: &[u8]) -> Vec<u8> {
     [&left[..], &right, node].concat()
 }
 
-/// A program with about the longest listing: exits from 32 traps, in a loop,
-/// so that nearly all sets reach code 33.
+/// A program with about the longest listing, of 1,024 nodes: exits from 62 traps,
+/// in a loop, so that nearly all sets reach code 63.
 pub fn longest_listing() -> Vec<u8> {
-    let mut table = balanced(&[4, 31], 494, &[10, 0]);
-    table.extend([11, 0].repeat(32));
-    table.extend([2, 0, 10, 0, 8, 0]);
-    table
+    let exits = balanced(&[4, 61], 480, &[10, 0]);
+    [&exits[..], &[11, 0].repeat(62), &[2, 0, 10, 0, 8, 0]].concat()
 }

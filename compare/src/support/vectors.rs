@@ -21,6 +21,16 @@ pub struct InstantVector {
     pub outcome: Result<VectorClosed, Refusal>,
 }
 
+/// The call and what is lent to it: table, answers, state.
+pub type Lent = (Call, Vec<u8>, Vec<u8>, Vec<u8>);
+
+impl InstantVector {
+    pub fn lent(&self) -> Lent {
+        let (table, answers) = (self.table.clone(), self.answers.clone());
+        (self.call, table, answers, self.state.clone())
+    }
+}
+
 /// What a vector says of an instant that closes.
 pub struct VectorClosed {
     pub closed: Closed,

@@ -1,6 +1,6 @@
 /*
- * The analysis of document 01, as F-5 of document 02 amends it, in two passes, written by hand for
- * speed: what the proved code is held against. The call is that of bavzhrono_analyse in
+ * The analysis of document 01, as F-5 and F-7 of document 02 amend it, in two passes, written by
+ * hand for speed: what the proved code is held against. The call is that of bavzhrono_analyse in
  * bindings/c/bavzhrono.h, under another name.
  *
  * The last child of a node is the node before it. So each pass has one statement at hand, which does
@@ -10,7 +10,7 @@
 #include <stdint.h>
 #include <string.h>
 
-enum { MAX_NODES = 1024, MAX_DEPTH = 256, MAX_TRAPS = 32, FIGURES = 3 };
+enum { MAX_NODES = 1024, MAX_DEPTH = 256, MAX_TRAPS = 62, FIGURES = 3 };
 
 enum kind {
     NOTHING = 1, PAUSE, EMIT, EXIT, SIGNAL, PRESENT, SUSPEND, LOOP, SEQUENCE, PARALLEL, TRAP
@@ -22,7 +22,7 @@ enum check {
     CHILD_MISSING, STATEMENTS_LEFT, TOO_DEEP, TOO_MANY_TRAPS, LEVEL_TOO_HIGH, LOOP_ENDS
 };
 
-/* A set of completion codes, bit k for code k. */
+/* A set of completion codes, bit k for code k, from 0 to 63: MAX_TRAPS fill it. */
 typedef uint64_t codes;
 
 #define ENDED ((codes)1)
@@ -65,7 +65,10 @@ static uint32_t refusal(enum check number, size_t node)
     return (uint32_t)number + 256u * (uint32_t)node;
 }
 
-/* Where a level is too high for the word, the table is refused, and any set will do. */
+/*
+ * Level 61 gives code 63; 62 and 63 give no code. Where a level is higher, the table is refused, and
+ * any set will do.
+ */
 static codes exit_to(unsigned level)
 {
     return CAUGHT << (level & 63);
@@ -136,7 +139,8 @@ static codes context_of_second(codes outer, uint8_t first_ends)
 /*
  * All codes up to the exit to the outermost trap (F-5, from footnote 4 of document 004), or nothing
  * under an empty context. Code 1 is among them: a branch that pauses can be dropped by its
- * neighbour's exit and started again in that instant.
+ * neighbour's exit and started again in that instant. Under 62 traps the exit above them has no bit,
+ * and 0 - 1 is the set of all 64 codes.
  */
 static codes context_under_parallel(codes outer, unsigned traps)
 {

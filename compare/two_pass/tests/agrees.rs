@@ -1,7 +1,8 @@
 //! The analysis in two passes beside compare's: what is returned, every entry of every buffer and
 //! the margins around them must agree, also where a table is refused.
 
-use compare::support::damage::{bad_table, damaged};
+use compare::checks::MOST_TRAPS;
+use compare::support::damage::{bad_table, damaged, BAD_NUMBERS};
 use compare::support::edges::{edges, LOCK};
 use compare::support::programs::{accepted, balanced, ladder, longest_listing, SHAPES};
 use compare::support::random::Random;
@@ -99,7 +100,7 @@ fn accepted_programs() {
         let table = accepted(random, &SHAPES[number % SHAPES.len()], nodes);
         assert_eq!(agreed_on(&table), 0);
     }
-    for steps in 1..=32 {
+    for steps in 1..=MOST_TRAPS {
         assert_eq!(agreed_on(&ladder(steps)), 0);
     }
     assert_eq!(agreed_on(&longest_listing()), 0);
@@ -111,7 +112,7 @@ fn damaged_tables_by_every_number() {
     let random = &mut Random::new(SEED);
     let mut met = [0; 12];
     for number in 0..5000 {
-        let table = bad_table(random, number % 190);
+        let table = bad_table(random, number % BAD_NUMBERS);
         met[agreed_on(&table) as usize % 256] += 1;
     }
     for number in 0..900 {
@@ -151,7 +152,7 @@ fn tables_far_past_the_limits() {
 fn several_faults_at_once() {
     let faults: [Vec<u8>; 4] = [
         [&[2, 0][..], &[7, 0].repeat(256)].concat(),
-        [&[2, 0][..], &[11, 0].repeat(33)].concat(),
+        [&[2, 0][..], &[11, 0].repeat(MOST_TRAPS + 1)].concat(),
         vec![4, 40],
         vec![1, 0, 8, 0],
     ];

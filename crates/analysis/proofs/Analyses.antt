@@ -11,10 +11,10 @@ use lib.Seq.{drop-at}
 use Rattle.codes.specs.Codes.{empty, word}
 use Rattle.codes.proofs.Bools.{left, right}
 use Rattle.esterel.specs.Statement.{Stmt, size, loopDepth}
-use Rattle.esterel.specs.Sets.{Place, at, placesOf, mark}
+use Rattle.esterel.specs.Sets.{startSet, anyInstantSet, Place, at, contextOf, stmtOf, placesOf, mark}
 use Rattle.esterel.specs.Table.{Verdict, passed, refused, scan}
 use Rattle.esterel.specs.Checks.{checkProgram, Line, lineOf, listing}
-use Rattle.esterel.proofs.Accepted.{stmtOf, statements}
+use Rattle.esterel.proofs.Accepted.{statements}
 use Rattle.table.specs.Program.{programOf}
 use Rattle.table.specs.Check.{refuse, passIf, lengthCheck}
 use Rattle.table.specs.Check.{answerOf as checkOf}
@@ -103,7 +103,7 @@ room-of n k a s m r e z =
 
 -- ---- the columns
 
-map-lines : (f : Line → ℕ) (g : Place → ℕ) → ((x : Place) → f (lineOf x) ≡ g x) → (ps : List Place) → map f (map lineOf ps) ≡ map g ps
+pub map-lines : (f : Line → ℕ) (g : Place → ℕ) → ((x : Place) → f (lineOf x) ≡ g x) → (ps : List Place) → map f (map lineOf ps) ≡ map g ps
 map-lines f g e [] = refl
 map-lines f g e (x ∷ ps) = rw (e x, map-lines f g e ps)
 
@@ -111,28 +111,29 @@ map-stmts : (f : Stmt → ℕ) (ps : List Place) → map (λ x. f (stmtOf x)) ps
 map-stmts f [] = refl
 map-stmts f (x ∷ ps) = rw (map-stmts f ps)
 
-pub starts-column : (p : Stmt) → map kOf (listing p) ≡ wordsOf false p
+-- the words of a node's line
+pub line-k : (x : Place) → kOf (lineOf x) ≡ word (startSet (stmtOf x))
+line-k (at d t S q) = refl
+
+pub line-a : (x : Place) → aOf (lineOf x) ≡ word (anyInstantSet (stmtOf x))
+line-a (at d t S q) = refl
+
+pub line-s : (x : Place) → sOf (lineOf x) ≡ word (contextOf x)
+line-s (at d t S q) = refl
+
+starts-column : (p : Stmt) → map kOf (listing p) ≡ wordsOf false p
 unfolding wordsOf
 starts-column p =
-    map-lines kOf (λ x. word (setOfStmt false (stmtOf x))) by (placesOf p) ∙ map-stmts (λ q. word (setOfStmt false q)) (placesOf p) ∙ ap (map (λ q. word (setOfStmt false q))) (statements p 1 0 empty)
-  where
-    by : (x : Place) → kOf (lineOf x) ≡ word (setOfStmt false (stmtOf x))
-    by (at d t S q) = refl
+    map-lines kOf (λ x. word (setOfStmt false (stmtOf x))) line-k (placesOf p) ∙ map-stmts (λ q. word (setOfStmt false q)) (placesOf p) ∙ ap (map (λ q. word (setOfStmt false q))) (statements p 1 0 empty)
 
 anys-column : (p : Stmt) → map aOf (listing p) ≡ wordsOf true p
 unfolding wordsOf
 anys-column p =
-    map-lines aOf (λ x. word (setOfStmt true (stmtOf x))) by (placesOf p) ∙ map-stmts (λ q. word (setOfStmt true q)) (placesOf p) ∙ ap (map (λ q. word (setOfStmt true q))) (statements p 1 0 empty)
-  where
-    by : (x : Place) → aOf (lineOf x) ≡ word (setOfStmt true (stmtOf x))
-    by (at d t S q) = refl
+    map-lines aOf (λ x. word (setOfStmt true (stmtOf x))) line-a (placesOf p) ∙ map-stmts (λ q. word (setOfStmt true q)) (placesOf p) ∙ ap (map (λ q. word (setOfStmt true q))) (statements p 1 0 empty)
 
 contexts-column : (p : Stmt) → map sOf (listing p) ≡ contextsOf p
 unfolding contextsOf
-contexts-column p = map-lines sOf contextWord by (placesOf p)
-  where
-    by : (x : Place) → sOf (lineOf x) ≡ contextWord x
-    by (at d t S q) = refl
+contexts-column p = map-lines sOf contextWord line-s (placesOf p)
 
 marks-column : (p : Stmt) → map markOf (listing p) ≡ marksOf p
 unfolding marksOf

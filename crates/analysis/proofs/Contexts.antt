@@ -9,13 +9,12 @@ use lib.ListN.{length, getD, set, length-append, length-map}
 use Rattle.codes.specs.Codes.{Codes, empty, only, union, given, withoutEnded, meets, bit, word}
 use Rattle.codes.specs.Words.{meetsOf}
 use Rattle.codes.proofs.Laws.{singleton-word, union-word, without-ended-word, meets-word, under-trap-word, under-parallel-word, given-word, word-same}
-use Rattle.esterel.specs.Limits.{maxNodes, maxDepth}
-use Rattle.esterel.specs.Statement.{nothing, Unary, signal, suspend, loop, trap, Binary, present, sequence, parallel, Stmt, leaf, one, two, kind, size, nodes}
-use Rattle.esterel.specs.Sets.{startSet, anyInstantSet, Place, at, placesOf, under, underFirst, underLeft, underRight, mark}
+use Rattle.esterel.specs.Limits.{maxNodes, maxDepth, maxTraps}
+use Rattle.esterel.specs.Statement.{Unary, signal, suspend, loop, trap, Binary, present, sequence, parallel, Stmt, leaf, one, two, kind, size, nodes}
+use Rattle.esterel.specs.Sets.{startSet, anyInstantSet, Place, placesOf, outside, placeAt, under, underFirst, underLeft, underRight, mark}
 use Rattle.esterel.specs.Outcome.{statementAt}
-use Rattle.esterel.proofs.Accepted.{exits-caught, length-places}
-use Rattle.esterel.proofs.Caught.{Caught, caught-places}
-use Rattle.esterel.proofs.Every.{every-at}
+use Rattle.esterel.proofs.Accepted.{length-places}
+use Rattle.esterel.proofs.Caught.{Caught, caught-at}
 use Rattle.esterel.proofs.Sizes.{size-pos}
 use Rattle.esterel.proofs.Subtrees.{two-children}
 use Rattle.table.specs.Kinds.{kindOf, arityOf, isTrap}
@@ -30,7 +29,7 @@ use Rattle.table.proofs.Walk.{Waiting, Walk, Next, program, begin, next, descen
 use Rattle.analysis.specs.Steps.{setOfStmt, underFirstOf, underSecondOf, firstOf, lastOf}
 use Rattle.analysis.specs.Contexts.{Descended}
 use Rattle.analysis.specs.declared.Surroundings.{Surroundings}
-use Rattle.analysis.specs.Passes.{Placed, Filled, onto, placeAt, firstEnds, contextWord, contextsOf, marksOf}
+use Rattle.analysis.specs.Passes.{Placed, Filled, onto, firstEnds, contextWord, contextsOf, marksOf}
 use Rattle.analysis.proofs.Nodes.{PlacesPass, places-pass, not-deep}
 
 first-word : (P K : Codes) → underFirstOf (word P) (word K) ≡ word (underFirst P K)
@@ -75,13 +74,13 @@ last-two parallel q r P t = under-parallel-word P t
 
 -- a column of the listing, by its places
 module _ (f : Place → ℕ) (p : Stmt) where
-  length-by-place : length (map f (placesOf p)) ≡ size p
+  pub length-by-place : length (map f (placesOf p)) ≡ size p
   length-by-place = length-map (placesOf p) f ∙ length-places p 1 0 empty
 
-  by-place-at : (i : ℕ) → i < size p → getD (map f (placesOf p)) i 0 ≡ f (placeAt p i)
+  pub by-place-at : (i : ℕ) → i < size p → getD (map f (placesOf p)) i 0 ≡ f (placeAt p i)
   by-place-at i h = go (placesOf p) i (rw (length-places p 1 0 empty) h)
     where
-      go : (l : List Place) (i : ℕ) → i < length l → getD (map f l) i 0 ≡ f (getD l i (at 0 0 empty (leaf nothing)))
+      go : (l : List Place) (i : ℕ) → i < length l → getD (map f l) i 0 ≡ f (getD l i outside)
       go [] i h = absurd (omega arith)
       go (x ∷ l) zero h = refl
       go (x ∷ l) (suc i) h = go l i (omega arith)
@@ -166,7 +165,7 @@ pub record Turn (t : List ℕ) (node : Surroundings) (contexts marks : List ℕ)
   pub table : 2 * i + 1 < length t
   pub waits : 0 < node .waiting
   pub fits : node .waiting ≤ maxDepth
-  pub traps : node .traps ≤ 62
+  pub traps : node .traps ≤ maxTraps
   pub inContexts : i < length contexts
   pub inMarks : i < length marks
   pub low : i < maxNodes
@@ -187,10 +186,9 @@ module _ {t : List ℕ} (ok : Placed t) {pending counts : List ℕ} {node : Surr
   pass : PlacesPass (placesOf (programOf t))
   pass = places-pass (placesOf (programOf t)) (ok .passes)
 
-  few-traps : w .traps ≤ 32
+  few-traps : w .traps ≤ maxTraps
   few-traps =
-      let c = every-at (at 0 0 empty (leaf nothing)) record { exits = tt; few = omega arith } (caught-places (programOf t) 1 0 empty (omega arith) (exits-caught (programOf t) 1 0 empty (pass .exits)) (pass .traps)) i in
-      let y : Caught (placeOf w) = rw (ahead .place) at c in
+      let y : Caught (placeOf w) = rw (ahead .place) at (caught-at (programOf t) (pass .traps) (pass .exits) i) in
       y .few
 
   fits : node .waiting ≤ maxDepth

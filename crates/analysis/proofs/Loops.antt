@@ -9,13 +9,13 @@ use native.Mathlib.Omega.{arith}
 use lib.ListN.{length, drop, drop-of-length-le}
 use lib.Seq.{drop-cons}
 use Rattle.esterel.specs.Codes.{empty}
-use Rattle.esterel.specs.Statement.{nothing, Stmt, leaf, size}
-use Rattle.esterel.specs.Sets.{at, placesOf}
+use Rattle.esterel.specs.Statement.{Stmt, size}
+use Rattle.esterel.specs.Sets.{placesOf, outside, placeAt}
 use Rattle.esterel.specs.Checks.{firstNode, endsAtOnce}
 use Rattle.esterel.proofs.Accepted.{length-places}
 use Rattle.table.specs.Check.{refuseFound}
 use Rattle.table.specs.declared.Check.the-variants.{Passed, Refused}
-use Rattle.analysis.specs.Passes.{loopsCheck, placeAt}
+use Rattle.analysis.specs.Passes.{loopsCheck}
 
 -- none found before node i
 pub record Searched (p : Stmt) (i : ℕ) : Type 0 where
@@ -24,7 +24,7 @@ pub record Searched (p : Stmt) (i : ℕ) : Type 0 where
 
 module _ {p : Stmt} {i : ℕ} (o : Searched p i) where
   next-place : i < size p → drop i (placesOf p) ≡ placeAt p i ∷ drop (suc i) (placesOf p)
-  next-place h = drop-cons (placesOf p) i (at 0 0 empty (leaf nothing)) (omega (arith, length-places p 1 0 empty))
+  next-place h = drop-cons (placesOf p) i outside (omega (arith, length-places p 1 0 empty))
 
   pub search-on : i < size p → (b : Bool) → b ≡ endsAtOnce (placeAt p i) → b ≡ false → Searched p (i + 1)
   search-on h b e z =

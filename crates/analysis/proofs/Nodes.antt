@@ -1,21 +1,21 @@
 -- What is known at a node of a table that passes checks 1 to 10, in the code's own terms.
 use mathlib.Core.Path.{_≡_, refl, sym, ap, ap₂, _∙_}
 use mathlib.Core.Bool.{Bool, true, false, cond, or-false}
-use mathlib.Core.Logic.{⊎-elim}
 use mathlib.Core.Option.{Option}
 use mathlib.Core.List.{List}
-use Prim.Native.Nat.{ℕ, _+_, _-_, _*_, _≤_, _<_}
+use Prim.Native.Nat.{ℕ, suc, _+_, _-_, _*_, _≤_, _<_}
 use native.Mathlib.Omega.{arith}
 use lib.Dec.{ltb, nltb→le}
 use lib.ListN.{getD}
-use Rattle.codes.specs.Codes.{Codes, empty, only, union, given, withoutEnded, word}
+use Rattle.codes.specs.Codes.{Codes, only, union, given, withoutEnded, word}
 use Rattle.codes.specs.Words.{_∋_, unionOf, withoutEndedOf}
-use Rattle.codes.proofs.Bools.{either, cannot-pass, toNot}
-use Rattle.codes.proofs.Members.{only-in, only-out}
+use Rattle.codes.specs.Theorems.{AtMost}
+use Rattle.codes.proofs.Bools.{cannot-pass, toNot}
+use Rattle.codes.proofs.Members.{only-in, only-most, union-most}
 use Rattle.codes.proofs.Laws.{singleton-word, union-word, without-ended-word, parallel-word, caught-word, ∋-word, word-same}
-use Rattle.esterel.specs.Limits.{maxDepth}
+use Rattle.esterel.specs.Limits.{maxDepth, maxTraps}
 use Rattle.esterel.specs.Statement.{Leaf, nothing, pause, emit, exit, Unary, signal, suspend, loop, trap, Binary, present, sequence, parallel, Stmt, leaf, one, two, kind, field, size, nodes}
-use Rattle.esterel.specs.Sets.{Place, at, placesOf}
+use Rattle.esterel.specs.Sets.{Place, placesOf, outside, placeAt}
 use Rattle.esterel.specs.Checks.{firstNode, tooDeep, tooManyTraps, uncaught}
 use Rattle.esterel.specs.Outcome.{statementAt}
 use Rattle.esterel.proofs.Accepted.{Passes, first-passes}
@@ -58,9 +58,9 @@ places-pass ps e =
     }
 
 -- the codes of a pause are 0 and 1
-pub pause-few : (any : Bool) (k : ℕ) → pauseSet any k ≡ true → k ≤ 1
-pause-few true k e = ⊎-elim (λ f. omega (arith, only-out 0 k f)) (λ f. omega (arith, only-out 1 k f)) (either (only 0 k) (only 1 k) e)
-pause-few false k e = omega (arith, only-out 1 k e)
+pub pause-few : (any : Bool) → AtMost 1 (pauseSet any)
+pause-few true = union-most 1 (only 0) (only 1) (only-most 1 0 (omega arith)) (only-most 1 1 (omega arith))
+pause-few false = only-most 1 1 (omega arith)
 
 sequence-word : (a b : Codes) → sequenceOf (word a) (word b) ≡ word (union (withoutEnded a) (given (a 0) b))
 unfolding sequenceOf
@@ -98,20 +98,20 @@ wordOf any w = word (setOfStmt any (w .root))
 
 module _ {t : List ℕ} (ok : Placed t) where
   -- no node is too deep
-  pub not-deep : (i : ℕ) (w : Waiting) → getD (placesOf (programOf t)) i (at 0 0 empty (leaf nothing)) ≡ placeOf w → w .depth ≤ maxDepth
+  pub not-deep : (i : ℕ) (w : Waiting) → placeAt (programOf t) i ≡ placeOf w → w .depth ≤ maxDepth
   not-deep i w e =
-      let x = every-at (at 0 0 empty (leaf nothing)) refl (places-pass (placesOf (programOf t)) (ok .passes) .depths) i in
+      let x = every-at outside refl (places-pass (placesOf (programOf t)) (ok .passes) .depths) i in
       let y : tooDeep (placeOf w) ≡ false = rw e at x in
       nltb→le maxDepth (w .depth) (toNot (ltb maxDepth (w .depth)) y)
 
-  -- no code is above 33
-  few : (any : Bool) (j k : ℕ) → setOfStmt any (statementAt (nodes (programOf t)) j) k ≡ true → k ≤ 33
-  few any j k e =
+  -- no code is past the outermost trap's
+  few : (any : Bool) (j : ℕ) → AtMost (suc maxTraps) (setOfStmt any (statementAt (nodes (programOf t)) j))
+  few any j =
       let pass = places-pass (placesOf (programOf t)) (ok .passes) in
-      codes-few (programOf t) (pass .traps) (pass .exits) (pauseSet any) (pause-few any) j k e
+      codes-few (programOf t) (pass .traps) (pass .exits) (pauseSet any) (pause-few any) j
 
   -- the level of an exit
-  exit-low : (i : ℕ) (w : Stmt) → statementAt (nodes (programOf t)) i ≡ w → kindOf (kind w) ≡ Exit → field w < 62
+  exit-low : (i : ℕ) (w : Stmt) → statementAt (nodes (programOf t)) i ≡ w → kindOf (kind w) ≡ Exit → field w < maxTraps
   unfolding kindOf
   exit-low i (leaf nothing) e z = let y : _≡_ {A = ℕ} 0 1 = cc in absurd (omega arith)
   exit-low i (leaf pause) e z = let y : _≡_ {A = ℕ} 0 1 = cc in absurd (omega arith)
@@ -136,7 +136,7 @@ module _ {t : List ℕ} (ok : Placed t) where
     field-is : f ≡ field here
     field-is = ef ∙ field-byte t (ok .readable) i h
 
-    pub exit-field : k ≡ Exit → f < 62
+    pub exit-field : k ≡ Exit → f < maxTraps
     exit-field e = rw field-is (exit-low i here refl (sym kind-is ∙ e))
 
     -- x and y are the words of the children

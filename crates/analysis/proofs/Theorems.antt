@@ -5,36 +5,33 @@ use mathlib.Core.Bool.{Bool, true, false}
 use mathlib.Core.Option.{Option, none, some}
 use mathlib.Core.List.{List, [], map}
 use Prim.Native.Nat.{ℕ, suc, _-_, _/_, _<_}
-use native.Mathlib.Decide.{decLt}
 use native.Mathlib.Omega.{arith}
 use borrow.Author.Tests.{le-leb}
-use lib.ListN.{length, getD}
-use Rattle.codes.specs.Codes.{Codes, only, word}
+use lib.ListN.{length, getD, List·getD-append}
+use Rattle.codes.specs.Codes.{Codes, word}
 use Rattle.codes.specs.Words.{_∋_}
-use Rattle.codes.proofs.Bools.{both, cannot-pass}
-use Rattle.codes.proofs.Bits.{∋-past}
-use Rattle.codes.proofs.Laws.{word-lt, ∋-word}
-use Rattle.codes.proofs.Members.{only-out}
+use Rattle.codes.specs.Theorems.{Holds}
+use Rattle.codes.proofs.Bools.{both}
 use Rattle.esterel.specs.Statement.{Stmt, size, nodes, loopDepth}
-use Rattle.esterel.specs.Sets.{startSet}
+use Rattle.esterel.specs.Sets.{startSet, anyInstantSet, Place, contextOf, stmtOf, placesOf, placeAt}
 use Rattle.esterel.specs.Table.{Verdict, passed, refused, scan}
-use Rattle.esterel.specs.Checks.{endsAtOnce, firstNode, refuseAt, verdict}
-use Rattle.esterel.specs.Sets.{placesOf}
+use Rattle.esterel.specs.Checks.{endsAtOnce, firstNode, refuseAt, verdict, Line, lineOf, listing}
 use Rattle.esterel.specs.Outcome.{statementAt}
 use Rattle.esterel.proofs.Reading.{length-postfix, reads-only, length-passed}
-use Rattle.esterel.proofs.Accepted.{acceptance, passes}
-use Rattle.esterel.proofs.Caught.{codes-few}
+use Rattle.esterel.specs.Theorems.{NoneLost}
+use Rattle.esterel.proofs.Accepted.{acceptance, place-statement}
+use Rattle.esterel.proofs.Caught.{lowCodes}
 use Rattle.esterel.proofs.LoopCheck.{decides}
 use Rattle.esterel.proofs.Refusals.{Told, refuses, told-numbered, length-told, program-told, length-first}
 use Rattle.esterel.proofs.Figure9.{figure9}
 use Rattle.esterel.proofs.Theorems.{exactness, loopCheck}
-use Rattle.analysis.specs.Passes.{Filled, wordsOf, onto}
+use Rattle.analysis.specs.Passes.{onto}
 use Rattle.analysis.specs.Analysis.{checked, roomFor, verdictFor, answerOf, kOf, aOf, sOf, markOf, column, Analysis}
 use Rattle.analysis.specs.Theorems.{Lent, ByLoops, ExactSets, Unchanged, Demand2OfCall}
 use Rattle.analysis.specs.declared.Analysed.{Analysed}
 use Rattle.analysis.specs.declared.Analysed.the-variants.{Done, Refused}
-use Rattle.analysis.proofs.Filling.{filled}
-use Rattle.analysis.proofs.Analyses.{starts-column}
+use Rattle.analysis.proofs.Contexts.{length-by-place, by-place-at}
+use Rattle.analysis.proofs.Analyses.{map-lines, line-k, line-a, line-s}
 
 -- ---- the call's verdict and the table's
 
@@ -102,26 +99,30 @@ module _ {t k a s m k′ a′ s′ m′ : List ℕ} {p : Stmt} {r : Analysed} (l
       joined : {A B C : Type 0} → (A ↔ B) → (B ↔ C) → A ↔ C
       joined f g = (λ x. g .0 (f .0 x), λ x. f .1 (g .1 x))
 
--- ---- the bits of the start sets
+-- ---- the sets
 
--- where no code is above 63, the number has each code's bit
-bit-of : (a : Codes) → ((k : ℕ) → a k ≡ true → k < 64) → (k : ℕ) → (word a ∋ k) ≡ a k
-bit-of a low k = go (decLt k 64)
-  where
-    go : Dec (k < 64) → (word a ∋ k) ≡ a k
-    go (yes h) = ∋-word a k h
-    go (no h) = ∋-past (word a) 64 k (word-lt a) (omega arith) ∙ sym (cannot-pass (a k) (λ e. h (low k e)))
+-- a buffer that a column of the listing was written to has the node's own figure at each node
+entry-is : (f : Line → ℕ) (p : Stmt) (old : List ℕ) (i : ℕ) → i < size p → getD (onto (map f (listing p)) old) i 0 ≡ f (lineOf (placeAt p i))
+entry-is f p old i h =
+    let g : Place → ℕ = λ x. f (lineOf x) in
+    ap (λ l. getD (onto l old) i 0) (map-lines f g (λ x. refl) (placesOf p)) ∙ List·getD-append (map g (placesOf p)) _ 0 i (rw (length-by-place g p) h) ∙ by-place-at g p i h
+
+-- and holds the node's set, where the figure is the word of a set that loses none
+module _ (f : Line → ℕ) (set : Place → Codes) (is-word : (x : Place) → f (lineOf x) ≡ word (set x)) (p : Stmt) (old : List ℕ) {new : List ℕ} (is : new ≡ onto (map f (listing p)) old) where
+  entry-holds : (i : ℕ) → i < size p → Holds (word (set (placeAt p i))) (set (placeAt p i)) → Holds (getD new i 0) (set (placeAt p i))
+  entry-holds i h held = rw (ap (λ l. getD l i 0) is ∙ entry-is f p old i h ∙ is-word (placeAt p i)) held
 
 module _ {t k a s m k′ a′ s′ m′ : List ℕ} {n d : ℕ} (o : Analysis t k a s m k′ a′ s′ m′ (Done n d)) where
-  exact-sets : ExactSets t s m k′ s′ m′ n d
-  unfolding column Filled
+  exact-sets : ExactSets t s m k′ a′ s′ m′ n d
+  unfolding column
   exact-sets =
       let (p, v, en, ed) = done-of (verdictFor t k a s m) n d (o .answer) in
       let accepted = checked-passed _ t p v in
       let sound = acceptance t p accepted .1 in
-      let column-is : k′ ≡ onto (wordsOf false p) k = o .startsAre ∙ ap (λ x. column kOf x k) v ∙ ap (λ x. onto x k) (starts-column p) in
-      let low : (i j : ℕ) → startSet (statementAt (nodes p) i) j ≡ true → j < 64 = λ i j e. omega (arith, codes-few p (passes p sound .traps) (passes p sound .exits) (only 1) (λ x z. omega (arith, only-out 1 x z)) i j e) in
-      let entry : (i j : ℕ) → i < n → (getD k′ i 0 ∋ j) ≡ startSet (statementAt (nodes p) i) j = λ i j h. ap (λ x. getD x i 0 ∋ j) column-is ∙ ap (λ x. x ∋ j) (filled false p k i (omega arith)) ∙ bit-of (startSet (statementAt (nodes p) i)) (low i) j in
+      let kept : (i : ℕ) → i < n → NoneLost (placeAt p i) = λ i h. lowCodes p sound i (omega arith) in
+      let starts : (i : ℕ) → i < n → Holds (getD k′ i 0) (startSet (stmtOf (placeAt p i))) =
+      λ i h. entry-holds kOf (λ x. startSet (stmtOf x)) line-k p k (o .startsAre ∙ ap (λ x. column kOf x k) v) i (omega arith) (kept i h .heldK) in
+      let entry : (i j : ℕ) → i < n → (getD k′ i 0 ∋ j) ≡ startSet (statementAt (nodes p) i) j = λ i j h. starts i h .bits j ∙ ap (λ q. startSet q j) (place-statement p i) in
       record {
         program = p;
         accepted = accepted;
@@ -132,6 +133,11 @@ module _ {t k a s m k′ a′ s′ m′ : List ℕ} {n d : ℕ} (o : Analysis t 
             (λ e. there (sym (entry i j h) ∙ e), λ f. entry i j h ∙ back f));
         contextsAre = o .contextsAre ∙ ap (λ x. column sOf x s) v ∙ ap (λ x. onto (map sOf x) s) (figure9 p sound);
         marksAre = o .marksAre ∙ ap (λ x. column markOf x m) v ∙ ap (λ x. onto (map markOf x) m) (figure9 p sound);
+        startsHold = starts;
+        anysHold = λ i h.
+            entry-holds aOf (λ x. anyInstantSet (stmtOf x)) line-a p a (o .anysAre ∙ ap (λ x. column aOf x a) v) i (omega arith) (kept i h .heldA);
+        contextsHold = λ i h. entry-holds sOf contextOf line-s p s (o .contextsAre ∙ ap (λ x. column sOf x s) v) i (omega arith) (kept i h .heldS);
+        noneLost = kept;
       }
 
 -- ---- refusals

@@ -13,7 +13,7 @@ use Rattle.codes.specs.Words.{_∋_}
 use Rattle.codes.proofs.Laws.{∋-word}
 use Rattle.esterel.specs.Limits.{maxDepth}
 use Rattle.esterel.specs.Statement.{nothing, pause, emit, exit, signal, suspend, loop, trap, present, sequence, parallel, Stmt, leaf, one, two, kind, size, nodes}
-use Rattle.esterel.specs.Sets.{startSet}
+use Rattle.esterel.specs.Sets.{startSet, placeAt}
 use Rattle.esterel.specs.Checks.{endsAtOnce}
 use Rattle.esterel.specs.Outcome.{statementAt}
 use Rattle.esterel.proofs.LoopCheck.{loopEnds, ends-at}
@@ -25,7 +25,7 @@ use Rattle.table.proofs.Stacks.{On, none, First, pushed, taken, rest}
 use Rattle.table.proofs.Bytes.{childrenOf, arity-of}
 use Rattle.table.proofs.Walk.{Waiting, Unused, Ahead, ahead, at-first}
 use Rattle.analysis.specs.Steps.{setOfStmt, codesOf}
-use Rattle.analysis.specs.Passes.{Placed, placeAt, firstEnds}
+use Rattle.analysis.specs.Passes.{Placed, firstEnds}
 use Rattle.analysis.proofs.Nodes.{wordOf, not-deep, kind-is, own-word}
 
 -- before node i the subtrees us are unused

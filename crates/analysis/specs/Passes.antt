@@ -4,9 +4,9 @@ use mathlib.Core.Path.{_≡_}
 use mathlib.Core.Bool.{Bool, true, false}
 use mathlib.Core.List.{List, [], map}
 use lib.ListN.{length, getD}
-use Rattle.codes.specs.Codes.{empty, bit, word}
-use Rattle.esterel.specs.Statement.{nothing, present, sequence, parallel, Stmt, leaf, one, two, size, nodes, loopDepth}
-use Rattle.esterel.specs.Sets.{startSet, Place, at, placesOf, mark}
+use Rattle.codes.specs.Codes.{bit, word}
+use Rattle.esterel.specs.Statement.{present, sequence, parallel, Stmt, leaf, one, two, size, nodes, loopDepth}
+use Rattle.esterel.specs.Sets.{startSet, Place, contextOf, placesOf, mark}
 use Rattle.esterel.specs.Table.{passed, scan}
 use Rattle.esterel.specs.Checks.{firstNode, endsAtOnce, checkProgram}
 use Rattle.esterel.specs.Outcome.{statementAt}
@@ -35,10 +35,6 @@ Filled any p sets = (j : ℕ) → j < size p → getD sets j 0 ≡ word (setOfSt
 unfoldable pub loopsCheck : Stmt → Check
 loopsCheck p = refuseFound 11 (firstNode endsAtOnce (placesOf p) 0) Passed
 
--- node i in its program
-abbrev pub placeAt : Stmt → ℕ → Place
-placeAt p i = getD (placesOf p) i (at 0 0 empty (leaf nothing))
-
 -- whether a sequence's first child may end at once, as a byte
 abbrev pub firstEnds : Stmt → ℕ
 firstEnds (leaf l) = 0
@@ -59,7 +55,7 @@ pub record Fillable (t starts anys flags : List ℕ) : Type 0 where
 
 -- the contexts of all nodes, and their marks
 abbrev pub contextWord : Place → ℕ
-contextWord (at depth traps S p) = word S
+contextWord x = word (contextOf x)
 
 unfoldable pub contextsOf : Stmt → List ℕ
 contextsOf p = map contextWord (placesOf p)

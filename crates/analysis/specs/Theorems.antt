@@ -9,12 +9,14 @@ use lib.ListN.{length, getD}
 use Rattle.codes.specs.Words.{_∋_}
 use Rattle.esterel.specs.Limits.{maxNodes}
 use Rattle.esterel.specs.Statement.{Stmt, size, nodes, loopDepth}
+use Rattle.esterel.specs.Codes.{Holds}
+use Rattle.esterel.specs.Sets.{startSet, anyInstantSet, contextOf, stmtOf, placeAt}
 use Rattle.esterel.specs.Table.{passed}
 use Rattle.esterel.specs.Checks.{verdict}
 use Rattle.esterel.specs.Instant.{start}
 use Rattle.esterel.specs.Outcome.{statementAt}
 use Rattle.esterel.specs.Figure9.{figureListing}
-use Rattle.esterel.specs.Theorems.{Finishes, WellFormed, EndedInK, EndsAtOnce, LowestLoop, NoLoop}
+use Rattle.esterel.specs.Theorems.{Finishes, WellFormed, EndedInK, EndsAtOnce, LowestLoop, NoLoop, NoneLost}
 use Rattle.analysis.specs.Passes.{onto}
 use Rattle.analysis.specs.Analysis.{sOf, markOf, Analysis}
 use Rattle.analysis.specs.declared.Analysed.{Analysed}
@@ -37,8 +39,9 @@ pub record ByLoops (p : Stmt) (r : Analysed) : Type 0 where
   pub acceptsExactly : (r ≡ Done (size p) (loopDepth p)) ↔ NoLoop p EndsAtOnce
 
 -- after Done the table is that of an accepted program; bit k of entry i of the start sets is 1 exactly if some answers make the
--- statement at node i, started, finish with code k; and the contexts and marks are those of document 004's Figure 9 and its footnote
-pub record ExactSets (t contexts marks starts′ contexts′ marks′ : List ℕ) (n d : ℕ) : Type 0 where
+-- statement at node i, started, finish with code k; the contexts and marks are those of document 004's Figure 9 and its footnote; and entry i
+-- of each buffer holds the whole set of node i, which has no code above 1 + the traps around it, hence none above 63 (F-7)
+pub record ExactSets (t contexts marks starts′ anys′ contexts′ marks′ : List ℕ) (n d : ℕ) : Type 0 where
   pub program : Stmt
   pub accepted : verdict t ≡ passed program
   pub nodesAre : n ≡ size program
@@ -48,6 +51,10 @@ pub record ExactSets (t contexts marks starts′ contexts′ marks′ : List ℕ
       ((getD starts′ i 0 ∋ k) ≡ true) ↔ Finishes (start (suc i - size (statementAt (nodes program) i)) (statementAt (nodes program) i)) k
   pub contextsAre : contexts′ ≡ onto (map sOf (figureListing program)) contexts
   pub marksAre : marks′ ≡ onto (map markOf (figureListing program)) marks
+  pub startsHold : (i : ℕ) → i < n → Holds (getD starts′ i 0) (startSet (stmtOf (placeAt program i)))
+  pub anysHold : (i : ℕ) → i < n → Holds (getD anys′ i 0) (anyInstantSet (stmtOf (placeAt program i)))
+  pub contextsHold : (i : ℕ) → i < n → Holds (getD contexts′ i 0) (contextOf (placeAt program i))
+  pub noneLost : (i : ℕ) → i < n → NoneLost (placeAt program i)
 
 -- a refusal has a number from 1 to 11 and a node that a table can have, and no lent buffer has changed
 pub record Unchanged (number node : ℕ) (starts anys contexts marks starts′ anys′ contexts′ marks′ : List ℕ) : Type 0 where
@@ -63,7 +70,7 @@ pub record Demand2OfCall : Type 0 where
   pub loops :
       (t k a s m k′ a′ s′ m′ : List ℕ) (p : Stmt) (r : Analysed) →
       Lent t p k a s m → Analysis t k a s m k′ a′ s′ m′ r → ByLoops p r
-  pub sets : (t k a s m k′ a′ s′ m′ : List ℕ) (n d : ℕ) → Analysis t k a s m k′ a′ s′ m′ (Done n d) → ExactSets t s m k′ s′ m′ n d
+  pub sets : (t k a s m k′ a′ s′ m′ : List ℕ) (n d : ℕ) → Analysis t k a s m k′ a′ s′ m′ (Done n d) → ExactSets t s m k′ a′ s′ m′ n d
   pub refusals :
       (t k a s m k′ a′ s′ m′ : List ℕ) (number node : ℕ) →
       Analysis t k a s m k′ a′ s′ m′ (Refused number node) → Unchanged number node k a s m k′ a′ s′ m′

@@ -5,7 +5,7 @@ ghost use Prim.Native.Nat.{_+_, _-_, _<_, _≤_};
 ghost use lib.ListN.{length, getD, set};
 ghost use Rattle.codes.specs.Words.{_∋_, singletonOf, meetsOf};
 ghost use Rattle.codes.specs.Codes.{bit, word};
-ghost use Rattle.esterel.specs.Limits.{maxDepth};
+ghost use Rattle.esterel.specs.Limits.{maxDepth, maxTraps};
 ghost use Rattle.table.specs.declared.Kind.the-variants.{Exit};
 ghost use Rattle.table.specs.Kinds.{isLoop, isSequence};
 ghost use Rattle.table.specs.Program.{programOf};
@@ -37,7 +37,7 @@ fn sequence_codes(first: u64, second: u64) -> u64
 
 // The codes of an exit.
 fn exit_codes(level: usize) -> u64
-    requires { ⌜ level < 62 ⌝ }
+    requires { ⌜ level < maxTraps ⌝ }
     ensures { λ r. ⌜ r ≡ singletonOf (2 + level) ⌝ }
 {
     codes::singleton(2 + level as u32)
@@ -45,7 +45,7 @@ fn exit_codes(level: usize) -> u64
 
 // The codes of a node from those of its children: of the only one or the first, and of the second.
 fn codes_of(any: bool, kind: Kind, field: usize, first: u64, second: u64) -> u64
-    requires { ⌜ (kind ≡ Exit → field < 62) ⌝ }
+    requires { ⌜ (kind ≡ Exit → field < maxTraps) ⌝ }
     ensures { λ r. ⌜ r ≡ codesOf any kind field first second ⌝ }
 {
     match kind {
@@ -73,7 +73,7 @@ fn push_codes(
     stack: &mut [u64; esterel::MAX_DEPTH + 1],
     base: usize,
 )
-    requires { ⌜ (kind ≡ Exit → field < 62) × (base < maxDepth) ⌝ }
+    requires { ⌜ (kind ≡ Exit → field < maxTraps) × (base < maxDepth) ⌝ }
     ensures { λ _. ⌜ now (stack .exit) ≡ set (now (stack .entry)) base (codesOf any kind field (getD (now (stack .entry)) base 0) (getD (now (stack .entry)) (base + 1) 0)) ⌝ }
 {
     stack[base] = codes_of(any, kind, field, stack[base], stack[base + 1]);
@@ -231,7 +231,7 @@ fn descend(
     last: u64,
     ends: u8,
 ) -> Surroundings
-    requires { ⌜ (node .traps ≤ 62) × (0 < node .waiting) × (node .waiting ≤ maxDepth) ⌝ }
+    requires { ⌜ (node .traps ≤ maxTraps) × (0 < node .waiting) × (node .waiting ≤ maxDepth) ⌝ }
     ensures { λ r. ⌜ Descended kind node last ends (now (pending .entry)) (now (counts .entry)) (now (pending .exit)) (now (counts .exit)) r ⌝ }
 {
     let context = node.context;

@@ -10,7 +10,7 @@ use lib.ListN.{length, getD, length-map, List·getD-map}
 use Rattle.codes.proofs.Bools.{toNot}
 use Rattle.esterel.specs.Statement.{nothing, pause, emit, exit, loop, Stmt, leaf, one, two, size, nodes, trapsUnder}
 use Rattle.esterel.specs.Codes.{Codes, empty}
-use Rattle.esterel.specs.Sets.{startSet, Place, at, places, placesOf, under, underLeft, underRight}
+use Rattle.esterel.specs.Sets.{startSet, Place, at, stmtOf, places, placesOf, outside, placeAt, under, underLeft, underRight}
 use Rattle.esterel.specs.Table.{Verdict, passed, refused, read, postfix}
 use Rattle.esterel.specs.Checks.{tooDeep, tooManyTraps, uncaught, endsAtOnce, firstNode, refuseAt, checkPlaces, checkProgram}
 use Rattle.esterel.specs.Outcome.{statementAt}
@@ -70,13 +70,13 @@ exits-caught (one u p) d t P c = exits-caught p (suc d) (trapsUnder u t) (under 
 exits-caught (two b p q) d t P c =
     (exits-caught p (suc d) t (underLeft b t P q) (every-left _ _ (every-left _ _ c)), exits-caught q (suc d) t (underRight b t P p) (every-right (places (suc d) t (underLeft b t P q) p) _ (every-left _ _ c)))
 
-abbrev pub stmtOf : Place → Stmt
-stmtOf (at d t S p) = p
-
 pub statements : (p : Stmt) (d t : ℕ) (P : Codes) → map stmtOf (places d t P p) ≡ nodes p
 statements (leaf l) d t P = refl
 statements (one u p) d t P = simp (map-append, statements p)
 statements (two b p q) d t P = simp (map-append, statements p, statements q)
+
+pub place-statement : (p : Stmt) (i : ℕ) → stmtOf (placeAt p i) ≡ statementAt (nodes p) i
+place-statement p i = sym (List·getD-map stmtOf (placesOf p) i outside) ∙ ap (λ l. getD l i (leaf nothing)) (statements p 1 0 empty)
 
 pub length-places : (p : Stmt) (d t : ℕ) (P : Codes) → length (places d t P p) ≡ size p
 length-places p d t P = sym (length-map (places d t P p) stmtOf) ∙ ap length (statements p d t P) ∙ length-nodes p
@@ -89,10 +89,7 @@ no-end (at d t S p) b f e c =
 
 -- no loop's body ends at once, and every exit is caught
 pub ends-not : (p : Stmt) → Accepted p → (n : ℕ) (b : Stmt) → statementAt (nodes p) n ≡ one loop b → startSet b 0 ≡ true → ⊥
-ends-not p a n b e c =
-    let outside = at 0 0 empty (leaf nothing) in
-    no-end (getD (placesOf p) n outside) b (every-at outside refl (passes p a .loops) n)
-    (sym (List·getD-map stmtOf (placesOf p) n outside) ∙ (rw (statements p 1 0 empty) e)) c
+ends-not p a n b e c = no-end (placeAt p n) b (every-at outside refl (passes p a .loops) n) (place-statement p n ∙ e) c
 
 pub exits-in : (p : Stmt) → Accepted p → Exits 0 p
 exits-in p a = exits-caught p 1 0 empty (passes p a .exits)

@@ -1,28 +1,28 @@
 -- S is that of Figure 9 without the codes past the traps around a node, and no statement there has such a code.
 use mathlib.Core.Path.{_≡_, refl, sym, ap, ap₂, _∙_}
-use mathlib.Core.Bool.{Bool, true, false, _&&_, or-true, or-false, and-true, and-false}
+use mathlib.Core.Bool.{Bool, true, false, false≢true, _&&_, or-true, or-false, and-true, and-false}
 use mathlib.Core.List.{map, map-append}
 use Prim.Native.Nat.{ℕ, zero, suc, _+_, _≤_, _<_}
 use native.Mathlib.Decide.{decLe}
 use native.Mathlib.Omega.{arith}
 use borrow.Author.Tests.{le-leb, lt-leb, ne-eqb}
 use lib.Dec.{leb, eqb·zero-suc}
-use Rattle.codes.proofs.Bools.{both, right, same-test}
-use Rattle.codes.proofs.Members.{upTo-in, upTo-out}
+use Rattle.codes.proofs.Bools.{both, right, cannot-pass, same-test}
+use Rattle.codes.proofs.Members.{upTo-in, upTo-out, given-most, under-parallel-most}
 use Rattle.codes.proofs.Laws.{word-same}
 use Rattle.codes.proofs.Ends.{upTo-same}
 use Rattle.esterel.specs.Statement.{Unary, signal, suspend, loop, trap, Binary, present, sequence, parallel, Stmt, leaf, one, two, kind, field, trapsUnder}
-use Rattle.esterel.specs.Codes.{Codes, empty, only, union, given, withoutEnded, meets, underParallel, bit, word}
+use Rattle.esterel.specs.Codes.{Codes, empty, only, union, given, withoutEnded, meets, underParallel, bit, word, AtMost}
 use Rattle.esterel.specs.Sets.{startSet, anyInstantSet, at, places, under, underFirst, underLeft, underRight}
 use Rattle.esterel.specs.Checks.{line, lineOf}
 use Rattle.esterel.specs.Figure9.{figureUnder, figureBranch, figureLeft, figureRight, figurePlaces, figureLine, Figure9}
-use Rattle.esterel.proofs.Low.{Exits, start-low, any-low}
+use Rattle.esterel.proofs.Low.{Exits, start-low, any-low, under-low, first-low}
 use Rattle.esterel.proofs.Accepted.{exits-in}
 
 -- S of `Sets` and F of Figure 9, of a node with t traps around it. An F that has a code past the traps came from a parallel, and has 1
 record Agree (t : ℕ) (S F : Codes) : Type 0 where
   same : (k : ℕ) → k ≤ 1 + t → S k ≡ F k
-  past : (k : ℕ) → 1 + t < k → S k ≡ false
+  low : AtMost (suc t) S
   wide : (k : ℕ) → 1 + t < k → F k ≡ true → F 1 ≡ true
 
 module _ {t : ℕ} {S F : Codes} (g : Agree t S F) where
@@ -31,10 +31,10 @@ module _ {t : ℕ} {S F : Codes} (g : Agree t S F) where
     where
       go : Dec (k ≤ 1 + t) → S k ≡ (leb k (1 + t) && F k)
       go (yes h) = g .same k h ∙ sym (ap (λ b. b && F k) (le-leb k (1 + t) h))
-      go (no h) = g .past k (omega arith) ∙ sym (ap (λ b. b && F k) (lt-leb k (1 + t) (omega arith)))
+      go (no h) = cannot-pass (S k) (λ e. omega (arith, g .low k e)) ∙ sym (ap (λ b. b && F k) (lt-leb k (1 + t) (omega arith)))
 
   -- a set without a code past the traps does not tell them apart
-  same-meets : (C : Codes) → ((k : ℕ) → C k ≡ true → k ≤ suc t) → meets C S ≡ meets C F
+  same-meets : (C : Codes) → AtMost (suc t) C → meets C S ≡ meets C F
   same-meets C low = upTo-same (λ k. C k && S k) (λ k. C k && F k) 63 (λ k h. at-code k (C k) refl)
     where
       at-code : (k : ℕ) (b : Bool) → C k ≡ b → (C k && S k) ≡ (C k && F k)
@@ -70,32 +70,22 @@ but-0 P k = rw eqb·zero-suc (or-false (P (suc k)))
 agree-under : (u : Unary) {t : ℕ} {S F : Codes} → Agree t S F → Agree (trapsUnder u t) (under u S) (under u F)
 agree-under (signal s) g = g
 agree-under (suspend s) g = g
-agree-under loop {t} {S} {F} g = record { same = same; past = past; wide = wide }
+agree-under loop {t} {S} {F} g = record { same = same; low = under-low loop t S (g .low); wide = wide }
   where
     same : (k : ℕ) → k ≤ 1 + t → under loop S k ≡ under loop F k
     same zero h = or-true (S 0) ∙ sym (or-true (F 0))
     same (suc k) h = but-0 S k ∙ g .same (suc k) h ∙ sym (but-0 F k)
 
-    past : (k : ℕ) → 1 + t < k → under loop S k ≡ false
-    past zero h = absurd (omega arith)
-    past (suc k) h = but-0 S k ∙ g .past (suc k) h
-
     wide : (k : ℕ) → 1 + t < k → under loop F k ≡ true → under loop F 1 ≡ true
     wide zero h e = absurd (omega arith)
     wide (suc k) h e = but-0 F 0 ∙ g .wide (suc k) h (sym (but-0 F k) ∙ e)
-agree-under trap {t} {S} {F} g = record { same = same; past = past; wide = wide }
+agree-under trap {t} {S} {F} g = record { same = same; low = under-low trap t S (g .low); wide = wide }
   where
     same : (k : ℕ) → k ≤ 1 + suc t → under trap S k ≡ under trap F k
     same zero h = g .same 0 (omega arith)
     same (suc zero) h = g .same 1 (omega arith)
     same (suc (suc zero)) h = g .same 0 (omega arith)
     same (suc (suc (suc k))) h = g .same (suc (suc k)) (omega arith)
-
-    past : (k : ℕ) → 1 + suc t < k → under trap S k ≡ false
-    past zero h = absurd (omega arith)
-    past (suc zero) h = absurd (omega arith)
-    past (suc (suc zero)) h = absurd (omega arith)
-    past (suc (suc (suc k))) h = g .past (suc (suc k)) (omega arith)
 
     wide : (k : ℕ) → 1 + suc t < k → under trap F k ≡ true → F 1 ≡ true
     wide zero h e = absurd (omega arith)
@@ -107,28 +97,24 @@ agree-branch : {t : ℕ} {S F : Codes} → Agree t S F → Agree t (underParalle
 agree-branch {t} {S} {F} g =
     record {
       same = λ k h. ap₂ _&&_ (le-leb k (1 + t) h) (same-some g) ∙ sym (and-true (meets F F));
-      past = λ k h. ap (λ b. b && meets S S) (lt-leb k (1 + t) h);
+      low = under-parallel-most t S;
       wide = λ k h e. e;
     }
 
 agree-first : (q : Stmt) {t : ℕ} {S F : Codes} → Exits t q → Agree t S F → Agree t (underFirst S (startSet q)) (underFirst F (startSet q))
-agree-first q {t} {S} {F} x g = record { same = same; past = past; wide = wide }
+agree-first q {t} {S} {F} x g = record { same = same; low = first-low t S (startSet q) (g .low); wide = wide }
   where
     same : (k : ℕ) → k ≤ 1 + t → underFirst S (startSet q) k ≡ underFirst F (startSet q) k
-    same zero h = same-meets g (startSet q) (λ k e. start-low q t k x e)
+    same zero h = same-meets g (startSet q) (start-low q t x)
     same (suc k) h = g .same (suc k) h
-
-    past : (k : ℕ) → 1 + t < k → underFirst S (startSet q) k ≡ false
-    past zero h = absurd (omega arith)
-    past (suc k) h = g .past (suc k) h
 
     wide : (k : ℕ) → 1 + t < k → underFirst F (startSet q) k ≡ true → F 1 ≡ true
     wide zero h e = absurd (omega arith)
     wide (suc k) h e = g .wide (suc k) h e
 
 agree-second : (test : Bool) {t : ℕ} {S F : Codes} → Agree t S F → Agree t (given test S) (given test F)
-agree-second true g = record { same = λ k h. g .same k h; past = λ k h. g .past k h; wide = λ k h e. g .wide k h e }
-agree-second false g = record { same = λ k h. refl; past = λ k h. refl; wide = λ k h e. e }
+agree-second true {t} {S} g = record { same = λ k h. g .same k h; low = given-most (suc t) true S (g .low); wide = λ k h e. g .wide k h e }
+agree-second false {t} {S} g = record { same = λ k h. refl; low = given-most (suc t) false S (g .low); wide = λ k h e. e }
 
 -- what Figure 9 prints of P is what `Sets` has of it
 under-is : (u : Unary) (P : Codes) (k : ℕ) → figureUnder u P k ≡ under u P k
@@ -149,7 +135,7 @@ agree-as : {t : ℕ} {S F G : Codes} → ((k : ℕ) → G k ≡ F k) → Agree t
 agree-as e g =
     record {
       same = λ k h. g .same k h ∙ sym (e k);
-      past = g .past;
+      low = g .low;
       wide = λ k h f. e 1 ∙ g .wide k h (sym (e k) ∙ f);
     }
 
@@ -166,7 +152,7 @@ agree-right parallel p g = agree-branch g
 own-line : (p : Stmt) (d : ℕ) {t : ℕ} {S F : Codes} → Exits t p → Agree t S F → lineOf (at d t S p) ≡ figureLine (at d t F p)
 own-line p d {t} x g =
     ap₂ (line (kind p) (field p) (word (startSet p)) (word (anyInstantSet p))) (word-same _ _ (λ k h. cut g k))
-    (ap bit (same-meets g (anyInstantSet p) (λ k e. any-low p t k x e)))
+    (ap bit (same-meets g (anyInstantSet p) (any-low p t x)))
 
 lines : (p : Stmt) (d : ℕ) {t : ℕ} {S F : Codes} → Exits t p → Agree t S F → map lineOf (places d t S p) ≡ map figureLine (figurePlaces d t F p)
 lines (leaf l) d x g = rw (own-line (leaf l) d x g)
@@ -176,5 +162,5 @@ lines (two b p q) d x g =
 
 pub figure9 : Figure9
 figure9 p a =
-    let outside : Agree 0 empty empty = record { same = λ k h. refl; past = λ k h. refl; wide = λ k h e. e } in
+    let outside : Agree 0 empty empty = record { same = λ k h. refl; low = λ k e. absurd (false≢true e); wide = λ k h e. e } in
     lines p 1 (exits-in p a) outside

@@ -7,19 +7,16 @@ use mathlib.Core.List.{List, [], _∷_}
 use Prim.Native.Nat.{ℕ, zero, suc, _+_, _-_, _<_}
 use native.Mathlib.Decide.{decLt}
 use native.Mathlib.Omega.{arith}
-use lib.ListN.{length, getD, List·getD-map, List·getD-eq-default}
+use lib.ListN.{length, getD, List·getD-eq-default}
 use Rattle.codes.proofs.Bools.{cannot-pass}
 use Rattle.esterel.specs.Statement.{nothing, signal, suspend, loop, trap, Stmt, leaf, one, two, nodes}
 use Rattle.esterel.specs.Codes.{empty}
-use Rattle.esterel.specs.Sets.{startSet, Place, at, placesOf}
+use Rattle.esterel.specs.Sets.{startSet, Place, at, stmtOf, placesOf, outside, placeAt}
 use Rattle.esterel.specs.Table.{passed, refused}
 use Rattle.esterel.specs.Checks.{endsAtOnce, firstNode, refuseAt, checkProgram, verdict}
 use Rattle.esterel.specs.Outcome.{statementAt}
 use Rattle.esterel.specs.Theorems.{WellFormed, EndedInK, LowestLoop, NoLoop}
-use Rattle.esterel.proofs.Accepted.{stmtOf, statements}
-
-abbrev pub outside : Place
-outside = at 0 0 empty (leaf nothing)
+use Rattle.esterel.proofs.Accepted.{place-statement}
 
 -- ---- the lowest node for which a test holds, of the places from n on
 
@@ -77,11 +74,8 @@ ends-by (at d t S (one loop p)) = refl
 ends-by (at d t S (one trap p)) = refl
 ends-by (at d t S (two b p q)) = refl
 
-pub place-statement : (p : Stmt) (i : ℕ) → stmtOf (getD (placesOf p) i outside) ≡ statementAt (nodes p) i
-place-statement p i = sym (List·getD-map stmtOf (placesOf p) i outside) ∙ ap (λ l. getD l i (leaf nothing)) (statements p 1 0 empty)
-
-pub ends-at : (p : Stmt) (i : ℕ) → endsAtOnce (getD (placesOf p) i outside) ≡ loopEnds (statementAt (nodes p) i)
-ends-at p i = ends-by (getD (placesOf p) i outside) ∙ ap loopEnds (place-statement p i)
+pub ends-at : (p : Stmt) (i : ℕ) → endsAtOnce (placeAt p i) ≡ loopEnds (statementAt (nodes p) i)
+ends-at p i = ends-by (placeAt p i) ∙ ap loopEnds (place-statement p i)
 
 -- it fails there exactly if the statement is a loop whose body has 0 in K
 loop-of : (w : Stmt) → loopEnds w ≡ true → (q : Stmt) × (w ≡ one loop q) × (startSet q 0 ≡ true)
@@ -102,7 +96,7 @@ loop-within p i q is = go (decLt i (length (placesOf p)))
     go : Dec (i < length (placesOf p)) → i < length (placesOf p)
     go (yes h) = h
     go (no h) =
-        let past : getD (placesOf p) i outside ≡ outside = List·getD-eq-default (placesOf p) outside (omega arith) in
+        let past : placeAt p i ≡ outside = List·getD-eq-default (placesOf p) outside (omega arith) in
         let z : leaf nothing ≡ one loop q = sym (ap stmtOf past) ∙ place-statement p i ∙ is in
         let y : _≡_ {A = ℕ} 0 1 = cc in
         absurd (omega arith)

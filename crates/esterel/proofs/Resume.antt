@@ -42,7 +42,7 @@ module _ (ps : List Stmt) (S : Type 0) (ends : (n : ℕ) (p : Stmt) → statemen
 
   -- a started second child
   second-run : (q : Stmt) (n t : ℕ) (r : List ℕ) → Sits ps n q → Exits t q → Resumes q t r (start n q r)
-  second-run q n t r w x = weaken (λ h f. f) (λ k c. start-low q t k x c) (size-load q) (start-run ps S ends q n r w)
+  second-run q n t r w x = weaken (λ h f. f) (start-low q t x) (size-load q) (start-run ps S ends q n r w)
 
   pub resume-run : (p : Stmt) (n t : ℕ) (held ans : List ℕ) → Sits ps n p → Exits t p → Fits p held → holds held ≡ true → Resumes p t ans (resume n p held ans)
   resume-run (leaf nothing) n t held ans w x f h = leaf-holds f h (λ e. let z : _≡_ {A = ℕ} 0 1 = cc in absurd (omega arith))
@@ -84,7 +84,7 @@ module _ (ps : List Stmt) (S : Type 0) (ends : (n : ℕ) (p : Stmt) → statemen
       (λ r. cond-run (holds (second p q held)) (λ b. resume-run q (n + size p) t (second p q held) r (w .1) (x .1) (right-fits f) b) (λ b. idle-run q t r)))
   resume-run (one loop p) n t held ans w x f h =
       entered (one loop p) n (size p) (load p + size p) (w .1) refl (omega arith)
-      (again-run (ends (n + size p) p (w .1)) (λ h f. fits-one loop f) (λ h f. fits-one loop f) (λ k c. c) (λ k c. start-low p t (suc k) x c) (omega arith)
+      (again-run (ends (n + size p) p (w .1)) (λ h f. fits-one loop f) (λ h f. fits-one loop f) (λ k c. c) (λ k c. start-low p t x (suc k) c) (omega arith)
       (resume-run p n t (first p held) ans (w .0) x (child-fits f) (child-holds f h)) (λ r. start-run ps S ends p n r (w .0)))
   resume-run (one (signal s) p) n t held ans w x f h =
       entered (one (signal s) p) n (size p) (load p) (w .1) refl (omega arith)

@@ -98,7 +98,7 @@ module _ (p : Stmt) (a : Accepted p) where
   starts-close : (answers : List ℕ) → Closes p answers (start 0 p answers)
   starts-close answers =
       meets answers (start 0 p answers)
-      (weaken (λ h f. f) (λ k c. start-low p 0 k (exits-in p a) c) (size-load p) (start-run (nodes p) ⊥ (ends-not p a) p 0 answers (sits-own p)))
+      (weaken (λ h f. f) (start-low p 0 (exits-in p a)) (size-load p) (start-run (nodes p) ⊥ (ends-not p a) p 0 answers (sits-own p)))
 
   resumes-close : (held answers : List ℕ) → admitted p held ≡ true → Closes p answers (resume 0 p held answers)
   resumes-close held answers e =

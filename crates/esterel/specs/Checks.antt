@@ -14,7 +14,7 @@ use Rattle.esterel.specs.Table.{Verdict, passed, refused, read}
 abbrev pub tooDeep : Place → Bool
 tooDeep (at depth traps S p) = ltb maxDepth depth
 
--- check 9: a trap, and more than 32 traps stand around each other, itself counted
+-- check 9: a trap, and more than 62 traps stand around each other, itself counted (F-7)
 abbrev pub tooManyTraps : Place → Bool
 tooManyTraps (at depth traps S (leaf l)) = false
 tooManyTraps (at depth traps S (one (signal s) p)) = false

@@ -3,6 +3,7 @@
 use Prim.Native.Nat.{ℕ, zero, suc, _+_}
 use mathlib.Core.Bool.{Bool, true, false}
 use mathlib.Core.List.{List, [], _∷_, _++_}
+use lib.ListN.{getD}
 use Rattle.esterel.specs.Statement.{Leaf, nothing, pause, emit, exit, Unary, signal, suspend, loop, trap, Binary, present, sequence, parallel, Stmt, leaf, one, two, trapsUnder}
 use Rattle.esterel.specs.Codes.{Codes, empty, only, union, given, withoutEnded, larger, caught, meets, underTrap, underParallel, bit}
 
@@ -56,6 +57,15 @@ underRight parallel t P p = underParallel t P
 pub data Place : Type 0 where
   at : (depth traps : ℕ) (S : Codes) (p : Stmt) → Place
 
+abbrev pub trapsOf : Place → ℕ
+trapsOf (at depth traps S p) = traps
+
+abbrev pub contextOf : Place → Codes
+contextOf (at depth traps S p) = S
+
+abbrev pub stmtOf : Place → Stmt
+stmtOf (at depth traps S p) = p
+
 -- the places of p's nodes in postorder, where p stands at the depth d with t traps around it and the context set P
 abbrev pub places : ℕ → ℕ → Codes → Stmt → List Place
 places d t P (leaf l) = at d t P (leaf l) ∷ []
@@ -66,6 +76,13 @@ places d t P (two b p q) =
 -- from the program down: its depth is 1, no trap stands around it, and its S is empty
 abbrev pub placesOf : Stmt → List Place
 placesOf p = places 1 0 empty p
+
+-- node i of p in its program; past its nodes there is none
+abbrev pub outside : Place
+outside = at 0 0 empty (leaf nothing)
+
+abbrev pub placeAt : Stmt → ℕ → Place
+placeAt p i = getD (placesOf p) i outside
 
 -- 1 if the node's A meets its S, else 0
 abbrev pub mark : Place → ℕ

@@ -8,7 +8,8 @@ use Prim.Native.Nat.{ℕ, suc, _+_, _-_, _*_, _≤_, _<_}
 use lib.ListN.{length, getD, take, drop}
 use Rattle.esterel.specs.Limits.{maxNodes}
 use Rattle.esterel.specs.Statement.{Unary, loop, Binary, Stmt, one, two, kind, field, size, nodes, loopsAround}
-use Rattle.esterel.specs.Sets.{startSet, placesOf}
+use Rattle.esterel.specs.Codes.{Codes, meets, word, AtMost, Holds}
+use Rattle.esterel.specs.Sets.{startSet, anyInstantSet, Place, trapsOf, contextOf, stmtOf, placesOf, placeAt}
 use Rattle.esterel.specs.Table.{Node, takes1, takes2, nodeOf, passed, refused, read, postfix}
 use Rattle.esterel.specs.Checks.{tooDeep, tooManyTraps, uncaught, firstNode, checkPlaces, verdict, planned}
 use Rattle.esterel.specs.Instant.{Entry, Result, closed, starved, stuck, zeros, start, resume, admitted}
@@ -172,3 +173,19 @@ pub record Starving : Type 0 where
   pub resumes :
       (p : Stmt) → Accepted p → (held answers : List ℕ) → admitted p held ≡ true →
       (resume 0 p held answers ≡ starved) ↔ NeedsMore p (resume 0 p held) answers
+
+-- F-7. No code in K, A and S of a node is above 1 + the traps around it, and that is at most 63: so the 64-bit number of each set holds it,
+-- and loses no code
+pub record NoneLost (x : Place) : Type 0 where
+  pub fits : 1 + trapsOf x ≤ 63
+  pub lowK : AtMost (1 + trapsOf x) (startSet (stmtOf x))
+  pub lowA : AtMost (1 + trapsOf x) (anyInstantSet (stmtOf x))
+  pub lowS : AtMost (1 + trapsOf x) (contextOf x)
+  pub heldK : Holds (word (startSet (stmtOf x))) (startSet (stmtOf x))
+  pub heldA : Holds (word (anyInstantSet (stmtOf x))) (anyInstantSet (stmtOf x))
+  pub heldS : Holds (word (contextOf x)) (contextOf x)
+  -- nor does a test whether a set meets S overlook one
+  pub meetsS : (a : Codes) → (meets a (contextOf x) ≡ true) ↔ ((k : ℕ) × (a k ≡ true) × (contextOf x k ≡ true))
+
+abbrev pub LowCodes : Type 0
+LowCodes = (p : Stmt) → Accepted p → (i : ℕ) → i < size p → NoneLost (placeAt p i)

@@ -9,15 +9,13 @@ use lib.ListN.{length, getD, length-append}
 use Rattle.codes.specs.Codes.{bit, meets, word}
 use Rattle.codes.proofs.Laws.{word-lt}
 use Rattle.esterel.specs.Statement.{nothing, pause, emit, exit, signal, suspend, loop, trap, present, sequence, parallel, Stmt, leaf, one, two, kind, field, size, loopDepth}
-use Rattle.esterel.specs.Sets.{Place, at, startSet, anyInstantSet, mark}
+use Rattle.esterel.specs.Sets.{Place, at, stmtOf, placeAt, startSet, anyInstantSet, mark}
 use Rattle.esterel.specs.Table.{Verdict, passed, refused, read}
 use Rattle.esterel.specs.Checks.{line, lineOf, listing, planned, verdict}
-use Rattle.esterel.proofs.Accepted.{stmtOf}
+use Rattle.esterel.proofs.Accepted.{place-statement}
 use Rattle.table.specs.Program.{programOf, programIn, Readable}
 use Rattle.table.proofs.Bytes.{field-byte}
 use Rattle.table.proofs.Surveying.{few-nodes}
-use Rattle.analysis.specs.Passes.{placeAt}
-use Rattle.esterel.proofs.LoopCheck.{place-statement}
 use Rattle.listing.specs.Text.{lineText, linesFrom, headerText, textOf, maxText}
 use Rattle.listing.specs.Written.{lineAt}
 use Rattle.listing.proofs.Digits.{few-digits, digits-few}

@@ -8,15 +8,13 @@ use lib.ListN.{length, getD, drop, length-append, length-map, List·getD-map, dr
 use lib.Seq.{drop-cons}
 use Rattle.codes.specs.Codes.{empty}
 use Rattle.esterel.specs.Statement.{nothing, Stmt, leaf, kind, field, size}
-use Rattle.esterel.specs.Sets.{Place, at, placesOf}
+use Rattle.esterel.specs.Sets.{Place, at, stmtOf, placesOf, placeAt}
 use Rattle.esterel.specs.Checks.{Line, line, lineOf, listing}
-use Rattle.esterel.proofs.Accepted.{stmtOf, length-places}
+use Rattle.esterel.proofs.Accepted.{place-statement, length-places}
 use Rattle.table.specs.Program.{programOf, Readable}
 use Rattle.table.proofs.Bytes.{kind-byte, field-byte}
 use Rattle.table.proofs.Surveying.{few-nodes}
-use Rattle.analysis.specs.Passes.{placeAt}
 use Rattle.analysis.specs.Analysis.{kOf, aOf, sOf, markOf}
-use Rattle.esterel.proofs.LoopCheck.{place-statement}
 use Rattle.listing.specs.Text.{lineText, linesFrom}
 use Rattle.listing.specs.Written.{Written, lineAt, Columns}
 use Rattle.listing.proofs.Fields.{line-short}

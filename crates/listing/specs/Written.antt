@@ -5,9 +5,9 @@ use mathlib.Core.List.{List}
 use lib.ListN.{length, getD}
 use lib.Seq.{sets}
 use Rattle.esterel.specs.Statement.{Stmt, size}
+use Rattle.esterel.specs.Sets.{placeAt}
 use Rattle.esterel.specs.Checks.{Line, lineOf}
 use Rattle.table.specs.Program.{programOf, Readable}
-use Rattle.analysis.specs.Passes.{placeAt}
 use Rattle.analysis.specs.Analysis.{kOf, aOf, sOf, markOf}
 
 -- the bytes from a position on, all else as it was, and the position after them

@@ -8,9 +8,9 @@ use lib.ListN.{length, getD, length-append, List·getD-map}
 use lib.Seq.{getD-at}
 use Rattle.esterel.specs.Statement.{nothing, Unary, Binary, Stmt, leaf, one, two, size, nodes, loopsUnder, trapsUnder}
 use Rattle.esterel.specs.Codes.{Codes, empty}
-use Rattle.esterel.specs.Sets.{Place, at, places, placesOf, under, underLeft, underRight}
+use Rattle.esterel.specs.Sets.{Place, at, stmtOf, places, placesOf, under, underLeft, underRight}
 use Rattle.esterel.specs.Outcome.{statementAt}
-use Rattle.esterel.proofs.Accepted.{stmtOf, statements, length-places}
+use Rattle.esterel.proofs.Accepted.{statements, length-places}
 use Rattle.esterel.proofs.Sizes.{size-pos}
 
 pub record Waiting : Type 0 where

@@ -36,6 +36,13 @@ pub fn ladders(tally: &mut Tally, random: &mut Random) -> Result<(), Difference>
     Ok(())
 }
 
+pub fn last_code(tally: &mut Tally, random: &mut Random) -> Result<(), Difference> {
+    for _ in 0..100 {
+        compare_all(tally, &families::last_code(random))?;
+    }
+    Ok(())
+}
+
 pub fn inadmissible(tally: &mut Tally, random: &mut Random) -> Result<(), Difference> {
     compare_all(tally, &families::inadmissible(random, 40_000, SMALL))?;
     compare_all(tally, &families::inadmissible(random, 1800, LARGE))

@@ -19,7 +19,7 @@ pub struct Group {
     pub random: bool,
 }
 
-pub const GROUPS: [Group; 15] = [
+pub const GROUPS: [Group; 16] = [
     Group {
         name: "Table W and the edges of document 01",
         run: tables::edges,
@@ -63,6 +63,11 @@ pub const GROUPS: [Group; 15] = [
     Group {
         name: "instants with the most entries",
         run: instants::ladders,
+        random: true,
+    },
+    Group {
+        name: "code 63 up to the outermost of 62 traps",
+        run: instants::last_code,
         random: true,
     },
     Group {

@@ -2,14 +2,13 @@
 //! call is made with answers too short, exact and longer.
 
 use compare::support::cases::Call;
-use compare::support::damage::bad_table;
+use compare::support::damage::{bad_table, BAD_NUMBERS};
 use compare::support::edges::edges as edge_tables;
 use compare::support::families;
 use compare::support::programs::{accepted, balanced, SHAPES};
 use compare::support::random::Random;
 use compare::{checks, listing, Refusal};
 
-use super::tables::BAD_NUMBERS;
 use crate::tally::{Difference, Tally};
 use crate::trials::{Analysis, Instant, Rendering, Trial};
 

@@ -1,7 +1,8 @@
 //! Analyses and listings.
 
+use compare::checks::MOST_TRAPS;
 use compare::listing;
-use compare::support::damage::{bad_table, damaged as spoilt};
+use compare::support::damage::{bad_table, damaged as spoilt, BAD_NUMBERS};
 use compare::support::edges::edges as edge_tables;
 use compare::support::families;
 use compare::support::programs::{accepted, ladder, longest_listing, SHAPES};
@@ -11,14 +12,11 @@ use super::compare_all;
 use crate::tally::{Difference, Tally};
 use crate::trials::{Analysis, Rendering};
 
-/// Tables that `bad_table` numbers for each check in turn.
-pub const BAD_NUMBERS: usize = 190;
-
 pub fn edges(tally: &mut Tally, random: &mut Random) -> Result<(), Difference> {
     for edge in edge_tables() {
         analyse_and_render(tally, &edge.table)?;
     }
-    for steps in 1..=32 {
+    for steps in 1..=MOST_TRAPS {
         analyse_and_render(tally, &ladder(steps))?;
     }
     analyse_and_render(tally, &longest_listing())?;

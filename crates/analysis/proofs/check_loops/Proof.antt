@@ -10,12 +10,13 @@ use denote.Ref.{now}
 use lib.ListN.{length}
 use Rattle.esterel.specs.Limits.{maxNodes}
 use Rattle.esterel.specs.Statement.{size}
+use Rattle.esterel.specs.Sets.{placeAt}
 use Rattle.esterel.specs.Checks.{endsAtOnce}
 use Rattle.table.specs.Program.{programOf}
 use Rattle.table.proofs.Surveying.{few-nodes}
 use Rattle.table.proofs.Bytes.{table-length}
 use Rattle.table.proofs.Walk.{Waiting}
-use Rattle.analysis.specs.Passes.{Placed, placeAt}
+use Rattle.analysis.specs.Passes.{Placed}
 use Rattle.analysis.proofs.Loops.{Searched, search-on, search-found, search-ended}
 use Rattle.analysis.proofs.Nodes.{exit-field}
 use Rattle.analysis.proofs.Unused.{Before, Words, begin, no-words, enough, low, next, words-next, ends-is}
