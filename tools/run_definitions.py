@@ -131,9 +131,9 @@ FULL = under(5, 1, branches(512))  # 1,024 nodes
 HELD = [int(kind == 2) for kind in FULL[::2]]
 
 # an exit to the outermost of 62 traps, beside a pause; all this beside a pause, in a loop
-LEFT = under(11, 62, [4, 61, 2, 0, 10, 0]) + [2, 0, 10, 0, 8, 0]
-# the same exit after a pause, beside a loop that only pauses; all in a loop
-DROPPED = under(11, 62, [2, 0, 8, 0, 2, 0, 4, 61, 9, 0, 10, 0]) + [8, 0]
+BESIDE_A_PAUSE = under(11, 62, [4, 61, 2, 0, 10, 0]) + [2, 0, 10, 0, 8, 0]
+# the lock program of F-5 with such an exit and 62 traps
+LOCK_62 = under(11, 62, [2, 0, 8, 0, 2, 0, 4, 61, 9, 0, 10, 0]) + [8, 0]
 
 def up_to(code):  # the set of the codes from 0 on
     return 2 ** (code + 1) - 1
@@ -172,12 +172,12 @@ LISTINGS = [  # a line: kind, field, K, A, S, mark
     ([2, 0, 2, 0, 10, 0], ok(3, 0, 3, [(2, 0, 2, 3, 0, 0), (2, 0, 2, 3, 0, 0), (10, 0, 2, 3, 0, 0)])),
     ([2, 0, 8, 0, 8, 0], ok(3, 2, 9, [(2, 0, 2, 3, 1, 1), (8, 0, 2, 2, 1, 0), (8, 0, 2, 2, 0, 0)])),
     # F-7: code 63 is in K, A and S of the exit; t traps are around each trap, and the outermost turns code 2 into 0
-    (LEFT,
+    (BESIDE_A_PAUSE,
      ok(68, 1, 136, [(4, 61, 1 << 63, 1 << 63, up_to(63), 1), (2, 0, 2, 3, up_to(63), 1), (10, 0, 1 << 63, 1 << 63, up_to(63), 1)]
         + [(11, 0, 2 << t, 2 << t, up_to(1 + t), 1) for t in range(61, 0, -1)] + [(11, 0, 1, 1, 3, 1)]
         + [(2, 0, 2, 3, 3, 1), (10, 0, 2, 3, 1, 1), (8, 0, 2, 2, 0, 0)])),
     # code 63 only once the pause has ended: K of the parallel has 1 alone, A and S have 63, and 1 is not in S
-    (DROPPED,
+    (LOCK_62,
      ok(69, 2, 207, [(2, 0, 2, 3, up_to(63), 1), (8, 0, 2, 2, up_to(63), 1), (2, 0, 2, 3, up_to(63), 1), (4, 61, 1 << 63, 1 << 63, 0, 0),
                      (9, 0, 2, 1 << 63 | 2, up_to(63), 1), (10, 0, 2, 1 << 63 | 2, up_to(63) - 2, 1)]
         + [(11, 0, 2, 2 << t | 2, up_to(1 + t) - 2, 1) for t in range(61, 0, -1)] + [(11, 0, 2, 3, 1, 1), (8, 0, 2, 2, 0, 0)])),
@@ -203,10 +203,10 @@ INSTANTS = [  # mode, table, state, answers
     ("resumed", under(8, 255, PAUSE), [1] + [0] * 255, [], ran(1, 0, 257, [1] + [0] * 255, [])),
     # code 63 goes up to the outermost of 62 traps, which drops the pauses beneath it; the loop then starts its body once more
     ("started", under(11, 62, [4, 61]), [9] * 63, [], ran(0, 0, 63, [0] * 63, [])),
-    ("started", LEFT, [0] * 68, [], ran(1, 0, 68, held(68, 65), [])), ("resumed", LEFT, held(68, 65), [], ran(1, 0, 3 + 67, held(68, 65), [])),
-    ("resumed", LEFT, held(68, 1), [], ran(1, 0, 66 + 67, held(68, 65), [])),
-    ("started", DROPPED, [0] * 69, [], ran(1, 0, 68, held(69, 0, 2), [])),
-    ("resumed", DROPPED, held(69, 0, 2), [], ran(1, 0, 70 + 67, held(69, 0, 2), [])),
+    ("started", BESIDE_A_PAUSE, [0] * 68, [], ran(1, 0, 68, held(68, 65), [])), ("resumed", BESIDE_A_PAUSE, held(68, 65), [], ran(1, 0, 3 + 67, held(68, 65), [])),
+    ("resumed", BESIDE_A_PAUSE, held(68, 1), [], ran(1, 0, 66 + 67, held(68, 65), [])),
+    ("started", LOCK_62, [0] * 69, [], ran(1, 0, 68, held(69, 0, 2), [])),
+    ("resumed", LOCK_62, held(69, 0, 2), [], ran(1, 0, 70 + 67, held(69, 0, 2), [])),
 ]
 
 def edge_theorems():

@@ -23,7 +23,7 @@
  * Codes and sets
  *
  * Completion code 0 is ended, 1 is paused, 2 + level is an exit. A set of codes is a 64-bit number
- * with bit k for code k. No code of an accepted program is above 63.
+ * with bit k for code k. No set of an accepted program has a code above 63.
  *
  * What comes back
  *

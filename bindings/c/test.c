@@ -2,7 +2,8 @@
  * Tests of bavzhrono.h, as C and as C++. One line a test; the exit status says whether all passed.
  *
  * The expected values are those that document 01 prints (Table W and its edges) or that its rules,
- * as F-5 amends them, give by hand; the sets of W3 are those of the implementation in compare/.
+ * as F-5 and F-7 amend them, give by hand; the sets of W3 are those of the implementation in
+ * compare/.
  */
 #include "bavzhrono.h"
 #include "bavzhrono.h" /* twice, for the include guard */

@@ -256,7 +256,8 @@ fn contexts_and_marks_of_all_small_tables_within_62_traps() {
         for traps in 60..=62 {
             for around in AROUND_TRAPS {
                 let within = [&table[..], &[11, 0].repeat(traps), around].concat();
-                // What is around these nodes is the same in all the tables.
+                // Of what is around these nodes S is the same in all the tables; K and A
+                // of the traps are in tests/deep_traps.rs and in the vector files.
                 counts.compare(&within, table.len() / 2);
             }
         }

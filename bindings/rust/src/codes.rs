@@ -3,7 +3,8 @@ use std::iter::FusedIterator;
 
 /// A set of completion codes, with bit k for code k.
 ///
-/// Code 0 is ended, 1 is paused, 2 + level is an exit. No code of an accepted program is above 63.
+/// Code 0 is ended, 1 is paused, 2 + level is an exit. No set of an accepted program
+/// has a code above 63.
 ///
 /// ```
 /// use bavzhrono::CodeSet;

@@ -9,8 +9,7 @@ use native.Mathlib.Omega.{arith}
 use borrow.Author.Tests.{le-leb}
 use lib.ListN.{length, getD, List·getD-append}
 use Rattle.codes.specs.Codes.{Codes, word}
-use Rattle.codes.specs.Words.{_∋_}
-use Rattle.codes.specs.Theorems.{Holds}
+use Rattle.codes.specs.Theorems.{Represents}
 use Rattle.codes.proofs.Bools.{both}
 use Rattle.esterel.specs.Statement.{Stmt, size, nodes, loopDepth}
 use Rattle.esterel.specs.Sets.{startSet, anyInstantSet, Place, contextOf, stmtOf, placesOf, placeAt}
@@ -107,10 +106,10 @@ entry-is f p old i h =
     let g : Place → ℕ = λ x. f (lineOf x) in
     ap (λ l. getD (onto l old) i 0) (map-lines f g (λ x. refl) (placesOf p)) ∙ List·getD-append (map g (placesOf p)) _ 0 i (rw (length-by-place g p) h) ∙ by-place-at g p i h
 
--- and holds the node's set, where the figure is the word of a set that loses none
+-- and represents the node's set, where the figure is the word of a set that loses none
 module _ (f : Line → ℕ) (set : Place → Codes) (is-word : (x : Place) → f (lineOf x) ≡ word (set x)) (p : Stmt) (old : List ℕ) {new : List ℕ} (is : new ≡ onto (map f (listing p)) old) where
-  entry-holds : (i : ℕ) → i < size p → Holds (word (set (placeAt p i))) (set (placeAt p i)) → Holds (getD new i 0) (set (placeAt p i))
-  entry-holds i h held = rw (ap (λ l. getD l i 0) is ∙ entry-is f p old i h ∙ is-word (placeAt p i)) held
+  entry-represents : (i : ℕ) → i < size p → Represents (word (set (placeAt p i))) (set (placeAt p i)) → Represents (getD new i 0) (set (placeAt p i))
+  entry-represents i h whole = rw (ap (λ l. getD l i 0) is ∙ entry-is f p old i h ∙ is-word (placeAt p i)) whole
 
 module _ {t k a s m k′ a′ s′ m′ : List ℕ} {n d : ℕ} (o : Analysis t k a s m k′ a′ s′ m′ (Done n d)) where
   exact-sets : ExactSets t s m k′ a′ s′ m′ n d
@@ -120,9 +119,7 @@ module _ {t k a s m k′ a′ s′ m′ : List ℕ} {n d : ℕ} (o : Analysis t 
       let accepted = checked-passed _ t p v in
       let sound = acceptance t p accepted .1 in
       let kept : (i : ℕ) → i < n → NoneLost (placeAt p i) = λ i h. lowCodes p sound i (omega arith) in
-      let starts : (i : ℕ) → i < n → Holds (getD k′ i 0) (startSet (stmtOf (placeAt p i))) =
-      λ i h. entry-holds kOf (λ x. startSet (stmtOf x)) line-k p k (o .startsAre ∙ ap (λ x. column kOf x k) v) i (omega arith) (kept i h .heldK) in
-      let entry : (i j : ℕ) → i < n → (getD k′ i 0 ∋ j) ≡ startSet (statementAt (nodes p) i) j = λ i j h. starts i h .bits j ∙ ap (λ q. startSet q j) (place-statement p i) in
+      let starts : (i : ℕ) → i < n → Represents (getD k′ i 0) (startSet (statementAt (nodes p) i)) = λ i h. rw (place-statement p i) at (entry-represents kOf (λ x. startSet (stmtOf x)) line-k p k (o .startsAre ∙ ap (λ x. column kOf x k) v) i (omega arith) (kept i h .wordK)) in
       record {
         program = p;
         accepted = accepted;
@@ -130,13 +127,13 @@ module _ {t k a s m k′ a′ s′ m′ : List ℕ} {n d : ℕ} (o : Analysis t 
         loopsAre = ed;
         bits = λ i j h.
             (let (there, back) = exactness (statementAt (nodes p) i) (suc i - size (statementAt (nodes p) i)) j in
-            (λ e. there (sym (entry i j h) ∙ e), λ f. entry i j h ∙ back f));
+            (λ e. there (sym (starts i h .bits j) ∙ e), λ f. starts i h .bits j ∙ back f));
         contextsAre = o .contextsAre ∙ ap (λ x. column sOf x s) v ∙ ap (λ x. onto (map sOf x) s) (figure9 p sound);
         marksAre = o .marksAre ∙ ap (λ x. column markOf x m) v ∙ ap (λ x. onto (map markOf x) m) (figure9 p sound);
-        startsHold = starts;
-        anysHold = λ i h.
-            entry-holds aOf (λ x. anyInstantSet (stmtOf x)) line-a p a (o .anysAre ∙ ap (λ x. column aOf x a) v) i (omega arith) (kept i h .heldA);
-        contextsHold = λ i h. entry-holds sOf contextOf line-s p s (o .contextsAre ∙ ap (λ x. column sOf x s) v) i (omega arith) (kept i h .heldS);
+        startWords = starts;
+        anyWords = λ i h.
+            rw (place-statement p i) at (entry-represents aOf (λ x. anyInstantSet (stmtOf x)) line-a p a (o .anysAre ∙ ap (λ x. column aOf x a) v) i (omega arith) (kept i h .wordA));
+        contextWords = λ i h. entry-represents sOf contextOf line-s p s (o .contextsAre ∙ ap (λ x. column sOf x s) v) i (omega arith) (kept i h .wordS);
         noneLost = kept;
       }
 

@@ -9,8 +9,8 @@ use lib.ListN.{length, getD}
 use Rattle.codes.specs.Words.{_∋_}
 use Rattle.esterel.specs.Limits.{maxNodes}
 use Rattle.esterel.specs.Statement.{Stmt, size, nodes, loopDepth}
-use Rattle.esterel.specs.Codes.{Holds}
-use Rattle.esterel.specs.Sets.{startSet, anyInstantSet, contextOf, stmtOf, placeAt}
+use Rattle.esterel.specs.Codes.{Represents}
+use Rattle.esterel.specs.Sets.{startSet, anyInstantSet, contextOf, placeAt}
 use Rattle.esterel.specs.Table.{passed}
 use Rattle.esterel.specs.Checks.{verdict}
 use Rattle.esterel.specs.Instant.{start}
@@ -40,7 +40,7 @@ pub record ByLoops (p : Stmt) (r : Analysed) : Type 0 where
 
 -- after Done the table is that of an accepted program; bit k of entry i of the start sets is 1 exactly if some answers make the
 -- statement at node i, started, finish with code k; the contexts and marks are those of document 004's Figure 9 and its footnote; and entry i
--- of each buffer holds the whole set of node i, which has no code above 1 + the traps around it, hence none above 63 (F-7)
+-- of each buffer represents the set of node i, which has no code above 1 + the traps around it, hence none above 63 (F-7)
 pub record ExactSets (t contexts marks starts′ anys′ contexts′ marks′ : List ℕ) (n d : ℕ) : Type 0 where
   pub program : Stmt
   pub accepted : verdict t ≡ passed program
@@ -51,9 +51,9 @@ pub record ExactSets (t contexts marks starts′ anys′ contexts′ marks′ : 
       ((getD starts′ i 0 ∋ k) ≡ true) ↔ Finishes (start (suc i - size (statementAt (nodes program) i)) (statementAt (nodes program) i)) k
   pub contextsAre : contexts′ ≡ onto (map sOf (figureListing program)) contexts
   pub marksAre : marks′ ≡ onto (map markOf (figureListing program)) marks
-  pub startsHold : (i : ℕ) → i < n → Holds (getD starts′ i 0) (startSet (stmtOf (placeAt program i)))
-  pub anysHold : (i : ℕ) → i < n → Holds (getD anys′ i 0) (anyInstantSet (stmtOf (placeAt program i)))
-  pub contextsHold : (i : ℕ) → i < n → Holds (getD contexts′ i 0) (contextOf (placeAt program i))
+  pub startWords : (i : ℕ) → i < n → Represents (getD starts′ i 0) (startSet (statementAt (nodes program) i))
+  pub anyWords : (i : ℕ) → i < n → Represents (getD anys′ i 0) (anyInstantSet (statementAt (nodes program) i))
+  pub contextWords : (i : ℕ) → i < n → Represents (getD contexts′ i 0) (contextOf (placeAt program i))
   pub noneLost : (i : ℕ) → i < n → NoneLost (placeAt program i)
 
 -- a refusal has a number from 1 to 11 and a node that a table can have, and no lent buffer has changed

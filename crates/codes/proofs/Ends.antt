@@ -25,16 +25,16 @@ trailing-lowest (suc n) w p h = go (w % 2) refl (λ q. trailing-lowest n (w / 2)
     go : (d : ℕ) → w % 2 ≡ d → (0 < w / 2 → Lowest (setOf (w / 2)) (trailingZeros n (w / 2))) → Lowest (setOf w) (under d (trailingZeros n (w / 2)))
     go zero e ih =
         let r = ih (omega arith) in
-        record { is-in = ∋-suc w (trailingZeros n (w / 2)) ∙ r .is-in; least = from r }
+        record { isIn = ∋-suc w (trailingZeros n (w / 2)) ∙ r .isIn; least = from r }
       where
         from : Lowest (setOf (w / 2)) (trailingZeros n (w / 2)) → (j : ℕ) → (w ∋ j) ≡ true → suc (trailingZeros n (w / 2)) ≤ j
         from r zero q = absurd (false≢true (sym (∋-low w ∙ rw e) ∙ q))
         from r (suc j) q = suc-le-suc (r .least j (sym (∋-suc w j) ∙ q))
-    go (suc zero) e ih = record { is-in = ∋-low w ∙ rw e; least = λ j q. zero-le }
+    go (suc zero) e ih = record { isIn = ∋-low w ∙ rw e; least = λ j q. zero-le }
     go (suc (suc d)) e ih = absurd (omega arith)
 
 pub trailing-lt : (n w : ℕ) → 0 < w → w < 2 ^ n → trailingZeros n w < n
-trailing-lt n w p h = code-lt n w (trailingZeros n w) h (trailing-lowest n w p h .is-in)
+trailing-lt n w p h = code-lt n w (trailingZeros n w) h (trailing-lowest n w p h .isIn)
 
 -- at n + 1 bits, the highest code stands below the leading zeros
 pub leading-highest : (n w : ℕ) → 0 < w → w < 2 ^ suc n → (leadingZeros (suc n) w ≤ n) × Highest (setOf w) (n - leadingZeros (suc n) w)
@@ -43,7 +43,7 @@ leading-highest n w p h =
     let (j, e, from, below) = leading-top (suc n) w p h in
     let one : w / 2 ^ j ≡ 1 = div-eq-of-lt-le (2 ^ j) (omega arith) (omega arith) in
     let z : n - leadingZeros (suc n) w ≡ j = omega arith in
-    (omega arith, rw z record { is-in = rw one; most = λ k q. omega (arith, code-lt (suc j) w k below q) })
+    (omega arith, rw z record { isIn = rw one; most = λ k q. omega (arith, code-lt (suc j) w k below q) })
 
 -- ---- the searches
 
@@ -54,7 +54,7 @@ least-found (suc n) i k a l h m = go (a i) refl (λ q. least-found n (suc i) k a
   where
     go : (b : Bool) → a i ≡ b → (suc i ≤ k → leastFrom n (suc i) a ≡ Code k) → cond b (Code i) (leastFrom n (suc i) a) ≡ Code k
     go true q ih = let g = m .least i q in ap Code (omega arith)
-    go false q ih = ih (lt-of-le-ne l (λ r. false≢true (sym q ∙ ap a r ∙ m .is-in)))
+    go false q ih = ih (lt-of-le-ne l (λ r. false≢true (sym q ∙ ap a r ∙ m .isIn)))
 
 pub greatest-found : (n k : ℕ) (a : Codes) → k < n → Highest a k → greatestBelow n a ≡ Code k
 unfolding greatestBelow
@@ -63,7 +63,7 @@ greatest-found (suc n) k a h m = go (a n) refl (λ q. greatest-found n k a q m)
   where
     go : (b : Bool) → a n ≡ b → (k < n → greatestBelow n a ≡ Code k) → cond b (Code n) (greatestBelow n a) ≡ Code k
     go true q ih = let g = m .most n q in ap Code (omega arith)
-    go false q ih = ih (lt-of-le-ne (omega arith) (λ r. false≢true (sym q ∙ ap a (sym r) ∙ m .is-in)))
+    go false q ih = ih (lt-of-le-ne (omega arith) (λ r. false≢true (sym q ∙ ap a (sym r) ∙ m .isIn)))
 
 -- ---- some code up to k
 
@@ -81,4 +81,4 @@ some-code n zero h = sym (upTo-none (setOf 0) n ∋-none)
 some-code n (suc m) h =
     let w = suc m in
     rw eqb·suc-zero
-    (sym (upTo-in (setOf w) (trailingZeros (suc n) w) n (omega (arith, trailing-lt (suc n) w (omega arith) h)) (trailing-lowest (suc n) w (omega arith) h .is-in)))
+    (sym (upTo-in (setOf w) (trailingZeros (suc n) w) n (omega (arith, trailing-lt (suc n) w (omega arith) h)) (trailing-lowest (suc n) w (omega arith) h .isIn)))

@@ -152,7 +152,7 @@ module _ (a b : Codes) (la lb ha hb : ℕ) (lowA : Lowest a la) (lowB : Lowest b
           let l = leb-true (max la lb) k (left (leb (max la lb) k) (leb k (max ha hb)) (right (a k || b k) e)) in
           let p : max k lb ≡ k = omega arith in
           let q : max la k ≡ k = omega arith in
-          ⊎-elim (λ f. rw p at (larger-in a b k lb f (lowB .is-in))) (λ f. rw q at (larger-in a b la k (lowA .is-in) f)) (either (a k) (b k) (left (a k || b k) between e))
+          ⊎-elim (λ f. rw p at (larger-in a b k lb f (lowB .isIn))) (λ f. rw q at (larger-in a b la k (lowA .isIn) f)) (either (a k) (b k) (left (a k || b k) between e))
 
       back : larger a b k ≡ true → ((a k || b k) && between) ≡ true
       back e =

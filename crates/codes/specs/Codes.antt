@@ -46,7 +46,7 @@ caught a zero = a 0 || a 2
 caught a (suc zero) = a 1
 caught a (suc (suc k)) = a (suc (suc (suc k)))
 
--- some code below 64 is in both; an accepted program has no code above 63 (F-7)
+-- some code below 64 is in both; no set of an accepted program has a code above 63 (F-7)
 abbrev pub meets : Codes → Codes → Bool
 meets a b = upTo (λ k. a k && b k) 63
 

@@ -13,37 +13,37 @@ use Rattle.codes.specs.declared.Found.the-variants.{Code, NoCode}
 abbrev pub AtMost : ℕ → Codes → Type 0
 AtMost n a = (k : ℕ) → a k ≡ true → k ≤ n
 
--- the 64-bit number w holds the set a: for every code number, also above 63, its bit says whether the code is in a
-pub record Holds (w : ℕ) (a : Codes) : Type 0 where
+-- the 64-bit number w represents the set a: for every code number, also above 63, its bit says whether the code is in a
+pub record Represents (w : ℕ) (a : Codes) : Type 0 where
   pub fits : w < 2 ^ 64
   pub bits : (k : ℕ) → (w ∋ k) ≡ a k
 
 pub record Lowest (a : Codes) (k : ℕ) : Type 0 where
-  pub is-in : a k ≡ true
+  pub isIn : a k ≡ true
   pub least : (j : ℕ) → a j ≡ true → k ≤ j
 
 pub record Highest (a : Codes) (k : ℕ) : Type 0 where
-  pub is-in : a k ≡ true
+  pub isIn : a k ≡ true
   pub most : (j : ℕ) → a j ≡ true → j ≤ k
 
--- what is found is such a code of a, and nothing only in the empty set
+-- what is found is such a code of a, or none where a is empty
 pub data FoundIn (Such : Codes → ℕ → Type 0) (a : Codes) : Found → Type 0 where
   nowhere : ((k : ℕ) → a k ≡ false) → FoundIn Such a NoCode
   found : (k : ℕ) → Such a k → FoundIn Such a (Code k)
 
 pub record OnSets : Type 0 where
-  -- a set is held exactly if it has no code above 63, and then by its word alone
-  pub holds : (a : Codes) → AtMost 63 a → Holds (word a) a
-  pub held : (w : ℕ) (a : Codes) → Holds w a → AtMost 63 a × (w ≡ word a)
+  -- a set is represented exactly if it has no code above 63, and then by its word alone
+  pub wordIs : (a : Codes) → AtMost 63 a → Represents (word a) a
+  pub represented : (w : ℕ) (a : Codes) → Represents w a → AtMost 63 a × (w ≡ word a)
   -- codes 0 to 63
-  pub singleton : (c : ℕ) → c ≤ 63 → Holds (singletonOf c) (only c)
-  pub union : (v w : ℕ) (a b : Codes) → Holds v a → Holds w b → Holds (unionOf v w) (union a b)
-  pub withoutEnded : (v : ℕ) (a : Codes) → Holds v a → Holds (withoutEndedOf v) (withoutEnded a)
-  pub meets : (v w : ℕ) (a b : Codes) → Holds v a → Holds w b → (meetsOf v w ≡ true) ↔ ((k : ℕ) × (a k ≡ true) × (b k ≡ true))
-  pub lowest : (v : ℕ) (a : Codes) → Holds v a → FoundIn Lowest a (lowestOf v)
-  pub highest : (v : ℕ) (a : Codes) → Holds v a → FoundIn Highest a (highestOf v)
-  pub parallel : (v w : ℕ) (a b : Codes) → Holds v a → Holds w b → Holds (parallelOf v w) (larger a b)
-  pub caught : (v : ℕ) (a : Codes) → Holds v a → Holds (caughtOf v) (caught a)
-  pub underParallel : (t v : ℕ) (P : Codes) → 1 + t ≤ 63 → Holds v P → Holds (underParallelOf t v) (underParallel t P)
+  pub singletonIs : (c : ℕ) → c ≤ 63 → Represents (singletonOf c) (only c)
+  pub unionIs : (v w : ℕ) (a b : Codes) → Represents v a → Represents w b → Represents (unionOf v w) (union a b)
+  pub withoutEndedIs : (v : ℕ) (a : Codes) → Represents v a → Represents (withoutEndedOf v) (withoutEnded a)
+  pub meetsIs : (v w : ℕ) (a b : Codes) → Represents v a → Represents w b → (meetsOf v w ≡ true) ↔ ((k : ℕ) × (a k ≡ true) × (b k ≡ true))
+  pub lowestIs : (v : ℕ) (a : Codes) → Represents v a → FoundIn Lowest a (lowestOf v)
+  pub highestIs : (v : ℕ) (a : Codes) → Represents v a → FoundIn Highest a (highestOf v)
+  pub parallelIs : (v w : ℕ) (a b : Codes) → Represents v a → Represents w b → Represents (parallelOf v w) (larger a b)
+  pub caughtIs : (v : ℕ) (a : Codes) → Represents v a → Represents (caughtOf v) (caught a)
+  pub underParallelIs : (t v : ℕ) (P : Codes) → 1 + t ≤ 63 → Represents v P → Represents (underParallelOf t v) (underParallel t P)
   -- codes 0 to 62, which become codes up to 63
-  pub underTrap : (v : ℕ) (P : Codes) → AtMost 62 P → Holds v P → Holds (underTrapOf v) (underTrap P)
+  pub underTrapIs : (v : ℕ) (P : Codes) → AtMost 62 P → Represents v P → Represents (underTrapOf v) (underTrap P)

@@ -1,5 +1,5 @@
 -- At each node of a program that passes checks 9 and 10 the traps around it catch its exits, and are no more than check 9 allows. So no code
--- of its K, A and S is past theirs, and their 64-bit numbers hold them (F-7).
+-- of its K, A or S is past theirs, and their 64-bit numbers represent them (F-7).
 use mathlib.Core.Path.{_≡_}
 use mathlib.Core.Bool.{false, false≢true}
 use mathlib.Core.List.{List, _∷_, []}
@@ -78,8 +78,8 @@ lowCodes p a i h =
       lowK = low K;
       lowA = low A;
       lowS = low (c .context);
-      heldK = onSets .holds _ (below (c .few) K);
-      heldA = onSets .holds _ (below (c .few) A);
-      heldS = onSets .holds _ (below (c .few) (c .context));
+      wordK = onSets .wordIs _ (below (c .few) K);
+      wordA = onSets .wordIs _ (below (c .few) A);
+      wordS = onSets .wordIs _ (below (c .few) (c .context));
       meetsS = λ b. meets-common b (contextOf x) (below (c .few) (c .context));
     }

@@ -16,6 +16,7 @@ use Rattle.esterel.specs.Instant.{Entry, entry, started, resumed}
 use Rattle.esterel.specs.Outcome.{statementAt, allIn, allGoOn}
 use Rattle.esterel.specs.Theorems.{Subtrees}
 use Rattle.esterel.proofs.Sizes.{length-nodes, size-pos}
+use Rattle.esterel.proofs.Accepted.{place-statement}
 use Rattle.esterel.proofs.Ranges.{Over, over-join, over-last}
 use Rattle.esterel.proofs.Nodes.{Part, part-child, part-first, part-second, part-own, sits, root}
 
@@ -87,6 +88,7 @@ subtrees =
       twoChildren = two-children;
       kindAt = λ p i h. kind-at (nodes p) i (rw length-nodes h);
       fieldAt = λ p i h. field-at (nodes p) i (rw length-nodes h);
+      placed = place-statement;
     }
 
 kind-loop : (p : Stmt) → eqb (kind p) 8 ≡ true → (b : Stmt) × (p ≡ one loop b)

@@ -77,10 +77,11 @@ places d t P (two b p q) =
 abbrev pub placesOf : Stmt → List Place
 placesOf p = places 1 0 empty p
 
--- node i of p in its program; past its nodes there is none
+-- what is read past a program's nodes
 abbrev pub outside : Place
 outside = at 0 0 empty (leaf nothing)
 
+-- node i of p in its program
 abbrev pub placeAt : Stmt → ℕ → Place
 placeAt p i = getD (placesOf p) i outside
 

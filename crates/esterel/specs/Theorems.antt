@@ -8,7 +8,7 @@ use Prim.Native.Nat.{ℕ, suc, _+_, _-_, _*_, _≤_, _<_}
 use lib.ListN.{length, getD, take, drop}
 use Rattle.esterel.specs.Limits.{maxNodes}
 use Rattle.esterel.specs.Statement.{Unary, loop, Binary, Stmt, one, two, kind, field, size, nodes, loopsAround}
-use Rattle.esterel.specs.Codes.{Codes, meets, word, AtMost, Holds}
+use Rattle.esterel.specs.Codes.{Codes, meets, word, AtMost, Represents}
 use Rattle.esterel.specs.Sets.{startSet, anyInstantSet, Place, trapsOf, contextOf, stmtOf, placesOf, placeAt}
 use Rattle.esterel.specs.Table.{Node, takes1, takes2, nodeOf, passed, refused, read, postfix}
 use Rattle.esterel.specs.Checks.{tooDeep, tooManyTraps, uncaught, firstNode, checkPlaces, verdict, planned}
@@ -35,6 +35,8 @@ pub record Subtrees : Type 0 where
   -- the two bytes of node i
   pub kindAt : (p : Stmt) (i : ℕ) → i < size p → getD (postfix p) (2 * i) 0 ≡ kind (statementAt (nodes p) i)
   pub fieldAt : (p : Stmt) (i : ℕ) → i < size p → getD (postfix p) (2 * i + 1) 0 ≡ field (statementAt (nodes p) i)
+  -- its place is that of its statement
+  pub placed : (p : Stmt) (i : ℕ) → stmtOf (placeAt p i) ≡ statementAt (nodes p) i
 
 -- The same of the bytes (F-3). In a table that reads to p, the statement q stands at node i: its nodes are those from `from` to i, and the
 -- bytes of these nodes are its own.
@@ -174,16 +176,16 @@ pub record Starving : Type 0 where
       (p : Stmt) → Accepted p → (held answers : List ℕ) → admitted p held ≡ true →
       (resume 0 p held answers ≡ starved) ↔ NeedsMore p (resume 0 p held) answers
 
--- F-7. No code in K, A and S of a node is above 1 + the traps around it, and that is at most 63: so the 64-bit number of each set holds it,
--- and loses no code
+-- F-7. No code in K, A or S of a node is above 1 + the traps around it, and that is at most 63: so the 64-bit number of each set represents
+-- it, and loses no code
 pub record NoneLost (x : Place) : Type 0 where
   pub fits : 1 + trapsOf x ≤ 63
   pub lowK : AtMost (1 + trapsOf x) (startSet (stmtOf x))
   pub lowA : AtMost (1 + trapsOf x) (anyInstantSet (stmtOf x))
   pub lowS : AtMost (1 + trapsOf x) (contextOf x)
-  pub heldK : Holds (word (startSet (stmtOf x))) (startSet (stmtOf x))
-  pub heldA : Holds (word (anyInstantSet (stmtOf x))) (anyInstantSet (stmtOf x))
-  pub heldS : Holds (word (contextOf x)) (contextOf x)
+  pub wordK : Represents (word (startSet (stmtOf x))) (startSet (stmtOf x))
+  pub wordA : Represents (word (anyInstantSet (stmtOf x))) (anyInstantSet (stmtOf x))
+  pub wordS : Represents (word (contextOf x)) (contextOf x)
   -- nor does a test whether a set meets S overlook one
   pub meetsS : (a : Codes) → (meets a (contextOf x) ≡ true) ↔ ((k : ℕ) × (a k ≡ true) × (contextOf x k ≡ true))
 

@@ -21,7 +21,7 @@ pub struct Group {
 
 pub const GROUPS: [Group; 16] = [
     Group {
-        name: "Table W and the edges of document 01",
+        name: "Table W and the edges",
         run: tables::edges,
         random: false,
     },
@@ -86,7 +86,7 @@ pub const GROUPS: [Group; 16] = [
         random: true,
     },
     Group {
-        name: "answers of 0 to 8 entries: Table W and the edges of document 01",
+        name: "answers of 0 to 8 entries: Table W and the edges",
         run: refusals::edges,
         random: false,
     },
