@@ -114,21 +114,26 @@ fn code_63_in_all_sets() {
     assert_eq!(sets.marks[67], Mark(0));
 }
 
+/// Starts the program and resumes it, with so many entries. Both instants pause with the same
+/// pauses held.
+fn assert_pauses_twice(table: &[u8], held: &[usize], entries: [usize; 2]) {
+    let mut state = vec![0; table.len() / 2];
+    for &pause in held {
+        state[pause] = 1;
+    }
+    let mut lent = Buffers::for_table(table, 0);
+    let [started, resumed] = entries.map(|entries| closed(Completion::Paused, 0, entries));
+    assert_eq!(lent.start(table, &[]), started);
+    assert_eq!(lent.state, state);
+    assert_eq!(lent.resume(table, &[]), resumed);
+    assert_eq!(lent.state, state);
+}
+
 #[test]
 fn a_started_exit_leaves_62_traps() {
-    let table = exit_beside_a_pause();
-    let mut held = vec![0; 68];
-    held[65] = 1;
-    let mut lent = Buffers::for_table(&table, 0);
-    // Every node once; the outermost trap drops the pause beside the exit.
-    assert_eq!(lent.start(&table, &[]), closed(Completion::Paused, 0, 68));
-    assert_eq!(lent.state, held);
-    // The loop, the parallel and the pause, then all but the loop.
-    assert_eq!(
-        lent.resume(&table, &[]),
-        closed(Completion::Paused, 0, 3 + 67)
-    );
-    assert_eq!(lent.state, held);
+    // Every node once; the outermost trap drops the pause beside the exit. Then the loop, the
+    // parallel and the pause, and once more all but the loop.
+    assert_pauses_twice(&exit_beside_a_pause(), &[65], [68, 3 + 67]);
 }
 
 #[test]
@@ -136,17 +141,6 @@ fn an_exit_after_a_pause_leaves_62_traps() {
     // The lock program of F-5 with 62 traps for one: its two pauses are held.
     let lock = vec![2, 0, 8, 0, 2, 0, 4, 61, 9, 0, 10, 0];
     let table = [lock, [11, 0].repeat(62), vec![8, 0]].concat();
-    let mut held = vec![0; 69];
-    held[0] = 1;
-    held[2] = 1;
-    let mut lent = Buffers::for_table(&table, 0);
-    // All but the exit.
-    assert_eq!(lent.start(&table, &[]), closed(Completion::Paused, 0, 68));
-    assert_eq!(lent.state, held);
-    // All, pause 0 twice; then the loop's body once more, but not the exit.
-    assert_eq!(
-        lent.resume(&table, &[]),
-        closed(Completion::Paused, 0, 70 + 67)
-    );
-    assert_eq!(lent.state, held);
+    // All but the exit. Then all, pause 0 twice, and the loop's body once more without the exit.
+    assert_pauses_twice(&table, &[0, 2], [68, 70 + 67]);
 }
