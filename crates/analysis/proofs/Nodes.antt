@@ -7,11 +7,11 @@ use Prim.Native.Nat.{ℕ, suc, _+_, _-_, _*_, _≤_, _<_}
 use native.Mathlib.Omega.{arith}
 use lib.Dec.{ltb, nltb→le}
 use lib.ListN.{getD}
-use Rattle.codes.specs.Codes.{Codes, only, union, given, withoutEnded, word}
+use Rattle.codes.specs.Codes.{Codes, union, given, withoutEnded, word}
 use Rattle.codes.specs.Words.{_∋_, unionOf, withoutEndedOf}
 use Rattle.codes.specs.Theorems.{AtMost}
 use Rattle.codes.proofs.Bools.{cannot-pass, toNot}
-use Rattle.codes.proofs.Members.{only-in, only-most, union-most}
+use Rattle.codes.proofs.Members.{only-in}
 use Rattle.codes.proofs.Laws.{singleton-word, union-word, without-ended-word, parallel-word, caught-word, ∋-word, word-same}
 use Rattle.esterel.specs.Limits.{maxDepth, maxTraps}
 use Rattle.esterel.specs.Statement.{Leaf, nothing, pause, emit, exit, Unary, signal, suspend, loop, trap, Binary, present, sequence, parallel, Stmt, leaf, one, two, kind, field, size, nodes}
@@ -21,6 +21,7 @@ use Rattle.esterel.specs.Outcome.{statementAt}
 use Rattle.esterel.proofs.Accepted.{Passes, first-passes}
 use Rattle.esterel.proofs.Caught.{codes-few}
 use Rattle.esterel.proofs.Every.{every-at}
+use Rattle.esterel.proofs.Low.{start-pause, any-pause}
 use Rattle.esterel.proofs.Subtrees.{only-child}
 use Rattle.table.specs.Kinds.{kindOf}
 use Rattle.table.specs.Program.{programOf}
@@ -59,8 +60,8 @@ places-pass ps e =
 
 -- the codes of a pause are 0 and 1
 pub pause-few : (any : Bool) → AtMost 1 (pauseSet any)
-pause-few true = union-most 1 (only 0) (only 1) (only-most 1 0 (omega arith)) (only-most 1 1 (omega arith))
-pause-few false = only-most 1 1 (omega arith)
+pause-few true = any-pause
+pause-few false = start-pause
 
 sequence-word : (a b : Codes) → sequenceOf (word a) (word b) ≡ word (union (withoutEnded a) (given (a 0) b))
 unfolding sequenceOf

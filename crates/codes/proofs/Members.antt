@@ -1,6 +1,6 @@
 -- The codes of each set that the rules make, for all codes together.
 use mathlib.Core.Path.{_≡_, refl}
-use mathlib.Core.Bool.{Bool, true, _&&_, _||_, or-true}
+use mathlib.Core.Bool.{Bool, true, false≢true, _&&_, _||_, or-true}
 use mathlib.Core.Logic.{_⊎_, inl, inr, ⊎-elim, _↔_}
 use Prim.Native.Nat.{ℕ, zero, suc, _+_, _≤_, max}
 use native.Mathlib.Nat.{max-eq-left, max-eq-right}
@@ -8,7 +8,7 @@ use native.Mathlib.Decide.{decLe}
 use native.Mathlib.Omega.{arith}
 use borrow.Author.Tests.{leb-true}
 use lib.Dec.{eqb, leb, eqb→eq, eqb-refl}
-use Rattle.codes.specs.Codes.{Codes, only, union, given, withoutEnded, upTo, larger, catchCode, caught, meets, underTrap, underParallel}
+use Rattle.codes.specs.Codes.{Codes, empty, only, union, given, withoutEnded, upTo, larger, catchCode, caught, meets, underTrap, underParallel}
 use Rattle.codes.specs.Theorems.{AtMost}
 use Rattle.codes.proofs.Bools.{both, left, right, either, inl-true, inr-true, toT, fromT}
 
@@ -85,6 +85,9 @@ meets-common a b low = (
 )
 
 -- ---- the highest code that each can have
+
+pub empty-most : (n : ℕ) → AtMost n empty
+empty-most n k e = absurd (false≢true e)
 
 pub only-most : (n c : ℕ) → c ≤ n → AtMost n (only c)
 only-most n c h k e = omega (arith, only-out c k e)

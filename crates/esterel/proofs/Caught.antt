@@ -1,13 +1,13 @@
 -- At each node of a program that passes checks 9 and 10 the traps around it catch its exits, and are no more than check 9 allows. So no code
 -- of its K, A or S is past theirs, and their 64-bit numbers represent them (F-7).
 use mathlib.Core.Path.{_≡_}
-use mathlib.Core.Bool.{false, false≢true}
+use mathlib.Core.Bool.{false}
 use mathlib.Core.List.{List, _∷_, []}
 use Prim.Native.Nat.{ℕ, suc, _+_, _≤_}
 use native.Mathlib.Omega.{arith}
 use lib.Dec.{ltb, nltb→le}
 use Rattle.codes.proofs.Bools.{toNot}
-use Rattle.codes.proofs.Members.{meets-common}
+use Rattle.codes.proofs.Members.{empty-most, meets-common}
 use Rattle.codes.proofs.Theorems.{onSets}
 use Rattle.esterel.specs.Limits.{maxTraps}
 use Rattle.esterel.specs.Statement.{Unary, signal, suspend, loop, trap, Stmt, leaf, one, two, nodes, trapsUnder}
@@ -45,14 +45,11 @@ caught-places (two b p q) d t P h s x c =
     let second = caught-places q (suc d) t (underRight b t P p) h (right-low b t P p s) (x .1) (every-right (places (suc d) t (underLeft b t P q) p) _ (every-left _ _ c)) in
     every-join (every-join first second) (also record { exits = x; few = h; context = s } none)
 
-no-code : (n : ℕ) → AtMost n empty
-no-code n k e = absurd (false≢true e)
-
 module _ (p : Stmt) (traps : Passes tooManyTraps (placesOf p)) (exits : Passes uncaught (placesOf p)) where
   pub caught-at : (i : ℕ) → Caught (placeAt p i)
   caught-at i =
-      every-at outside record { exits = tt; few = omega arith; context = no-code 1 }
-      (caught-places p 1 0 empty (omega arith) (no-code 1) (exits-caught p 1 0 empty exits) traps) i
+      every-at outside record { exits = tt; few = omega arith; context = empty-most 1 }
+      (caught-places p 1 0 empty (omega arith) (empty-most 1) (exits-caught p 1 0 empty exits) traps) i
 
   -- the codes of each node, where those of a pause are 0 and 1 alone
   pub codes-few : (paused : Codes) → AtMost 1 paused → (i : ℕ) → AtMost (suc maxTraps) (codes paused (statementAt (nodes p) i))

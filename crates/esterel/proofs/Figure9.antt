@@ -1,6 +1,6 @@
 -- S is that of Figure 9 without the codes past the traps around a node, and no statement there has such a code.
 use mathlib.Core.Path.{_≡_, refl, sym, ap, ap₂, _∙_}
-use mathlib.Core.Bool.{Bool, true, false, false≢true, _&&_, or-true, or-false, and-true, and-false}
+use mathlib.Core.Bool.{Bool, true, false, _&&_, or-true, or-false, and-true, and-false}
 use mathlib.Core.List.{map, map-append}
 use Prim.Native.Nat.{ℕ, zero, suc, _+_, _≤_, _<_}
 use native.Mathlib.Decide.{decLe}
@@ -8,7 +8,7 @@ use native.Mathlib.Omega.{arith}
 use borrow.Author.Tests.{le-leb, lt-leb, ne-eqb}
 use lib.Dec.{leb, eqb·zero-suc}
 use Rattle.codes.proofs.Bools.{both, right, cannot-pass, same-test}
-use Rattle.codes.proofs.Members.{upTo-in, upTo-out, given-most, under-parallel-most}
+use Rattle.codes.proofs.Members.{upTo-in, upTo-out, empty-most, given-most, under-parallel-most}
 use Rattle.codes.proofs.Laws.{word-same}
 use Rattle.codes.proofs.Ends.{upTo-same}
 use Rattle.esterel.specs.Statement.{Unary, signal, suspend, loop, trap, Binary, present, sequence, parallel, Stmt, leaf, one, two, kind, field, trapsUnder}
@@ -162,5 +162,5 @@ lines (two b p q) d x g =
 
 pub figure9 : Figure9
 figure9 p a =
-    let outside : Agree 0 empty empty = record { same = λ k h. refl; low = λ k e. absurd (false≢true e); wide = λ k h e. e } in
+    let outside : Agree 0 empty empty = record { same = λ k h. refl; low = empty-most 1; wide = λ k h e. e } in
     lines p 1 (exits-in p a) outside

@@ -42,11 +42,18 @@ module _ (paused : Codes) (few : AtMost 1 paused) where
   codes-low (one (signal s) p) t x = codes-low p t x
   codes-low (one (suspend s) p) t x = codes-low p t x
 
+-- the codes of a pause in K and in A
+pub start-pause : AtMost 1 (only 1)
+start-pause = only-most 1 1 (omega arith)
+
+pub any-pause : AtMost 1 (union (only 0) (only 1))
+any-pause = union-most 1 (only 0) (only 1) (only-most 1 0 (omega arith)) start-pause
+
 pub start-low : (p : Stmt) (t : ℕ) → Exits t p → AtMost (suc t) (startSet p)
-start-low = codes-low (only 1) (only-most 1 1 (omega arith))
+start-low = codes-low (only 1) start-pause
 
 pub any-low : (p : Stmt) (t : ℕ) → Exits t p → AtMost (suc t) (anyInstantSet p)
-any-low = codes-low (union (only 0) (only 1)) (union-most 1 (only 0) (only 1) (only-most 1 0 (omega arith)) (only-most 1 1 (omega arith)))
+any-low = codes-low (union (only 0) (only 1)) any-pause
 
 -- and so is the context of a child, where its parent's is
 

@@ -35,7 +35,7 @@ pub record Subtrees : Type 0 where
   -- the two bytes of node i
   pub kindAt : (p : Stmt) (i : ℕ) → i < size p → getD (postfix p) (2 * i) 0 ≡ kind (statementAt (nodes p) i)
   pub fieldAt : (p : Stmt) (i : ℕ) → i < size p → getD (postfix p) (2 * i + 1) 0 ≡ field (statementAt (nodes p) i)
-  -- its place is that of its statement
+  -- and its place has its statement
   pub placed : (p : Stmt) (i : ℕ) → stmtOf (placeAt p i) ≡ statementAt (nodes p) i
 
 -- The same of the bytes (F-3). In a table that reads to p, the statement q stands at node i: its nodes are those from `from` to i, and the
