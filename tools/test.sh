@@ -22,16 +22,26 @@ part() {
     failed=$((failed + ${counts#* }))
 }
 
-# The listing program on the worked examples.
+# listed FILE LISTING COMMAND..: passed if the command writes the listing.
+listed() {
+    file=$1 listing=$2
+    shift 2
+    if "$@" < "$file" | cmp -s - "$listing"; then
+        right=$((right + 1))
+    else
+        echo "FAIL: $file is not listed as $listing has it"
+        wrong=$((wrong + 1))
+    fi
+}
+
+# The worked examples, as tables and as texts.
 list_examples() {
     right=0 wrong=0
     for table in examples/*.table; do
-        if target/bin/list < "$table" | cmp -s - "${table%.table}.listing"; then
-            right=$((right + 1))
-        else
-            echo "FAIL: $table is not listed as ${table%.table}.listing has it"
-            wrong=$((wrong + 1))
-        fi
+        listed "$table" "${table%.table}.listing" target/bin/list
+    done
+    for text in examples/*.strl; do
+        listed "$text" "$text.listing" tools/list_text.sh "$text"
     done
     echo "$right passed, $wrong failed"
 }

@@ -100,14 +100,35 @@ make_tables() {
     { cat "$out/2048.table" && head -c 97952 /dev/zero; } > "$out/100000.table"
 }
 
+# The lengths around the longest text, whose blanks stand before its only statement: one byte less, and one more, which is refused; and texts
+# that are refused for what they say.
+make_texts() {
+    : > "$out/0.text"
+    { head -c 16378 /dev/zero | tr '\0' ' ' && printf pause; } > "$out/16383.text"
+    { printf '\n' && cat "$out/16383.text"; } > "$out/16384.text"
+    { printf '\t' && cat "$out/16384.text"; } > "$out/16385.text"
+    { cat "$out/16384.text" && head -c 83616 /dev/zero; } > "$out/100000.text"
+    head -c 16384 /dev/zero | tr '\0' '[' > "$out/brackets.text"
+    printf 'exit T' > "$out/untrapped.text"
+    printf '[pause]' > "$out/bracket.text"
+}
+
+# told PROGRAM NAME: a script NAME that writes what the program writes to standard output and, after a line of dashes, to standard error.
+told() {
+    printf '#!/bin/sh\nset -u\n"%s" 2> "%s.error"\nprintf "\\n--\\n"\ncat "%s.error"\n' "$1" "$out/$2" "$out/$2" > "$out/$2" && chmod +x "$out/$2"
+}
+
 gcc -Wall -Wextra -Werror -O1 tools/pieces.c -o "$out/pieces" &&
-    cargo build --manifest-path compare/Cargo.toml --release --offline --locked --quiet --bin list &&
-    make_tables || { echo "0 passed, 1 failed"; exit 1; }
+    cargo build --manifest-path compare/Cargo.toml --release --offline --locked --quiet --bin list --bin translate &&
+    make_tables && make_texts && told "$PWD/target/bin/translate" translate && told "$others/translate" other_translate || { echo "0 passed, 1 failed"; exit 1; }
 count "a read gets a piece" is_in_pieces
 count "the longest table is accepted" is_accepted
 run target/bin/list "$others/list" examples/*.table "$out"/*.table
 run_failing target/bin/list examples/w1.table
+run "$out/translate" "$out/other_translate" examples/*.strl "$out"/*.text
+run_failing target/bin/translate examples/lock.strl
 run target/bin/tables "cat crates/tables/stdout" crates/tables/stdin
 run target/bin/instants "cat crates/instants/stdout" crates/instants/stdin
+run target/bin/texts "cat crates/texts/stdout" crates/texts/stdin
 echo "$passed passed, $failed failed"
 [ "$failed" -eq 0 ]

@@ -1,6 +1,7 @@
 /*
- * Bavzhrono: the checker and the runner of single instants for tables of pure Esterel, for C (C99)
- * and C++. Link with libabi.a (x86-64), which needs nothing but the C library.
+ * Bavzhrono: the checker and the runner of single instants for tables of pure Esterel, and the
+ * reader that makes such a table from text, for C (C99) and C++. Link with libabi.a (x86-64), which
+ * needs nothing but the C library.
  *
  * The table
  *
@@ -20,6 +21,32 @@
  *       10  parallel   2: left, right    0
  *       11  trap       1                 0
  *
+ * The text
+ *
+ * A program as text, for bavzhrono_read, is in kernel Esterel:
+ *
+ *     program   = sequence
+ *     sequence  = statement { ";" statement }                         groups to the left
+ *     bracket   = "[" sequence "||" sequence { "||" sequence } "]"    groups to the left
+ *     statement = nothing | pause | emit NAME | exit NAME | bracket
+ *               | signal NAME in sequence end | trap NAME in sequence end | loop sequence end
+ *               | present NAME then sequence [ else sequence ] end
+ *               | present NAME else sequence end
+ *               | suspend sequence when NAME
+ *
+ * A present's missing branch is nothing. A suspend has no end of its own.
+ *
+ * A word is an unbroken run of ASCII letters, digits and underscores. A NAME is a word of at most
+ * 32 characters whose first is a letter, and none of the language's words: nothing, pause, signal,
+ * in, end, emit, present, then, else, suspend, when, loop, trap, exit. Case matters. Blanks, tabs
+ * and line feeds separate, and may stand around any word or sign. Any other byte is outside the
+ * grammar, a carriage return too, and there are no comments.
+ *
+ * Signals are numbered from 0 in the order in which their names first appear in the text, be it in
+ * signal, emit, present or suspend: `suspend emit A when S` has A = 0 and S = 1. A name that is
+ * declared again keeps its number. An exit means the nearest trap of its name around it. A trap
+ * and a signal may have the same name.
+ *
  * Codes and sets
  *
  * Completion code 0 is ended, 1 is paused, 2 + level is an exit. A set of codes is a 64-bit number
@@ -34,7 +61,7 @@
  * After 0 the function's three values are in the first three entries of `answer`. After a refusal
  * no buffer has changed, `answer` among them. An `answer` of fewer than 3 entries is a buffer that
  * is too short, like any other: number 3, once checks 1 and 2 are passed, which bavzhrono_render
- * does not make.
+ * does not make. bavzhrono_read makes check 3 ahead of all others.
  *
  *     number  refused if                                                        names a node
  *          1  the table has more than 2,048 bytes (1,024 nodes)                 no
@@ -50,14 +77,18 @@
  *         11  a loop's body can end in the instant in which it is started       yes, the loop
  *         12  on resuming, the state is not admitted                            no
  *         13  in an instant, an answer is needed after all lent ones are taken  no
+ *         14  the text has more than 16,384 bytes or is outside the grammar     no
+ *         15  an exit of the text has no trap of its name around it             no
+ *         16  the text has a 257th signal name                                  no
  *
  * 4 to 6 are decided node by node: the first faulty node counts, with its lowest number. Each of
  * 8 to 11 covers the whole table before the next begins. 12 is for bavzhrono_resume, 13 for it
- * and bavzhrono_start.
+ * and bavzhrono_start, and 14 to 16 are for bavzhrono_read: each covers the whole text before the
+ * next begins.
  *
  * Buffers
  *
- * Lengths count elements and not bytes. The table and the answers are only read. Another buffer
+ * Lengths count elements and not bytes. What a pointer to const lends is only read. Another buffer
  * may be longer than needed: what lies past the needed length is neither looked at nor changed.
  * A pointer to uint64_t is aligned to 8 bytes; one to bytes needs no alignment.
  * A buffer of length 0 is not touched, and its pointer may be anything, NULL too. Any other
@@ -70,6 +101,7 @@
  * The functions keep no state of their own and allocate nothing: any number of threads may call
  * them at once, each with buffers of its own to be written.
  * stack: up to about 110 KiB
+ * bavzhrono_read: up to about 940 KiB
  */
 #ifndef BAVZHRONO_H
 #define BAVZHRONO_H
@@ -83,6 +115,8 @@
 #define BAVZHRONO_SIGNALS 256
 /* A text of so many bytes holds the listing of any table. */
 #define BAVZHRONO_MAX_TEXT 67584
+/* The most bytes of a text that is read. */
+#define BAVZHRONO_MAX_SOURCE 16384
 /* The entries of an answer that are needed. */
 #define BAVZHRONO_ANSWER 3
 /* The number and the node of a returned value, each a uint32_t; 0 and 0 where nothing is refused. */
@@ -163,6 +197,22 @@ uint32_t bavzhrono_resume(const uint8_t *table, size_t table_length,
 uint32_t bavzhrono_render(const uint8_t *table, size_t table_length,
                           uint8_t *text, size_t text_length,
                           uint64_t *answer, size_t answer_length);
+
+/*
+ * The table of a program that is written as text; checks 3, 14, 15, 16, 1, 8 and 9, in this order.
+ *
+ * In:  the text, at most BAVZHRONO_MAX_SOURCE bytes, without the zero byte that ends a string.
+ * Out: table   2 * BAVZHRONO_MAX_NODES bytes needed, for a short text too: the table, 2 bytes a
+ *              node, at the front. The old bytes past it stay.
+ *      answer  (n, number of signals, 0).
+ *
+ * 1, 8 and 9 are of the text's table, which is then not written; 8 and 9 name a node of it. A
+ * table that is written can still be refused by 11, which is left to the other functions, but by
+ * no other check of a table.
+ */
+uint32_t bavzhrono_read(const uint8_t *text, size_t text_length,
+                        uint8_t *table, size_t table_length,
+                        uint64_t *answer, size_t answer_length);
 
 #ifdef __cplusplus
 }

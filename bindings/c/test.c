@@ -3,7 +3,7 @@
  *
  * The expected values are those that document 01 prints (Table W and its edges) or that its rules,
  * as F-5 and F-7 amend them, give by hand; the sets of W3 are those of the implementation in
- * compare/.
+ * compare/. The tables of texts are by hand, from F-1 of document 02 and its readings.
  */
 #include "bavzhrono.h"
 #include "bavzhrono.h" /* twice, for the include guard */
@@ -15,6 +15,8 @@
 #define FILL 0xA5
 #define SPARE 8
 #define NODE_ROOM (BAVZHRONO_MAX_NODES + SPARE)
+/* The bytes of the table that bavzhrono_read writes to. */
+#define TABLE_NEED (2 * BAVZHRONO_MAX_NODES)
 
 /* All buffers that a call can write to. */
 typedef struct {
@@ -25,12 +27,13 @@ typedef struct {
     uint8_t state[NODE_ROOM];
     uint8_t emissions[BAVZHRONO_SIGNALS + SPARE];
     uint8_t text[BAVZHRONO_MAX_TEXT + SPARE];
+    uint8_t table[TABLE_NEED + SPARE];
     uint64_t answer[BAVZHRONO_ANSWER + SPARE];
 } buffers;
 
 /* The lengths that are lent. */
 typedef struct {
-    size_t start_sets, any_sets, contexts, marks, state, emissions, text, answer;
+    size_t start_sets, any_sets, contexts, marks, state, emissions, text, table, answer;
 } lengths;
 
 typedef struct {
@@ -92,7 +95,8 @@ static void check(const char *call, const char *name, uint32_t returned, uint32_
 /* No more than the call needs. */
 static lengths needed(size_t nodes, size_t text)
 {
-    lengths lent = {nodes, nodes, nodes, nodes, nodes, BAVZHRONO_SIGNALS, text, BAVZHRONO_ANSWER};
+    lengths lent = {nodes, nodes, nodes, nodes, nodes,
+                    BAVZHRONO_SIGNALS, text, TABLE_NEED, BAVZHRONO_ANSWER};
     return lent;
 }
 
@@ -101,6 +105,7 @@ static lengths spare(void)
 {
     lengths lent = needed(NODE_ROOM, BAVZHRONO_MAX_TEXT + SPARE);
     lent.emissions += SPARE;
+    lent.table += SPARE;
     lent.answer += SPARE;
     return lent;
 }
@@ -122,6 +127,12 @@ static uint32_t instant(instant_call *call, const uint8_t *table, size_t length,
 static uint32_t render(const uint8_t *table, size_t length, lengths lent)
 {
     return bavzhrono_render(table, length, actual.text, lent.text, actual.answer, lent.answer);
+}
+
+static uint32_t read_text(const char *text, size_t length, lengths lent)
+{
+    return bavzhrono_read((const uint8_t *)text, length, actual.table, lent.table, actual.answer,
+                          lent.answer);
 }
 
 /* Accepted tables: the sets of each node. */
@@ -180,20 +191,21 @@ static size_t around(uint8_t *table, uint8_t leaf, uint8_t field, uint8_t kind, 
     return length;
 }
 
-/* A sequence of sequences and so on, down to 2 to the power of `height` pauses. */
-static size_t sequences(uint8_t *table, size_t height)
+/* A sequence of sequences and so on, down to 2 to the power of `height` pauses; or another
+   statement of two children in place of the sequence. */
+static size_t balanced(uint8_t *table, uint8_t kind, size_t height)
 {
     if (height == 0)
         return put(table, 2, 0);
-    size_t length = sequences(table, height - 1);
-    length += sequences(table + length, height - 1);
-    return length + put(table + length, 9, 0);
+    size_t length = balanced(table, kind, height - 1);
+    length += balanced(table + length, kind, height - 1);
+    return length + put(table + length, kind, 0);
 }
 
 /* 2,048 bytes: a loop around sequences of 512 pauses. */
 static size_t full_table(uint8_t *table)
 {
-    size_t length = sequences(table, 9);
+    size_t length = balanced(table, 9, 9);
     return length + put(table + length, 8, 0);
 }
 
@@ -487,6 +499,347 @@ static void test_short_text(void)
           bavzhrono_render(w1, sizeof w1, NULL, 0, actual.answer, BAVZHRONO_ANSWER), 3);
 }
 
+/* Texts that are read: the table of each, by hand. */
+
+static void test_read(const char *name, const char *text, size_t length, const uint8_t *table,
+                      size_t nodes, uint64_t signals)
+{
+    lengths lent[2] = {needed(0, 0), spare()};
+    for (int more = 0; more < 2; more++) {
+        memcpy(expected.table, table, 2 * nodes);
+        expect_answer(nodes, signals, 0);
+        check(more ? "read, more lent" : "read", name, read_text(text, length, lent[more]), 0);
+    }
+}
+
+typedef struct {
+    const char *name, *text;
+    size_t nodes;
+    uint64_t signals;
+    uint8_t table[24];
+} read_test;
+
+#define NAME_OF_32 "a23456789_123456789_123456789_12"
+
+static const read_test read_tests[] = {
+    {"a leaf", "nothing", 1, 0, {1, 0}},
+    {"loop, sequence and emit", "loop pause; emit S end", 4, 1, {2, 0, 3, 0, 9, 0, 8, 0}},
+    {"a sequence in a suspend", "suspend pause;nothing when S", 4, 1, {2, 0, 1, 0, 9, 0, 7, 0}},
+    {"an end after a suspend", "loop suspend pause when S end", 3, 1, {2, 0, 7, 0, 8, 0}},
+    {"sequences group to the left", "pause;nothing;emit A", 5, 1, {2, 0, 1, 0, 9, 0, 3, 0, 9, 0}},
+    {"parallels group to the left", "[pause||nothing||emit A]", 5, 1,
+     {2, 0, 1, 0, 10, 0, 3, 0, 10, 0}},
+    {"a bracket within a bracket", "[pause||[nothing||emit A]]", 5, 1,
+     {2, 0, 1, 0, 3, 0, 10, 0, 10, 0}},
+    {"the double bar binds looser", "[pause;nothing||pause;emit A]", 7, 1,
+     {2, 0, 1, 0, 9, 0, 2, 0, 3, 0, 9, 0, 10, 0}},
+    {"then alone", "present S then pause end", 3, 1, {2, 0, 1, 0, 6, 0}},
+    {"else alone", "present S else pause end", 3, 1, {1, 0, 2, 0, 6, 0}},
+    {"then and else", "present S then emit A else emit B end", 3, 3, {3, 1, 3, 2, 6, 0}},
+    {"a suspend's signal comes last", "suspend emit A when S", 2, 2, {3, 0, 7, 1}},
+    {"a signal declared again", "signal A in signal B in signal A in emit B end end end", 4, 2,
+     {3, 1, 5, 0, 5, 1, 5, 0}},
+    {"the nearest trap", "trap T in trap T in exit T end end", 3, 0, {4, 0, 11, 0, 11, 0}},
+    {"a trap further out", "trap T in trap U in exit T end end", 3, 0, {4, 1, 11, 0, 11, 0}},
+    {"beside a trap of its name", "trap T in trap T in pause end; exit T end", 5, 0,
+     {2, 0, 11, 0, 4, 0, 9, 0, 11, 0}},
+    {"a trap and a signal of one name", "trap A in emit A; exit A end", 4, 1,
+     {3, 0, 4, 0, 9, 0, 11, 0}},
+    {"blanks, tabs and line feeds", "\n\tloop\tpause\n end \t", 2, 0, {2, 0, 8, 0}},
+    {"no blank around signs", "loop[pause||pause]end", 4, 0, {2, 0, 2, 0, 10, 0, 8, 0}},
+    {"names with a word at the front", "emit pauses;emit emit3", 3, 2, {3, 0, 3, 1, 9, 0}},
+    {"case matters", "emit s;emit S;emit Exit", 5, 3, {3, 0, 3, 1, 9, 0, 3, 2, 9, 0}},
+    {"a name of 32 characters", "emit " NAME_OF_32, 1, 1, {3, 0}},
+};
+
+static void test_read_by_hand(void)
+{
+    for (size_t i = 0; i < sizeof read_tests / sizeof read_tests[0]; i++) {
+        const read_test *test = &read_tests[i];
+        test_read(test->name, test->text, strlen(test->text), test->table, test->nodes,
+                  test->signals);
+    }
+}
+
+/* Table W and the lock program, as text. What check 11 refuses is read all the same. */
+static void test_read_table_w(void)
+{
+    static const char w2_text[] = "loop nothing end";
+    static const char w3_text[] = "loop trap A in trap B in trap C in [exit B || exit C] end;\n"
+                                  "exit A end; pause end end";
+    static const char w4_text[] = "loop trap T in exit T end end";
+    static const char w7_text[] = "[nothing || pause]";
+    static const char lock_text[] = "loop trap T in [loop pause end || pause; exit T] end end";
+
+    test_read("W2", w2_text, strlen(w2_text), w2, sizeof w2 / 2, 0);
+    test_read("W3", w3_text, strlen(w3_text), w3, sizeof w3 / 2, 0);
+    test_read("W4", w4_text, strlen(w4_text), w4, sizeof w4 / 2, 0);
+    test_read("W7", w7_text, strlen(w7_text), w7, sizeof w7 / 2, 0);
+    test_read("the lock program of F-5", lock_text, strlen(lock_text), lock, sizeof lock / 2, 0);
+}
+
+/* Writers of texts hand back the length of what they wrote. */
+static size_t put_words(char *text, const char *words, size_t times)
+{
+    size_t length = strlen(words);
+    for (size_t i = 0; i < times; i++)
+        memcpy(text + i * length, words, length);
+    return times * length;
+}
+
+static size_t nested(char *text, const char *begin, const char *inner, const char *end,
+                     size_t levels)
+{
+    size_t length = put_words(text, begin, levels);
+    length += put_words(text + length, inner, 1);
+    return length + put_words(text + length, end, levels);
+}
+
+/* So many bytes of the words, of which the last may be cut off. */
+static size_t open_levels(char *text, const char *words, size_t length)
+{
+    for (size_t i = 0; i < length; i++)
+        text[i] = words[i % strlen(words)];
+    return length;
+}
+
+/* The text of `balanced` with parallels. */
+static size_t balanced_text(char *text, size_t height)
+{
+    if (height == 0)
+        return put_words(text, "pause", 1);
+    size_t length = put_words(text, "[", 1);
+    length += balanced_text(text + length, height - 1);
+    length += put_words(text + length, "||", 1);
+    length += balanced_text(text + length, height - 1);
+    return length + put_words(text + length, "]", 1);
+}
+
+/* Emits of so many signals in two branches, since in one they would be too deep. */
+static size_t emits_text(char *text, size_t signals)
+{
+    size_t length = put_words(text, "[", 1), half = signals / 2;
+    for (size_t signal = 0; signal < signals; signal++) {
+        const char *before = signal == 0 ? "" : signal == half ? "||" : ";";
+        length += (size_t)sprintf(text + length, "%semit S%u", before, (unsigned)signal);
+    }
+    return length + put_words(text + length, "]", 1);
+}
+
+static size_t emits_table(uint8_t *table, size_t signals)
+{
+    size_t length = 0, half = signals / 2;
+    for (size_t signal = 0; signal < signals; signal++) {
+        length += put(table + length, 3, (uint8_t)signal);
+        if (signal != 0 && signal != half)
+            length += put(table + length, 9, 0);
+    }
+    return length + put(table + length, 10, 0);
+}
+
+/* A text of the greatest length is the longest that a test writes; SPARE bytes more can be lent. */
+static char source[BAVZHRONO_MAX_SOURCE + SPARE];
+
+static void test_read_edges(void)
+{
+    static uint8_t table[TABLE_NEED];
+    size_t length = put(table, 2, 0), text_length;
+
+    for (int statement = 1; statement < 256; statement++) {
+        length += put(table + length, 2, 0);
+        length += put(table + length, 9, 0);
+    }
+    test_read("256 statements", source, nested(source, "pause;", "pause", "", 255), table, 511, 0);
+
+    around(table, 2, 0, 8, 255);
+    test_read("255 loops", source, nested(source, "loop ", "pause", " end", 255), table, 256, 0);
+
+    around(table, 4, 0, 11, 62);
+    text_length = nested(source, "trap T in ", "exit T", " end", 62);
+    test_read("62 traps", source, text_length, table, 63, 0);
+
+    length = emits_table(table, 256);
+    test_read("256 signals", source, emits_text(source, 256), table, length / 2, 256);
+
+    length = balanced(table, 10, 9);
+    put(table + length, 8, 0);
+    text_length = put_words(source, "loop ", 1);
+    text_length += balanced_text(source + text_length, 9);
+    text_length += put_words(source + text_length, " end", 1);
+    test_read("1,024 nodes", source, text_length, table, BAVZHRONO_MAX_NODES, 0);
+
+    open_levels(source, " ", BAVZHRONO_MAX_SOURCE);
+    put_words(source, "pause", 1);
+    put(table, 2, 0);
+    test_read("16,384 bytes", source, BAVZHRONO_MAX_SOURCE, table, 1, 0);
+}
+
+/* A text and the listing of its table, W1 but for the signal's number. */
+static void test_read_then_render(void)
+{
+    static const char text[] = "loop pause; emit S end";
+    static const uint8_t table[] = {2, 0, 3, 0, 9, 0, 8, 0};
+    static const char listing[] =
+        "ok 4 1 8\n0 2 0 2 3 1 1\n1 3 0 1 1 0 0\n2 9 0 2 3 1 1\n3 8 0 2 2 0 0\n";
+    size_t length = strlen(listing);
+
+    if (read_text(text, strlen(text), spare()) != 0)
+        report(0, "read", "a text that is listed then");
+    memcpy(expected.table, table, sizeof table);
+    memcpy(expected.text, listing, length);
+    expect_answer(length, 0, 0);
+    check("render", "a table that was read",
+          render(actual.table, 2 * (size_t)actual.answer[0], spare()), 0);
+}
+
+/* Texts that are refused. */
+
+static void test_not_read(const char *name, const char *text, size_t length, uint32_t number,
+                          uint32_t node)
+{
+    check("read", name, read_text(text, length, spare()), number + 256 * node);
+}
+
+typedef struct {
+    const char *name, *text;
+    uint32_t number;
+} refused_text;
+
+static const refused_text refused_texts[] = {
+    {"14, blanks alone", " \t\n", 14},
+    {"14, a bracket of one", "[pause]", 14},
+    {"14, a bracket of none", "[]", 14},
+    {"14, an empty branch", "[pause||]", 14},
+    {"14, a double bar outside a bracket", "pause||pause", 14},
+    {"14, a single bar", "[pause|pause]", 14},
+    {"14, two single bars", "[pause| |pause]", 14},
+    {"14, three bars", "[pause|||pause]", 14},
+    {"14, a bracket that stays open", "[pause||pause", 14},
+    {"14, a bracket that was not open", "pause]", 14},
+    {"14, a semicolon at the end", "pause;", 14},
+    {"14, two statements without a semicolon", "pause pause", 14},
+    {"14, a loop without a body", "loop end", 14},
+    {"14, a loop without an end", "loop pause", 14},
+    {"14, a suspend with an end", "suspend pause when S end", 14},
+    {"14, a suspend without its signal", "suspend pause", 14},
+    {"14, a present without a branch", "present S end", 14},
+    {"14, else before then", "present S else pause then pause end", 14},
+    {"14, a word for a name", "emit end", 14},
+    {"14, no name", "emit", 14},
+    {"14, a digit first", "emit 3a", 14},
+    {"14, an underscore first", "emit _a", 14},
+    {"14, a name of 33 characters", "emit " NAME_OF_32 "3", 14},
+    {"14, one word", "emit3", 14},
+    {"14, a word of the full language", "halt", 14},
+    {"14, a capital letter", "Pause", 14},
+    {"14, a carriage return", "pause;\r\npause", 14},
+    {"14, a comment", "pause % wait", 14},
+    {"14, a letter that is not ASCII", "emit \xc3\xa9", 14},
+    {"15, no trap", "exit T", 15},
+    {"15, beside its trap", "trap T in pause end; exit T", 15},
+    {"15, a trap of the name in capitals", "trap T in exit t end", 15},
+    {"15, a signal of its name", "signal T in exit T end", 15},
+    {"14 before 15", "exit T; end", 14},
+};
+
+static void test_not_read_by_hand(void)
+{
+    for (size_t i = 0; i < sizeof refused_texts / sizeof refused_texts[0]; i++) {
+        const refused_text *test = &refused_texts[i];
+        test_not_read(test->name, test->text, strlen(test->text), test->number, 0);
+    }
+    test_not_read("14, a zero byte at the end", "pause", sizeof "pause", 14, 0);
+    test_not_read("14, no byte", "pause", 0, 14, 0);
+    test_not_read("14, NULL", NULL, 0, 14, 0);
+}
+
+static void test_not_read_edges(void)
+{
+    size_t length;
+
+    test_not_read("16, 257 signals", source, emits_text(source, 257), 16, 0);
+    length = emits_text(source, 257);
+    test_not_read("14 before 16", source, length + put_words(source + length, ";", 1), 14, 0);
+    length += put_words(source + length, "; exit T", 1);
+    test_not_read("15 before 16", source, length, 15, 0);
+    length = emits_text(source, 257);
+    length += put_words(source + length, ";pause", 500);
+    test_not_read("16 before 1", source, length, 16, 0);
+    test_not_read("1, 1,025 nodes", source, nested(source, "pause;", "pause", "", 512), 1, 0);
+    test_not_read("8, 1,023 nodes", source, nested(source, "pause;", "pause", "", 511), 8, 0);
+    test_not_read("8, 257 statements", source, nested(source, "pause;", "pause", "", 256), 8, 0);
+    test_not_read("8, 256 loops", source, nested(source, "loop ", "pause", " end", 256), 8, 0);
+    /* The pauses come first. The last but one and the last of 257 are in the innermost bracket. */
+    test_not_read("8, 256 brackets", source, nested(source, "[pause||", "pause", "]", 256), 8, 255);
+    length = nested(source, "trap T in ", "exit T", " end", 63);
+    test_not_read("9, 63 traps", source, length, 9, 1);
+    length = put_words(source, "pause;", 1);
+    length += nested(source + length, "trap T in ", "exit T", " end", 63);
+    test_not_read("9, 63 traps after a pause", source, length, 9, 2);
+    test_not_read("8 before 9", source, nested(source, "trap T in ", "pause", " end", 256), 8, 0);
+}
+
+/* Long texts, in and outside the grammar. */
+static void test_not_read_length(void)
+{
+    size_t most = BAVZHRONO_MAX_SOURCE, length;
+
+    open_levels(source, " ", most + 1);
+    put_words(source, "pause", 1);
+    test_not_read("14, 16,385 bytes", source, most + 1, 14, 0);
+    put_words(source, "exit T", 1);
+    test_not_read("15, 16,384 bytes", source, most, 15, 0);
+    test_not_read("14 before 15, 16,385 bytes", source, most + 1, 14, 0);
+    test_not_read("14, 16,384 brackets", source, open_levels(source, "[", most), 14, 0);
+    test_not_read("14, loops never closed", source, open_levels(source, "loop ", most), 14, 0);
+    length = open_levels(source, "[pause||", most);
+    test_not_read("14, branches never closed", source, length, 14, 0);
+
+    /* Whole texts of as many levels as there can be have too many nodes. */
+    test_not_read("1, 1,819 loops", source, nested(source, "loop ", "nothing", " end", 1819), 1, 0);
+    length = nested(source, "[", "pause", "||pause]", 1819);
+    test_not_read("1, 1,819 brackets", source, length, 1, 0);
+    length = put_words(source, "loop ", 1);
+    length += nested(source + length, "loop[", "pause", "||pause]end", 1023);
+    length += put_words(source + length, " end", 1);
+    test_not_read("1, 1,024 loops and 1,023 brackets", source, length, 1, 0);
+}
+
+/* Check 3 comes first, whatever the text. */
+static void test_read_to_short(const char *text_name, const char *text, size_t length)
+{
+    static const size_t short_tables[] = {0, 1, 8, TABLE_NEED - 1};
+    char name[64];
+
+    for (size_t i = 0; i < sizeof short_tables / sizeof short_tables[0]; i++) {
+        lengths lent = spare();
+        lent.table = short_tables[i];
+        sprintf(name, "table of %u, %s", (unsigned)lent.table, text_name);
+        check("read", name, read_text(text, length, lent), 3);
+    }
+    for (size_t entries = 0; entries < BAVZHRONO_ANSWER; entries++) {
+        lengths lent = spare();
+        lent.answer = entries;
+        sprintf(name, "answer of %u, %s", (unsigned)entries, text_name);
+        check("read", name, read_text(text, length, lent), 3);
+    }
+}
+
+static void test_read_to_short_buffers(void)
+{
+    test_read_to_short("a good text", "pause", 5);
+    test_read_to_short("no byte", NULL, 0);
+    test_read_to_short("16,385 bytes", source, open_levels(source, " ", BAVZHRONO_MAX_SOURCE + 1));
+    test_read_to_short("an exit without its trap", "exit T", 6);
+    test_read_to_short("257 signals", source, emits_text(source, 257));
+    test_read_to_short("1,025 nodes", source, nested(source, "pause;", "pause", "", 512));
+    test_read_to_short("257 statements", source, nested(source, "pause;", "pause", "", 256));
+    check("read", "table NULL",
+          bavzhrono_read(w1, sizeof w1, NULL, 0, actual.answer, BAVZHRONO_ANSWER), 3);
+    check("read", "answer NULL",
+          bavzhrono_read(w1, sizeof w1, actual.table, sizeof actual.table, NULL, 0), 3);
+}
+
 int main(void)
 {
     prepare();
@@ -504,5 +857,13 @@ int main(void)
     test_instants();
     test_render();
     test_short_text();
+    test_read_by_hand();
+    test_read_table_w();
+    test_read_edges();
+    test_read_then_render();
+    test_not_read_by_hand();
+    test_not_read_edges();
+    test_not_read_length();
+    test_read_to_short_buffers();
     return failures != 0;
 }

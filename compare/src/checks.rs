@@ -44,9 +44,7 @@ pub fn accept(
         return Err(Refusal::whole(3));
     }
     let tree = table::read(table)?;
-    let around = surroundings(&tree);
-    check_depth(&around)?;
-    check_traps(&tree, &around)?;
+    let around = check_nesting(&tree)?;
     check_levels(&tree, &around)?;
     // Only now do all codes fit in 64 bits.
     let mut start_sets = vec![0; size];
@@ -57,6 +55,14 @@ pub fn accept(
         around,
         start_sets,
     })
+}
+
+/// Checks 8 and 9.
+pub fn check_nesting(tree: &Tree) -> Result<Surroundings, Refusal> {
+    let around = surroundings(tree);
+    check_depth(&around)?;
+    check_traps(tree, &around)?;
+    Ok(around)
 }
 
 /// Walks from the program down, handing each node's counts to its children.

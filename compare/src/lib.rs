@@ -1,8 +1,9 @@
 //! Statement tables of pure Esterel, read from documents 01 and 02 alone: all of
-//! document 01, as F-5 and F-7 of document 02 amend it.
+//! document 01, as F-5 and F-7 of document 02 amend it, and the programs as text of
+//! F-1.
 //!
-//! The specification is in `table`, `checks`, `sets`, `analysis`, `listing`
-//! and `instant`. `support` serves the tests and the generators.
+//! The specification is in `table`, `checks`, `sets`, `analysis`, `listing`,
+//! `instant` and `text`. `support` serves the tests and the generators.
 
 pub mod analysis;
 pub mod checks;
@@ -11,10 +12,12 @@ pub mod listing;
 pub mod sets;
 pub mod support;
 pub mod table;
+pub mod text;
 
 pub use analysis::{analyse, Sets};
 pub use instant::{resume, resume_with_trail, start, start_with_trail, Closed, Entry, How};
 pub use listing::listing;
+pub use text::read;
 
 /// The number of a failed check and the lowest node that it fits.
 #[derive(Clone, Copy, Debug, PartialEq, Eq)]

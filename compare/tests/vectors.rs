@@ -4,9 +4,9 @@ use std::path::PathBuf;
 
 use compare::support::cases::Call;
 use compare::support::programs::traps_around;
-use compare::support::vectors::{directory, read_instants, read_listings};
+use compare::support::vectors::{directory, read_instants, read_listings, read_texts};
 use compare::table::{self, Statement};
-use compare::{listing, resume_with_trail, start_with_trail};
+use compare::{listing, read, resume_with_trail, start_with_trail};
 
 /// A test without its file fails, so that none passes unseen.
 fn vector_file(name: &str) -> PathBuf {
@@ -163,4 +163,29 @@ fn check_instants(name: &str) {
         }
     }
     println!("{} instants", vectors.len());
+}
+
+/// In a lent table of the least length and in longer ones, each byte of it.
+#[test]
+fn texts() {
+    let vectors = read_texts(&vector_file("text_open.jsonl"));
+    assert!(!vectors.is_empty());
+    for (line, vector) in vectors.iter().enumerate() {
+        let before: Vec<u8> = (0..2048 + line % 8).map(|at| !(at as u8)).collect();
+        let mut lent = before.clone();
+        let answer = read(&vector.text, &mut lent);
+        let (written, kept) = match (&vector.outcome, answer) {
+            (Ok((table, signals)), Ok(sizes)) => {
+                assert_eq!(sizes, (table.len() / 2, *signals), "line {}", line + 1);
+                (&table[..], &before[table.len()..])
+            }
+            (Err(expected), Err(refusal)) => {
+                assert_eq!(refusal, *expected, "line {}", line + 1);
+                (&[][..], &before[..])
+            }
+            (_, answer) => panic!("line {}: {answer:?}", line + 1),
+        };
+        assert_eq!(lent, [written, kept].concat(), "line {}", line + 1);
+    }
+    println!("{} texts", vectors.len());
 }

@@ -1,4 +1,5 @@
-//! Tables of pure Esterel: the proved checker and the proved runner of single instants.
+//! Tables of pure Esterel: the proved checker and the proved runner of single instants, and the
+//! proved reader that makes a table from text.
 //!
 //! A table has two bytes a node, kind then field, children before parents. Nodes are numbered
 //! from 0, and the last is the whole program. Below, n is the number of nodes, half the table's
@@ -18,11 +19,12 @@
 //! | 10 | parallel | 2: left, right | 0 |
 //! | 11 | trap | 1 | 0 |
 //!
-//! [`analyse`], [`start`], [`resume`] and [`render`] write to buffers that the caller lends, and
-//! allocate nothing. A buffer may be longer than needed: what lies past the needed length is
-//! neither looked at nor changed. A refused call changes no buffer. [`Sets::of`] and [`listing`]
-//! bring their own buffers. The calls keep no state, and any number of threads may make them at
-//! once; [`raw`] has the exported functions as they are. How much stack they need is said in the header for C, `bindings/c/bavzhrono.h`.
+//! [`analyse`], [`start`], [`resume`], [`render`] and [`read`] write to buffers that the caller
+//! lends, and allocate nothing. A buffer may be longer than needed: what lies past the needed
+//! length is neither looked at nor changed. A refused call changes no buffer. [`Sets::of`],
+//! [`listing`] and [`table_of`] bring their own buffers. The calls keep no state, and any number of
+//! threads may make them at once; [`raw`] has the exported functions as they are. How much stack
+//! they need, [`read`] the most, is said in the header for C, `bindings/c/bavzhrono.h`.
 //!
 //! A loop of pause and emit 7, analysed and run for two instants:
 //!
@@ -48,6 +50,20 @@
 //! assert_eq!(emissions[7], 1);
 //! # Ok::<(), bavzhrono::Refusal>(())
 //! ```
+//!
+//! A program as text, whose table is analysed:
+//!
+//! ```
+//! use bavzhrono::{table_of, Sets};
+//!
+//! let table = table_of(b"loop trap T in [loop pause end || pause; exit T] end end")?;
+//! assert_eq!(table, [2, 0, 8, 0, 2, 0, 4, 0, 9, 0, 10, 0, 11, 0, 8, 0]);
+//!
+//! // The exit drops the inner loop, which is started again in that instant.
+//! let sets = Sets::of(&table)?;
+//! assert!(sets.marks[1].may_be_schizophrenic());
+//! # Ok::<(), bavzhrono::Refusal>(())
+//! ```
 
 #![deny(missing_docs)]
 #![deny(unsafe_code)]
@@ -59,12 +75,14 @@ mod listing;
 #[allow(unsafe_code)]
 pub mod raw;
 mod refusal;
+mod text;
 
 pub use analysis::{analyse, Analysis, Mark, Sets};
 pub use codes::{CodeSet, Codes};
 pub use instant::{resume, start, Closed, Completion};
 pub use listing::{listing, render};
 pub use refusal::Refusal;
+pub use text::{read, table_of, Reading};
 
 /// The most nodes of a table, of two bytes each.
 pub const MAX_NODES: usize = 1024;
@@ -74,3 +92,6 @@ pub const SIGNALS: usize = 256;
 
 /// A text of so many bytes holds the listing of any table.
 pub const MAX_TEXT: usize = 67_584;
+
+/// The most bytes of a text that is read.
+pub const MAX_SOURCE: usize = 16_384;

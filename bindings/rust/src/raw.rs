@@ -71,6 +71,15 @@ extern "C" {
         answer: *mut u64,
         answer_length: usize,
     ) -> u32;
+
+    fn bavzhrono_read(
+        text: *const u8,
+        text_length: usize,
+        table: *mut u8,
+        table_length: usize,
+        answer: *mut u64,
+        answer_length: usize,
+    ) -> u32;
 }
 
 /// The figures are the nodes, the loop depth and 0.
@@ -132,6 +141,22 @@ pub fn render(table: &[u8], text: &mut [u8], answer: &mut [u64]) -> u32 {
             table.len(),
             text.as_mut_ptr(),
             text.len(),
+            answer.as_mut_ptr(),
+            answer.len(),
+        )
+    }
+}
+
+/// The figures are the nodes, the number of signals and 0. A table or an answer that is too short is
+/// refused ahead of all else.
+pub fn read(text: &[u8], table: &mut [u8], answer: &mut [u64]) -> u32 {
+    // SAFETY: each pointer is followed by the length of its own slice.
+    unsafe {
+        bavzhrono_read(
+            text.as_ptr(),
+            text.len(),
+            table.as_mut_ptr(),
+            table.len(),
             answer.as_mut_ptr(),
             answer.len(),
         )

@@ -13,9 +13,9 @@ use std::fmt;
 /// ```
 #[derive(Clone, Copy, Debug, PartialEq, Eq, Hash)]
 pub struct Refusal {
-    /// The number of the check, 1 to 13.
+    /// The number of the check, 1 to 16.
     pub number: u32,
-    /// The lowest node that the check fits; 0 for checks 1, 2, 3, 7, 12 and 13, which name none.
+    /// The lowest node that the check fits; 0 for checks 1, 2, 3, 7 and 12 to 16, which name none.
     pub node: usize,
 }
 
@@ -36,6 +36,9 @@ impl Refusal {
             11 => "a loop's body can end in the instant in which it is started",
             12 => "on resuming, the state is not admitted",
             13 => "in an instant, an answer is needed after all lent ones are taken",
+            14 => "the text has more than 16,384 bytes or is outside the grammar",
+            15 => "an exit of the text has no trap of its name around it",
+            16 => "the text has a 257th signal name",
             _ => "there is no check of this number",
         }
     }

@@ -2,7 +2,7 @@
 
 mod common;
 
-use bavzhrono::{raw, MAX_NODES, MAX_TEXT, SIGNALS};
+use bavzhrono::{raw, MAX_NODES, MAX_SOURCE, MAX_TEXT, SIGNALS};
 use common::*;
 
 const FILL_NUMBER: u64 = FILL_SET.0;
@@ -17,6 +17,7 @@ struct Lent {
     state: Vec<u8>,
     emissions: Vec<u8>,
     text: Vec<u8>,
+    table: Vec<u8>,
     answer: Vec<u64>,
 }
 
@@ -31,6 +32,7 @@ impl Lent {
             state: vec![FILL; MAX_NODES],
             emissions: vec![FILL; SIGNALS],
             text: vec![FILL; MAX_TEXT],
+            table: vec![FILL; 2 * MAX_NODES],
             answer: vec![FILL_NUMBER; entries],
         }
     }
@@ -59,16 +61,21 @@ impl Lent {
     fn render(&mut self, table: &[u8]) -> u32 {
         raw::render(table, &mut self.text, &mut self.answer)
     }
+
+    fn read(&mut self, text: &[u8]) -> u32 {
+        raw::read(text, &mut self.table, &mut self.answer)
+    }
 }
 
+/// It takes a table, or a text if it reads one.
 type Function = fn(&mut Lent, &[u8]) -> u32;
 
 /// The functions that make the table's checks.
 const CHECKING: [Function; 3] = [Lent::analyse, Lent::start, Lent::resume];
 
-fn assert_unchanged(before: Lent, function: Function, table: &[u8], expected: u32) {
+fn assert_unchanged(before: Lent, function: Function, given: &[u8], expected: u32) {
     let mut lent = before.clone();
-    assert_eq!(function(&mut lent, table), expected);
+    assert_eq!(function(&mut lent, given), expected);
     assert!(
         lent == before,
         "{expected} is returned, and a buffer has changed"
@@ -94,6 +101,21 @@ fn refused_tables() -> Vec<(Vec<u8>, u32, u32)> {
     ]
 }
 
+/// A text for each number that refuses one, with the node.
+fn refused_texts() -> Vec<(String, u32, u32)> {
+    vec![
+        (String::new(), 14, 0),
+        ("[pause]".to_string(), 14, 0),
+        (padded("pause", MAX_SOURCE + 1), 14, 0),
+        ("exit T".to_string(), 15, 0),
+        (emits(257), 16, 0),
+        (flat(513), 1, 0),
+        (flat(257), 8, 0),
+        (nested("[pause||", "pause", "]", 256), 8, 255),
+        (nested("trap T in ", "exit T", " end", 63), 9, 1),
+    ]
+}
+
 #[test]
 fn a_refusal_is_number_and_node_and_leaves_the_answer() {
     for (table, number, node) in refused_tables() {
@@ -102,6 +124,16 @@ fn a_refusal_is_number_and_node_and_leaves_the_answer() {
                 let lent = Lent::with_answer(entries);
                 assert_unchanged(lent, function, &table, number + 256 * node);
             }
+        }
+    }
+}
+
+#[test]
+fn a_refused_text_is_number_and_node_and_leaves_table_and_answer() {
+    for (text, number, node) in refused_texts() {
+        for entries in [3, 4, 8] {
+            let lent = Lent::with_answer(entries);
+            assert_unchanged(lent, Lent::read, text.as_bytes(), number + 256 * node);
         }
     }
 }
@@ -137,6 +169,22 @@ fn a_short_answer_is_refused_by_3_after_1_and_2() {
 }
 
 #[test]
+fn a_short_table_or_answer_is_refused_by_3_ahead_of_what_the_text_is_refused_by() {
+    let mut texts = refused_texts();
+    texts.push(("pause".to_string(), 0, 0));
+    for (text, ..) in texts {
+        for entries in 0..3 {
+            assert_unchanged(Lent::with_answer(entries), Lent::read, text.as_bytes(), 3);
+        }
+        for bytes in [0, 1, 2, 2 * MAX_NODES - 1] {
+            let mut lent = Lent::with_answer(3);
+            lent.table.truncate(bytes);
+            assert_unchanged(lent, Lent::read, text.as_bytes(), 3);
+        }
+    }
+}
+
+#[test]
 fn three_entries_of_the_answer_are_written_and_no_more() {
     for entries in [3, 4, 8] {
         let mut lent = Lent::with_answer(entries);
@@ -145,13 +193,15 @@ fn three_entries_of_the_answer_are_written_and_no_more() {
         assert_figures(&mut lent, Lent::resume, W1, [1, 0, 6]);
         assert_figures(&mut lent, Lent::render, W1, [W1_LISTING.len() as u64, 0, 0]);
         assert_figures(&mut lent, Lent::render, W2, [13, 0, 0]);
+        assert_figures(&mut lent, Lent::read, b"suspend emit A when S", [2, 2, 0]);
+        assert_figures(&mut lent, Lent::read, b"[pause||nothing]", [3, 0, 0]);
     }
 }
 
-fn assert_figures(lent: &mut Lent, function: Function, table: &[u8], figures: [u64; 3]) {
+fn assert_figures(lent: &mut Lent, function: Function, given: &[u8], figures: [u64; 3]) {
     lent.answer.fill(FILL_NUMBER);
     let mut expected = lent.answer.clone();
     expected[..3].copy_from_slice(&figures);
-    assert_eq!(function(lent, table), 0);
+    assert_eq!(function(lent, given), 0);
     assert_eq!(lent.answer, expected);
 }

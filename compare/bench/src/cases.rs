@@ -4,10 +4,12 @@ use std::hint::black_box;
 
 use compare::instant::SIGNALS;
 use compare::support::calls::{Calls, COMPARE, FIGURES};
+use compare::table::MOST_BYTES;
 use ours::OURS;
 use two_pass::TWO_PASS;
 
 use crate::programs::{Shape, SHAPES};
+use crate::texts;
 
 /// Who makes a call.
 #[derive(Clone, Copy, PartialEq, Eq)]
@@ -37,21 +39,24 @@ impl Side {
 
 pub const SIZES: [usize; 4] = [16, 64, 256, 1024];
 
-#[derive(Clone, Copy, PartialEq, Eq)]
+#[derive(Clone, Copy, Default, PartialEq, Eq)]
 pub enum Call {
+    #[default]
     Analyse,
     Start,
     Resume,
+    Read,
 }
 
 impl Call {
-    pub const ALL: [Call; 3] = [Call::Analyse, Call::Start, Call::Resume];
+    pub const ALL: [Call; 4] = [Call::Analyse, Call::Start, Call::Resume, Call::Read];
 
     pub fn name(self) -> &'static str {
         match self {
             Call::Analyse => "analyse",
             Call::Start => "start",
             Call::Resume => "resume",
+            Call::Read => "read",
         }
     }
 
@@ -59,7 +64,7 @@ impl Call {
     pub fn sides(self) -> &'static [Side] {
         match self {
             Call::Analyse => &[Side::Ours, Side::Compare, Side::TwoPass],
-            Call::Start | Call::Resume => &[Side::Ours, Side::Compare],
+            Call::Start | Call::Resume | Call::Read => &[Side::Ours, Side::Compare],
         }
     }
 
@@ -68,16 +73,27 @@ impl Call {
         match self {
             Call::Analyse => "a node",
             Call::Start | Call::Resume => "an entry",
+            Call::Read => "a byte",
+        }
+    }
+
+    /// The column of these; an analysis needs none beside that of the nodes.
+    pub fn units(self) -> Option<&'static str> {
+        match self {
+            Call::Analyse => None,
+            Call::Start | Call::Resume => Some("entries"),
+            Call::Read => Some("bytes"),
         }
     }
 }
 
 /// A call on a program. The buffers are lent to every repetition anew.
-#[derive(Clone, PartialEq, Eq)]
+#[derive(Clone, Default, PartialEq, Eq)]
 pub struct Case {
     pub call: Call,
     pub shape: &'static str,
     pub nodes: usize,
+    text: Vec<u8>,
     table: Vec<u8>,
     answers: Vec<u8>,
     start_sets: Vec<u64>,
@@ -93,16 +109,27 @@ pub fn all() -> impl Iterator<Item = Case> {
     let shapes = Call::ALL
         .into_iter()
         .flat_map(|call| SHAPES.iter().map(move |shape| (call, shape)));
-    shapes.flat_map(|(call, shape)| SIZES.map(|nodes| Case::new(call, shape, nodes)))
+    // As text, sequences nested to the right are those nested to the left.
+    let shapes = shapes.filter(|(call, shape)| *call != Call::Read || shape.name != "right");
+    let cases = shapes.flat_map(|(call, shape)| SIZES.map(|nodes| Case::new(call, shape, nodes)));
+    let worst = texts::worst().into_iter();
+    cases.chain(worst.map(|(name, text)| Case::of_text(name, text)))
 }
 
 impl Case {
     fn new(call: Call, shape: &Shape, nodes: usize) -> Case {
+        let table = shape.program(nodes);
+        if call == Call::Read {
+            let case = Case::of_text(shape.name, texts::printed(&table));
+            assert_eq!(case.nodes, nodes, "{} is not read", case.name());
+            return case;
+        }
         let mut case = Case {
             call: Call::Start,
             shape: shape.name,
             nodes,
-            table: shape.program(nodes),
+            text: Vec::new(),
+            table,
             // Enough for all, and all absent.
             answers: vec![0; 4 * nodes],
             start_sets: vec![0; nodes],
@@ -119,6 +146,21 @@ impl Case {
         case
     }
 
+    /// A reading of a text. One that is refused has no nodes.
+    fn of_text(shape: &'static str, text: Vec<u8>) -> Case {
+        let mut case = Case {
+            call: Call::Read,
+            shape,
+            text,
+            table: vec![0; MOST_BYTES],
+            answer: vec![0; FIGURES],
+            ..Case::default()
+        };
+        case.run(&COMPARE);
+        case.nodes = case.answer[0] as usize;
+        case
+    }
+
     pub fn name(&self) -> String {
         format!("{}/{}/{}", self.call.name(), self.shape, self.nodes)
     }
@@ -127,6 +169,10 @@ impl Case {
     pub fn run(&mut self, calls: &Calls) -> u32 {
         let table = black_box(&self.table[..]);
         let instant = match self.call {
+            Call::Read => {
+                let text = black_box(&self.text[..]);
+                return (calls.read)(text, &mut self.table, &mut self.answer);
+            }
             Call::Analyse => {
                 return (calls.analyse)(
                     table,
@@ -152,22 +198,23 @@ impl Case {
     /// Sees that all sides do the same, and that a repetition does it again.
     pub fn check(&self) {
         let mut once = self.clone();
-        assert_eq!(once.run(&COMPARE), 0, "{}", self.name());
+        let returned = once.run(&COMPARE);
         for side in self.call.sides() {
             let name = format!("{} by {}", self.name(), side.name());
             let mut again = once.clone();
-            assert_eq!(again.run(&side.calls()), 0, "{name}");
+            assert_eq!(again.run(&side.calls()), returned, "{name}");
             assert!(again == once, "{name}: differs from compare");
         }
     }
 
-    /// The nodes of an analysis or the entries of an instant.
+    /// The nodes of an analysis, the entries of an instant or the bytes of a text.
     pub fn units(&self) -> usize {
         let mut case = self.clone();
         case.run(&COMPARE);
         match self.call {
             Call::Analyse => case.answer[0] as usize,
             Call::Start | Call::Resume => case.answer[2] as usize,
+            Call::Read => case.text.len(),
         }
     }
 }

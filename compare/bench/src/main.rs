@@ -5,7 +5,7 @@
 //!
 //! ```text
 //! bench [--quick] [--markdown FILE]    all sides, all cases
-//! bench --list                         each case with its nodes or entries
+//! bench --list                         each case with its nodes, entries or bytes
 //! bench --one CASE SIDE TIMES          one case on one side: ours, compare
 //!                                      or, for analyse, two-pass
 //! ```
@@ -22,6 +22,7 @@ mod cases;
 mod measure;
 mod programs;
 mod report;
+mod texts;
 
 fn main() -> ExitCode {
     match run(std::env::args().skip(1)) {

@@ -75,14 +75,14 @@ fn times(lines: &[Line], call: Call) -> Table {
         format!("compare, ns {}", call.each()),
     ]];
     rows.extend(of_call.iter().map(|line| line.row()));
-    if call == Call::Analyse {
-        let two_pass = ["two-pass, ns", "ours/two-pass"].map(String::from);
-        rows[0].splice(5..5, two_pass);
-    } else {
-        rows[0].insert(2, "entries".to_string());
+    if let Some(units) = call.units() {
+        rows[0].insert(2, units.to_string());
         for (row, line) in rows[1..].iter_mut().zip(&of_call) {
             row.insert(2, line.units.to_string());
         }
+    } else {
+        let two_pass = ["two-pass, ns", "ours/two-pass"].map(String::from);
+        rows[0].splice(5..5, two_pass);
     }
     Table {
         title: format!("{} ({})", call.name(), means(&of_call)),

@@ -3,6 +3,7 @@
 use compare::instant::SIGNALS;
 use compare::support::calls::{Calls, FIGURES};
 use compare::support::cases::{Call, Case};
+use compare::table::MOST_BYTES;
 
 use crate::guarded::Guarded;
 
@@ -184,6 +185,51 @@ impl Trial for Rendering {
         vec![
             ("table", self.table.hex()),
             ("text", self.text.hex()),
+            ("answer", self.answer.hex()),
+        ]
+    }
+}
+
+#[derive(Clone, PartialEq)]
+pub struct Reading {
+    pub text: Guarded<u8>,
+    pub table: Guarded<u8>,
+    pub answer: Guarded<u64>,
+}
+
+impl Reading {
+    /// With a table of exactly the length needed.
+    pub fn new(text: &[u8]) -> Reading {
+        Reading::with_table(text, MOST_BYTES)
+    }
+
+    pub fn with_table(text: &[u8], table_length: usize) -> Reading {
+        Reading {
+            text: Guarded::with(text),
+            table: Guarded::untouched(table_length),
+            answer: Guarded::untouched(FIGURES),
+        }
+    }
+}
+
+impl Trial for Reading {
+    fn name(&self) -> &'static str {
+        "read"
+    }
+
+    fn call(&mut self, calls: &Calls) -> u32 {
+        (calls.read)(self.text.lent(), self.table.lent(), self.answer.lent())
+    }
+
+    fn with_answer(self, length: usize) -> Reading {
+        let answer = Guarded::untouched(length);
+        Reading { answer, ..self }
+    }
+
+    fn buffers(&self) -> Vec<(&'static str, String)> {
+        vec![
+            ("text", self.text.hex()),
+            ("table", self.table.hex()),
             ("answer", self.answer.hex()),
         ]
     }

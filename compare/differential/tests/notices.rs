@@ -6,9 +6,9 @@ use compare::support::edges::{exits_through_all_traps, W1, W2, W8};
 use compare::support::random::Random;
 use compare::support::SEED;
 use compare::{sets, table, Sets};
-use differential::groups::refusals;
+use differential::groups::{refusals, texts};
 use differential::tally::{Difference, Tally};
-use differential::trials::{Analysis, Instant, Rendering, Trial};
+use differential::trials::{Analysis, Instant, Reading, Rendering, Trial};
 
 fn assert_noticed(wrong: Calls, trial: &impl Trial) {
     assert!(Tally::new(COMPARE).compare(trial).is_ok());
@@ -121,6 +121,7 @@ fn told_by<T: Telling>() -> Calls {
         render: |table, text, answer| {
             T::tell(answer, |answer| (COMPARE.render)(table, text, answer))
         },
+        read: |text, table, answer| T::tell(answer, |answer| (COMPARE.read)(text, table, answer)),
     }
 }
 
@@ -137,6 +138,7 @@ fn a_fourth_figure() {
     let wrong = told_by::<Fourth>();
     assert_noticed(wrong, &Analysis::new(W1).with_answer(4));
     assert_noticed(wrong, &Rendering::new(W2, 13).with_answer(4));
+    assert_noticed(wrong, &Reading::new(b"pause").with_answer(4));
 }
 
 #[test]
@@ -157,6 +159,7 @@ fn an_answer_written_on_a_refusal() {
     assert_noticed(wrong, &Instant::new(Call::Start, W2, &[], &[9; 2]));
     assert_noticed(wrong, &Instant::new(Call::Resume, W1, &[], &[0; 4]));
     assert_noticed(wrong, &Rendering::new(W2, 12));
+    assert_noticed(wrong, &Reading::new(b"exit T"));
     assert_noticed_by(refusals::edges, wrong);
 }
 
@@ -173,6 +176,7 @@ fn a_node_that_is_lost() {
     assert_noticed(wrong, &Instant::new(Call::Start, W8, &[], &[9; 8]));
     assert_noticed(wrong, &Instant::new(Call::Resume, W8, &[], &[9; 8]));
     assert_noticed_by(refusals::edges, wrong);
+    assert_noticed_by(texts::edges, wrong);
 }
 
 #[test]
@@ -237,6 +241,7 @@ fn a_short_answer_refused_after_all_other_checks() {
         wrong,
         &Instant::new(Call::Resume, W1, &[], &[0; 4]).with_answer(2),
     );
+    assert_noticed(wrong, &Reading::new(b"end").with_answer(2));
     assert_noticed_by(refusals::edges, wrong);
 }
 
@@ -258,5 +263,6 @@ fn a_short_answer_that_is_accepted() {
         &Instant::new(Call::Start, W1, &[], &[9; 4]).with_answer(0),
     );
     assert_noticed(wrong, &Rendering::new(W2, 13).with_answer(1));
+    assert_noticed(wrong, &Reading::new(b"pause").with_answer(2));
     assert_noticed_by(refusals::edges, wrong);
 }

@@ -11,6 +11,8 @@ pub type Analyse = fn(&[u8], &mut [u64], &mut [u64], &mut [u64], &mut [u8], &mut
 pub type Instant = fn(&[u8], &[u8], &mut [u8], &mut [u8], &mut [u64]) -> u32;
 /// Table, text, answer.
 pub type Render = fn(&[u8], &mut [u8], &mut [u64]) -> u32;
+/// Text, table, answer.
+pub type Read = fn(&[u8], &mut [u8], &mut [u64]) -> u32;
 
 #[derive(Clone, Copy)]
 pub struct Calls {
@@ -18,6 +20,7 @@ pub struct Calls {
     pub start: Instant,
     pub resume: Instant,
     pub render: Render,
+    pub read: Read,
 }
 
 /// The calls of this implementation.
@@ -26,6 +29,7 @@ pub const COMPARE: Calls = Calls {
     start,
     resume,
     render,
+    read,
 };
 
 /// The figures of an answer, and the entries that its buffer must have.
@@ -84,6 +88,16 @@ fn render(table: &[u8], text: &mut [u8], answer: &mut [u64]) -> u32 {
         let lines = text.get_mut(..listing.len()).ok_or(Refusal::whole(3))?;
         lines.copy_from_slice(listing.as_bytes());
         *front = [listing.len() as u64, 0, 0];
+        Ok(())
+    })
+}
+
+/// Check 3 of the answer comes first, as that of the table does.
+fn read(text: &[u8], table: &mut [u8], answer: &mut [u64]) -> u32 {
+    returned(|| {
+        let front = front(answer)?;
+        let (nodes, signals) = crate::read(text, table)?;
+        *front = [nodes as u64, signals as u64, 0];
         Ok(())
     })
 }

@@ -9,9 +9,12 @@ pub mod edges;
 pub mod families;
 pub mod hex;
 pub mod numbers;
+pub mod printer;
 pub mod programs;
 pub mod random;
 pub mod states;
+pub mod text_edges;
+pub mod texts;
 pub mod vectors;
 
 /// The seed of every generated table and instant.

@@ -38,6 +38,12 @@ pub struct VectorClosed {
     pub emits: Vec<u8>,
 }
 
+pub struct TextVector {
+    pub text: Vec<u8>,
+    /// The table's bytes and the number of signals.
+    pub outcome: Result<(Vec<u8>, usize), Refusal>,
+}
+
 /// Where the vector files are: BAVZHRONO_VECTORS, else beside the repository.
 pub fn directory() -> PathBuf {
     match std::env::var_os("BAVZHRONO_VECTORS") {
@@ -68,19 +74,33 @@ pub fn read_instants(file: &Path) -> Vec<InstantVector> {
             table: bytes(object, "table"),
             answers: bytes(object, "answers"),
             state: bytes(object, "state"),
-            outcome: outcome(object),
+            outcome: or_refusal(object, closed),
         })
         .collect()
 }
 
-fn outcome(object: &Object) -> Result<VectorClosed, Refusal> {
-    if object.contains_key("refused") {
-        return Err(Refusal {
-            number: number(object, "refused") as u32,
-            node: number(object, "node") as usize,
-        });
-    }
-    Ok(VectorClosed {
+pub fn read_texts(file: &Path) -> Vec<TextVector> {
+    read_objects(file)
+        .iter()
+        .map(|object| TextVector {
+            text: bytes(object, "text"),
+            outcome: or_refusal(object, table_and_signals),
+        })
+        .collect()
+}
+
+/// Signals are numbered from 0, so that the highest one tells how many there are.
+fn table_and_signals(object: &Object) -> (Vec<u8>, usize) {
+    let table = bytes(object, "table");
+    let named = table
+        .chunks_exact(2)
+        .filter(|node| [3, 5, 6, 7].contains(&node[0]));
+    let highest = named.map(|node| usize::from(node[1])).max();
+    (table, highest.map_or(0, |signal| signal + 1))
+}
+
+fn closed(object: &Object) -> VectorClosed {
+    VectorClosed {
         closed: Closed {
             code: number(object, "code") as u32,
             taken: number(object, "taken") as usize,
@@ -88,6 +108,16 @@ fn outcome(object: &Object) -> Result<VectorClosed, Refusal> {
         },
         after: bytes(object, "after"),
         emits: list(object, "emits").iter().map(|&s| s as u8).collect(),
+    }
+}
+
+fn or_refusal<T>(object: &Object, outcome: impl FnOnce(&Object) -> T) -> Result<T, Refusal> {
+    if !object.contains_key("refused") {
+        return Ok(outcome(object));
+    }
+    Err(Refusal {
+        number: number(object, "refused") as u32,
+        node: number(object, "node") as usize,
     })
 }
 

@@ -22,7 +22,12 @@ use Rattle.instant.specs.declared.Reaction.the-variants.{Refused as RefusedCall
 use Rattle.instant.proofs.Theorems.{demand3OfCalls}
 use Rattle.listing.specs.declared.Rendered.{Rendered}
 use Rattle.listing.specs.declared.Rendered.the-variants.{Whole, TooShort}
-use Rattle.abi.specs.Exported.{returned, answerAfter, Small, Tells, tellAnalysed, tellReaction, tellRendered, shortAnswer, Exported}
+use Rattle.text.specs.Reading.{ReadAs}
+use Rattle.text.specs.declared.Reading.{Reading}
+use Rattle.text.specs.declared.Reading.the-variants.{Done as DoneText}
+use Rattle.text.specs.declared.Reading.the-variants.{Refused as RefusedText}
+use Rattle.text.proofs.Theorems.{of-read}
+use Rattle.abi.specs.Exported.{returned, answerAfter, Small, Tells, tellAnalysed, tellReaction, tellRendered, tellReading, shortAnswer, Exported}
 use Rattle.abi.specs.declared.Told.{Told}
 
 pub three : (l : List ℕ) (a b c : ℕ) → 3 ≤ length l → set (set (set l 0 a) 1 b) 2 c ≡ (a ∷ b ∷ c ∷ []) ++ drop 3 l
@@ -61,6 +66,10 @@ module _ (t answers : List ℕ) {state emissions state′ emissions′ : List �
 pub small-rendered : (r : Rendered) → Small (tellRendered r)
 small-rendered (Whole n) = tt
 small-rendered TooShort = omega arith
+
+pub small-read : (text old new : List ℕ) (r : Reading) → ReadAs text old new r → Small (tellReading r)
+small-read text old new (DoneText nodes n) o = tt
+small-read text old new (RefusedText number node) o = omega (arith, of-read .refused text old new number node o .2)
 
 -- it changes no answer
 short-same : (before : Check) (answer : List ℕ) → answer ≡ answerAfter (shortAnswer before) answer

@@ -28,7 +28,12 @@ use Rattle.listing.specs.Text.{textOf}
 use Rattle.listing.specs.Rendering.{Rendering}
 use Rattle.listing.specs.declared.Rendered.{Rendered}
 use Rattle.listing.specs.declared.Rendered.the-variants.{Whole, TooShort}
-use Rattle.abi.specs.Exported.{returned, answerAfter, Tells, tellAnalysed, tellReaction, tellRendered, shortAnswer, Exported}
+use Rattle.text.specs.Reading.{ReadAs}
+use Rattle.text.specs.declared.Reading.{Reading}
+use Rattle.text.specs.declared.Reading.the-variants.{Done as DoneText}
+use Rattle.text.specs.declared.Reading.the-variants.{Refused as RefusedText}
+use Rattle.text.proofs.Theorems.{of-read, number-known}
+use Rattle.abi.specs.Exported.{returned, answerAfter, Tells, tellAnalysed, tellReaction, tellRendered, tellReading, shortAnswer, Exported}
 use Rattle.abi.specs.Theorems.{Ran, IsRefused, Demand1OfExports}
 use Rattle.abi.specs.declared.Told.{Told}
 use Rattle.abi.specs.declared.Told.the-variants.{Refusal}
@@ -37,29 +42,29 @@ use Rattle.abi.proofs.Telling.{length-refusal}
 -- ---- what is told by the number returned
 
 -- a refusal of these checks, by number and node
-pub record Known (told : Told) : Type 0 where
+pub record Known (most : ℕ) (told : Told) : Type 0 where
   pub number : ℕ
   pub node : ℕ
   pub is : told ≡ Refusal number node
   pub some : 1 ≤ number
-  pub known : number ≤ 13
+  pub known : number ≤ most
   pub within : node < maxNodes
 
 -- checks 1 to 3 come to one
-short-known : (before : Check) → ((number node : ℕ) → before ≡ Refused number node → (1 ≤ number) × (number ≤ 2) × (0 ≡ node)) → Known (shortAnswer before)
-short-known Passed h = record { number = 3; node = 0; is = refl; some = omega arith; known = omega arith; within = omega arith }
-short-known (Refused number node) h =
+short-known : (most : ℕ) → 3 ≤ most → (before : Check) → ((number node : ℕ) → before ≡ Refused number node → (1 ≤ number) × (number ≤ 2) × (0 ≡ node)) → Known most (shortAnswer before)
+short-known most m Passed h = record { number = 3; node = 0; is = refl; some = omega arith; known = omega arith; within = omega arith }
+short-known most m (Refused number node) h =
     let (some, known, none) = h number node refl in
     record { number = number; node = node; is = refl; some = some; known = omega arith; within = omega arith }
 
-module _ {A : Type 0} (before : Check) (Same : Type 0) (Call : A → Type 0) (tell : A → Told) (Refuses : ℕ → ℕ → Type 0) (answer answer′ : List ℕ) (first : Known (shortAnswer before)) where
+module _ {A : Type 0} (before : Check) (Same : Type 0) (Call : A → Type 0) (tell : A → Told) (Refuses : ℕ → ℕ → Type 0) (answer answer′ : List ℕ) (most : ℕ) (first : Known most (shortAnswer before)) where
   -- a call that tells of a refusal is refused, and leaves its buffers the same
   pub record Own (x : A) : Type 0 where
-    pub known : Known (tell x)
+    pub known : Known most (tell x)
     pub refuses : Refuses (known .number) (known .node)
     pub same : Same
 
-  is-refused : {r : ℕ} {told : Told} (k : Known told) → (3 ≤ length answer → Refuses (k .number) (k .node)) → (length answer < 3 → shortAnswer before ≡ told) → Tells told answer answer′ r → IsRefused before Refuses answer answer′ r
+  is-refused : {r : ℕ} {told : Told} (k : Known most told) → (3 ≤ length answer → Refuses (k .number) (k .node)) → (length answer < 3 → shortAnswer before ≡ told) → Tells told answer answer′ r → IsRefused most before Refuses answer answer′ r
   is-refused {r} k own short o =
       record {
         number = k .number;
@@ -73,10 +78,10 @@ module _ {A : Type 0} (before : Check) (Same : Type 0) (Call : A → Type 0) (te
         sameAnswer = o .answered ∙ ap (λ z. answerAfter z answer) (k .is);
       }
 
-  refused-is : ((x : A) → Call x → 0 < returned (tell x) → Own x) → (r : ℕ) → Exported before Same Call tell answer answer′ r → 0 < r → Same × IsRefused before Refuses answer answer′ r
+  refused-is : ((x : A) → Call x → 0 < returned (tell x) → Own x) → (r : ℕ) → Exported before Same Call tell answer answer′ r → 0 < r → Same × IsRefused most before Refuses answer answer′ r
   refused-is by r o h = go (decLt (length answer) 3)
     where
-      go : Dec (length answer < 3) → Same × IsRefused before Refuses answer answer′ r
+      go : Dec (length answer < 3) → Same × IsRefused most before Refuses answer answer′ r
       go (yes l) =
           let (same, told) = o .short l in
           (same, is-refused first (λ m. absurd (omega arith)) (λ _. refl) told)
@@ -95,14 +100,20 @@ module _ {A : Type 0} (before : Check) (Same : Type 0) (Call : A → Type 0) (te
 
 -- ---- the functions
 
-length-known : (t : List ℕ) → Known (shortAnswer (lengthCheck t))
-length-known t = short-known (lengthCheck t) (length-refusal t)
+length-known : (t : List ℕ) → Known 13 (shortAnswer (lengthCheck t))
+length-known t = short-known 13 (omega arith) (lengthCheck t) (length-refusal t)
 
-none-known : Known (shortAnswer Passed)
-none-known = short-known Passed (λ number node e. (let z : _≡_ {A = ℕ} 0 1 = cc in absurd (omega arith)))
+none-known : (most : ℕ) → 3 ≤ most → Known most (shortAnswer Passed)
+none-known most m = short-known most m Passed (λ number node e. (let z : _≡_ {A = ℕ} 0 1 = cc in absurd (omega arith)))
+
+render-known : Known 13 (shortAnswer Passed)
+render-known = none-known 13 (omega arith)
+
+read-known : Known 16 (shortAnswer Passed)
+read-known = none-known 16 (omega arith)
 
 module _ (t k a s m k′ a′ s′ m′ answer answer′ : List ℕ) where
-  analyse-own : (x : Analysed) → Analysis t k a s m k′ a′ s′ m′ x → 0 < returned (tellAnalysed x) → Own (lengthCheck t) ((k′ ≡ k) × (a′ ≡ a) × (s′ ≡ s) × (m′ ≡ m)) (Analysis t k a s m k′ a′ s′ m′) tellAnalysed (λ number node. Analysis t k a s m k′ a′ s′ m′ (RefusedTable number node)) answer answer′ (length-known t) x
+  analyse-own : (x : Analysed) → Analysis t k a s m k′ a′ s′ m′ x → 0 < returned (tellAnalysed x) → Own (lengthCheck t) ((k′ ≡ k) × (a′ ≡ a) × (s′ ≡ s) × (m′ ≡ m)) (Analysis t k a s m k′ a′ s′ m′) tellAnalysed (λ number node. Analysis t k a s m k′ a′ s′ m′ (RefusedTable number node)) answer answer′ 13 (length-known t) x
   analyse-own (Done n d) o h = absurd (omega arith)
   analyse-own (RefusedTable number node) o h =
       let u = demand2OfCall .refusals t k a s m k′ a′ s′ m′ number node o in
@@ -119,7 +130,7 @@ module _ (t k a s m k′ a′ s′ m′ answer answer′ : List ℕ) where
 
 -- either kind of instant, by what its refusals are
 module _ (t state emissions state′ emissions′ answer answer′ : List ℕ) (Call : Reaction → Type 0) (refusals : (number node : ℕ) → Call (RefusedCall number node) → Unchanged number node state emissions state′ emissions′) where
-  react-own : (x : Reaction) → Call x → 0 < returned (tellReaction x) → Own (lengthCheck t) ((state′ ≡ state) × (emissions′ ≡ emissions)) Call tellReaction (λ number node. Call (RefusedCall number node)) answer answer′ (length-known t) x
+  react-own : (x : Reaction) → Call x → 0 < returned (tellReaction x) → Own (lengthCheck t) ((state′ ≡ state) × (emissions′ ≡ emissions)) Call tellReaction (λ number node. Call (RefusedCall number node)) answer answer′ 13 (length-known t) x
   react-own (Closed code taken entries) o h = absurd (omega arith)
   react-own (RefusedCall number node) o h =
       let u = refusals number node o in
@@ -133,12 +144,12 @@ module _ (t state emissions state′ emissions′ answer answer′ : List ℕ) (
   react-done (Closed code taken entries) o z e = (code, taken, entries, o, e)
   react-done (RefusedCall number node) o z e = absurd (omega (arith, refusals number node o .some))
 
-  react-refused : (r : ℕ) → Exported (lengthCheck t) ((state′ ≡ state) × (emissions′ ≡ emissions)) Call tellReaction answer answer′ r → 0 < r → ((state′ ≡ state) × (emissions′ ≡ emissions)) × IsRefused (lengthCheck t) (λ number node. Call (RefusedCall number node)) answer answer′ r
-  react-refused r o h = refused-is (lengthCheck t) _ Call tellReaction (λ number node. Call (RefusedCall number node)) answer answer′ (length-known t) react-own r o h
+  react-refused : (r : ℕ) → Exported (lengthCheck t) ((state′ ≡ state) × (emissions′ ≡ emissions)) Call tellReaction answer answer′ r → 0 < r → ((state′ ≡ state) × (emissions′ ≡ emissions)) × IsRefused 13 (lengthCheck t) (λ number node. Call (RefusedCall number node)) answer answer′ r
+  react-refused r o h = refused-is (lengthCheck t) _ Call tellReaction (λ number node. Call (RefusedCall number node)) answer answer′ 13 (length-known t) react-own r o h
 
   react-ran : Exported (lengthCheck t) ((state′ ≡ state) × (emissions′ ≡ emissions)) Call tellReaction answer answer′ 0 → Ran Call answer answer′
   react-ran o =
-      let (x, call, z, e) = done-told (lengthCheck t) _ Call tellReaction (λ number node. Call (RefusedCall number node)) answer answer′ (length-known t) o in
+      let (x, call, z, e) = done-told (lengthCheck t) _ Call tellReaction (λ number node. Call (RefusedCall number node)) answer answer′ 13 (length-known t) o in
       react-done x call z e
 
 module _ (text old new answer answer′ : List ℕ) where
@@ -149,7 +160,7 @@ module _ (text old new answer answer′ : List ℕ) where
       go true e c = cc
       go false e c = c
 
-  render-own : (x : Rendered) → Rendering text old new x → 0 < returned (tellRendered x) → Own Passed (new ≡ old) (Rendering text old new) tellRendered (λ number node. Rendering text old new TooShort) answer answer′ none-known x
+  render-own : (x : Rendered) → Rendering text old new x → 0 < returned (tellRendered x) → Own Passed (new ≡ old) (Rendering text old new) tellRendered (λ number node. Rendering text old new TooShort) answer answer′ 13 render-known x
   render-own (Whole n) o h = absurd (omega arith)
   render-own TooShort o h =
       record {
@@ -162,26 +173,47 @@ module _ (text old new answer answer′ : List ℕ) where
   render-done (Whole n) o z e = (n, o, e)
   render-done TooShort o z e = absurd (omega arith)
 
+module _ (text old new answer answer′ : List ℕ) where
+  read-own : (x : Reading) → ReadAs text old new x → 0 < returned (tellReading x) → Own Passed (new ≡ old) (ReadAs text old new) tellReading (λ number node. ReadAs text old new (RefusedText number node)) answer answer′ 16 read-known x
+  read-own (DoneText nodes n) o h = absurd (omega arith)
+  read-own (RefusedText number node) o h =
+      let (same, is, below) = of-read .refused text old new number node o in
+      let (some, known) = number-known is in
+      record {
+        known = record { number = number; node = node; is = refl; some = some; known = known; within = below };
+        refuses = o;
+        same = same;
+      }
+
+  read-done : (x : Reading) → ReadAs text old new x → returned (tellReading x) ≡ 0 → answer′ ≡ answerAfter (tellReading x) answer → (nodes n : ℕ) × ReadAs text old new (DoneText nodes n) × (answer′ ≡ onto (nodes ∷ n ∷ 0 ∷ []) answer)
+  read-done (DoneText nodes n) o z e = (nodes, n, o, e)
+  read-done (RefusedText number node) o z e = absurd (omega (arith, number-known (of-read .refused text old new number node o .1) .0))
+
 pub demand1OfExports : Demand1OfExports
 demand1OfExports =
     record {
       back = λ number node h. (omega arith, omega arith);
       analyseRefused = λ t k a s m answer k′ a′ s′ m′ answer′ r o h.
-          refused-is (lengthCheck t) _ _ tellAnalysed _ answer answer′ (length-known t) (analyse-own t k a s m k′ a′ s′ m′ answer answer′) r o h;
+          refused-is (lengthCheck t) _ _ tellAnalysed _ answer answer′ 13 (length-known t) (analyse-own t k a s m k′ a′ s′ m′ answer answer′) r o h;
       startRefused = λ t answers state emissions answer state′ emissions′ answer′ r o h.
           react-refused t state emissions state′ emissions′ answer answer′ (Starting t answers state emissions state′ emissions′) (demand3OfCalls .startRefusals t answers state emissions state′ emissions′) r o h;
       resumeRefused = λ t answers state emissions answer state′ emissions′ answer′ r o h.
           react-refused t state emissions state′ emissions′ answer answer′ (Resuming t answers state emissions state′ emissions′) (demand3OfCalls .resumeRefusals t answers state emissions state′ emissions′) r o h;
       renderRefused = λ t text answer text′ answer′ r o h.
-          refused-is Passed _ _ tellRendered _ answer answer′ none-known (render-own (textOf (verdict t)) text text′ answer answer′) r o h;
+          refused-is Passed _ _ tellRendered _ answer answer′ 13 render-known (render-own (textOf (verdict t)) text text′ answer answer′) r o h;
       analyseDone = λ t k a s m answer k′ a′ s′ m′ answer′ o.
-          (let (x, call, z, e) = done-told (lengthCheck t) _ _ tellAnalysed (λ number node. Unit {0}) answer answer′ (length-known t) o in
+          (let (x, call, z, e) = done-told (lengthCheck t) _ _ tellAnalysed (λ number node. Unit {0}) answer answer′ 13 (length-known t) o in
           analyse-done t k a s m k′ a′ s′ m′ answer answer′ x call z e);
       startDone = λ t answers state emissions answer state′ emissions′ answer′ o.
           react-ran t state emissions state′ emissions′ answer answer′ (Starting t answers state emissions state′ emissions′) (demand3OfCalls .startRefusals t answers state emissions state′ emissions′) o;
       resumeDone = λ t answers state emissions answer state′ emissions′ answer′ o.
           react-ran t state emissions state′ emissions′ answer answer′ (Resuming t answers state emissions state′ emissions′) (demand3OfCalls .resumeRefusals t answers state emissions state′ emissions′) o;
       renderDone = λ t text answer text′ answer′ o.
-          (let (x, call, z, e) = done-told Passed _ _ tellRendered (λ number node. Unit {0}) answer answer′ none-known o in
+          (let (x, call, z, e) = done-told Passed _ _ tellRendered (λ number node. Unit {0}) answer answer′ 13 render-known o in
           render-done (textOf (verdict t)) text text′ answer answer′ x call z e);
+      readRefused = λ text table answer table′ answer′ r o h.
+          refused-is Passed _ _ tellReading _ answer answer′ 16 read-known (read-own text table table′ answer answer′) r o h;
+      readDone = λ text table answer table′ answer′ o.
+          (let (x, call, z, e) = done-told Passed _ _ tellReading (λ number node. Unit {0}) answer answer′ 16 read-known o in
+          read-done text table table′ answer answer′ x call z e);
     }

@@ -21,6 +21,10 @@ use Rattle.listing.specs.Text.{textOf}
 use Rattle.listing.specs.Rendering.{Rendering}
 use Rattle.listing.specs.declared.Rendered.{Rendered}
 use Rattle.listing.specs.declared.Rendered.the-variants.{Whole, TooShort}
+use Rattle.text.specs.Reading.{ReadAs}
+use Rattle.text.specs.declared.Reading.{Reading}
+use Rattle.text.specs.declared.Reading.the-variants.{Done as DoneText}
+use Rattle.text.specs.declared.Reading.the-variants.{Refused as RefusedText}
 use Rattle.abi.specs.declared.Told.{Told}
 use Rattle.abi.specs.declared.Told.the-variants.{Figures, Refusal}
 
@@ -60,6 +64,10 @@ abbrev pub tellRendered : Rendered → Told
 tellRendered (Whole length) = Figures length 0 0
 tellRendered TooShort = Refusal 3 0
 
+abbrev pub tellReading : Reading → Told
+tellReading (DoneText nodes signals) = Figures nodes signals 0
+tellReading (RefusedText number node) = Refusal number node
+
 -- an answer of fewer than three entries fails check 3, which comes after the call's checks before it
 abbrev pub shortAnswer : (before : Check) → Told
 shortAnswer Passed = Refusal 3 0
@@ -86,3 +94,7 @@ ResumingC t answers state emissions answer state′ emissions′ answer′ r =
 -- a refused table is a text as any other: no check comes before 3
 abbrev pub RenderingC : (t text answer text′ answer′ : List ℕ) → ℕ → Type 0
 RenderingC t text answer text′ answer′ r = Exported Passed (text′ ≡ text) (Rendering (textOf (verdict t)) text text′) tellRendered answer answer′ r
+
+-- check 3 comes first (F-1)
+abbrev pub ReadingC : (text table answer table′ answer′ : List ℕ) → ℕ → Type 0
+ReadingC text table answer table′ answer′ r = Exported Passed (table′ ≡ table) (ReadAs text table table′) tellReading answer answer′ r

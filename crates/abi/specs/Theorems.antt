@@ -19,7 +19,10 @@ use Rattle.instant.specs.declared.Reaction.the-variants.{Refused as RefusedCall
 use Rattle.listing.specs.Text.{textOf}
 use Rattle.listing.specs.Rendering.{Rendering}
 use Rattle.listing.specs.declared.Rendered.the-variants.{Whole, TooShort}
-use Rattle.abi.specs.Exported.{returned, shortAnswer, Analysing, StartingC, ResumingC, RenderingC}
+use Rattle.text.specs.Reading.{ReadAs}
+use Rattle.text.specs.declared.Reading.the-variants.{Done as DoneText}
+use Rattle.text.specs.declared.Reading.the-variants.{Refused as RefusedText}
+use Rattle.abi.specs.Exported.{returned, shortAnswer, Analysing, StartingC, ResumingC, RenderingC, ReadingC}
 use Rattle.abi.specs.declared.Told.the-variants.{Refusal}
 
 -- after 0 the call has closed with these figures
@@ -27,13 +30,13 @@ abbrev pub Ran : (Reaction → Type 0) → (answer answer′ : List ℕ) → Typ
 Ran Call answer answer′ = (code taken entries : ℕ) × Call (Closed code taken entries) × (answer′ ≡ onto (code ∷ taken ∷ entries ∷ []) answer)
 
 -- a function that returned r, and not 0, was refused: r is number + 256 * node of the call's own refusal or, where the answer is too
--- short, of the first that fails of the checks up to 3. The answer has not changed
-pub record IsRefused (before : Check) (Refuses : (number node : ℕ) → Type 0) (answer answer′ : List ℕ) (r : ℕ) : Type 0 where
+-- short, of the first that fails of the checks up to 3, and no number is above `most`. The answer has not changed
+pub record IsRefused (most : ℕ) (before : Check) (Refuses : (number node : ℕ) → Type 0) (answer answer′ : List ℕ) (r : ℕ) : Type 0 where
   pub number : ℕ
   pub node : ℕ
   pub returns : r ≡ returned (Refusal number node)
   pub some : 1 ≤ number
-  pub known : number ≤ 13
+  pub known : number ≤ most
   pub within : node < maxNodes
   pub own : 3 ≤ length answer → Refuses number node
   pub short : length answer < 3 → shortAnswer before ≡ Refusal number node
@@ -47,21 +50,25 @@ pub record Demand1OfExports : Type 0 where
       (t k a s m answer k′ a′ s′ m′ answer′ : List ℕ) (r : ℕ) →
       Analysing t k a s m answer k′ a′ s′ m′ answer′ r → 0 < r →
       ((k′ ≡ k) × (a′ ≡ a) × (s′ ≡ s) × (m′ ≡ m)) ×
-      IsRefused (lengthCheck t) (λ number node. Analysis t k a s m k′ a′ s′ m′ (RefusedTable number node)) answer answer′ r
+      IsRefused 13 (lengthCheck t) (λ number node. Analysis t k a s m k′ a′ s′ m′ (RefusedTable number node)) answer answer′ r
   pub startRefused :
       (t answers state emissions answer state′ emissions′ answer′ : List ℕ) (r : ℕ) →
       StartingC t answers state emissions answer state′ emissions′ answer′ r → 0 < r →
       ((state′ ≡ state) × (emissions′ ≡ emissions)) ×
-      IsRefused (lengthCheck t) (λ number node. Starting t answers state emissions state′ emissions′ (RefusedCall number node)) answer answer′ r
+      IsRefused 13 (lengthCheck t) (λ number node. Starting t answers state emissions state′ emissions′ (RefusedCall number node)) answer answer′ r
   pub resumeRefused :
       (t answers state emissions answer state′ emissions′ answer′ : List ℕ) (r : ℕ) →
       ResumingC t answers state emissions answer state′ emissions′ answer′ r → 0 < r →
       ((state′ ≡ state) × (emissions′ ≡ emissions)) ×
-      IsRefused (lengthCheck t) (λ number node. Resuming t answers state emissions state′ emissions′ (RefusedCall number node)) answer answer′ r
+      IsRefused 13 (lengthCheck t) (λ number node. Resuming t answers state emissions state′ emissions′ (RefusedCall number node)) answer answer′ r
   pub renderRefused :
       (t text answer text′ answer′ : List ℕ) (r : ℕ) →
       RenderingC t text answer text′ answer′ r → 0 < r →
-      (text′ ≡ text) × IsRefused Passed (λ number node. Rendering (textOf (verdict t)) text text′ TooShort) answer answer′ r
+      (text′ ≡ text) × IsRefused 13 Passed (λ number node. Rendering (textOf (verdict t)) text text′ TooShort) answer answer′ r
+  pub readRefused :
+      (text table answer table′ answer′ : List ℕ) (r : ℕ) →
+      ReadingC text table answer table′ answer′ r → 0 < r →
+      (table′ ≡ table) × IsRefused 16 Passed (λ number node. ReadAs text table table′ (RefusedText number node)) answer answer′ r
   -- where 0 is returned, the call was not refused, and its figures stand in the answer
   pub analyseDone :
       (t k a s m answer k′ a′ s′ m′ answer′ : List ℕ) →
@@ -77,3 +84,7 @@ pub record Demand1OfExports : Type 0 where
       (t text answer text′ answer′ : List ℕ) →
       RenderingC t text answer text′ answer′ 0 →
       (n : ℕ) × Rendering (textOf (verdict t)) text text′ (Whole n) × (answer′ ≡ onto (n ∷ 0 ∷ 0 ∷ []) answer)
+  pub readDone :
+      (text table answer table′ answer′ : List ℕ) →
+      ReadingC text table answer table′ answer′ 0 →
+      (nodes signals : ℕ) × ReadAs text table table′ (DoneText nodes signals) × (answer′ ≡ onto (nodes ∷ signals ∷ 0 ∷ []) answer)

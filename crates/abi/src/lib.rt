@@ -6,11 +6,12 @@ ghost use Prim.Native.Nat.{_≤_, _<_};
 ghost use lib.ListN.{length};
 ghost use Rattle.table.specs.Check.{lengthCheck};
 ghost use Rattle.analysis.specs.Passes.{onto};
-ghost use Rattle.abi.specs.Exported.{maxNode, returned, Small, Tells, tellAnalysed, tellReaction, tellRendered, shortAnswer, Analysing, StartingC, ResumingC, RenderingC};
+ghost use Rattle.abi.specs.Exported.{maxNode, returned, Small, Tells, tellAnalysed, tellReaction, tellRendered, tellReading, shortAnswer, Analysing, StartingC, ResumingC, RenderingC, ReadingC};
 use analysis::Analysed;
 use instant::Reaction;
 use listing::Rendered;
 use table::Check;
+use text::Reading;
 
 // What a call tells: three figures, or the number and the node of a refusal.
 enum Told {
@@ -124,6 +125,19 @@ fn tell_rendered(rendered: Rendered) -> Told
     }
 }
 
+fn tell_reading(reading: Reading) -> Told
+    ensures { λ r. ⌜ r ≡ tellReading reading ⌝ }
+{
+    match reading {
+        Reading::Done { nodes, signals } => Told::Figures {
+            first: nodes,
+            second: signals,
+            third: 0,
+        },
+        Reading::Refused { number, node } => Told::Refusal { number, node },
+    }
+}
+
 #[no_mangle]
 pub extern "C" fn bavzhrono_analyse(
     table: &[u8],
@@ -186,4 +200,16 @@ pub extern "C" fn bavzhrono_render(table: &[u8], text: &mut [u8], answer: &mut [
     }
     let rendered = listing::render(table, text);
     tell(tell_rendered(rendered), answer)
+}
+
+// A lent table that is too short is refused ahead of all else, and so is an answer.
+#[no_mangle]
+pub extern "C" fn bavzhrono_read(text: &[u8], table: &mut [u8], answer: &mut [u64]) -> u32
+    ensures { λ r. ⌜ ReadingC (now (text .entry)) (now (table .entry)) (now (answer .entry)) (now (table .exit)) (now (answer .exit)) r ⌝ }
+{
+    if answer.len() < FIGURES {
+        return refusal(3, 0);
+    }
+    let reading = text::read(text, table);
+    tell(tell_reading(reading), answer)
 }

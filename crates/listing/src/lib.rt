@@ -280,7 +280,7 @@ pub enum Rendered {
 }
 
 // The line of a refusal.
-fn render_refusal(number: u8, node: usize, text: &mut [u8]) -> Rendered
+pub fn render_refusal(number: u8, node: usize, text: &mut [u8]) -> Rendered
     ensures { λ r. ⌜ Rendering (textOf (refused number node)) (now (text .entry)) (now (text .exit)) r ⌝ }
 {
     let length = refusal_length(number, node);

@@ -1,4 +1,4 @@
-//! Tables of documents 01 and 02, and filled buffers to lend.
+//! Tables and texts of documents 01 and 02, and filled buffers to lend.
 
 #![allow(dead_code)] // each test file uses a part of this
 
@@ -131,9 +131,36 @@ pub fn last_kind_unknown() -> Vec<u8> {
 }
 
 fn full_table_of(leaf: [u8; 2]) -> Vec<u8> {
+    full_table_with(leaf, [9, 0])
+}
+
+/// As the full table, but with another leaf or another statement of two children.
+pub fn full_table_with(leaf: [u8; 2], pair: [u8; 2]) -> Vec<u8> {
     let mut table = leaf.to_vec();
     for _ in 0..9 {
-        table = [&table[..], &table[..], &[9, 0]].concat();
+        table = [&table[..], &table[..], &pair].concat();
     }
     [&table[..], &[8, 0]].concat()
+}
+
+/// A text with so many levels around its inner part.
+pub fn nested(begin: &str, inner: &str, end: &str, levels: usize) -> String {
+    [&begin.repeat(levels), inner, &end.repeat(levels)].concat()
+}
+
+/// A flat sequence of so many pauses.
+pub fn flat(pauses: usize) -> String {
+    vec!["pause"; pauses].join(";")
+}
+
+/// Emits of so many signals in two branches, since in one they would be too deep.
+pub fn emits(signals: usize) -> String {
+    let emits: Vec<String> = (0..signals).map(|at| format!("emit S{at}")).collect();
+    let (left, right) = emits.split_at(signals / 2);
+    format!("[{}||{}]", left.join(";"), right.join(";"))
+}
+
+/// A text and blanks after it, so many bytes in all.
+pub fn padded(text: &str, length: usize) -> String {
+    format!("{text:length$}")
 }

@@ -11,6 +11,8 @@ mod instants;
 mod lengths;
 pub mod refusals;
 mod tables;
+pub mod texts;
+mod token_lists;
 
 pub struct Group {
     pub name: &'static str,
@@ -19,7 +21,7 @@ pub struct Group {
     pub random: bool,
 }
 
-pub const GROUPS: [Group; 16] = [
+pub const GROUPS: [Group; 24] = [
     Group {
         name: "Table W and the edges",
         run: tables::edges,
@@ -98,6 +100,46 @@ pub const GROUPS: [Group; 16] = [
     Group {
         name: "refused by check 11, when the start sets are known",
         run: refusals::check_11,
+        random: true,
+    },
+    Group {
+        name: "texts at the edges, in a thread with 8 MiB of stack",
+        run: texts::edges,
+        random: false,
+    },
+    Group {
+        name: token_lists::ALL,
+        run: token_lists::all,
+        random: false,
+    },
+    Group {
+        name: token_lists::RIGHT,
+        run: token_lists::right,
+        random: false,
+    },
+    Group {
+        name: token_lists::LONGER,
+        run: token_lists::longer,
+        random: false,
+    },
+    Group {
+        name: "printed programs, around all limits",
+        run: texts::printed_programs,
+        random: true,
+    },
+    Group {
+        name: "printed programs with a token spoilt",
+        run: texts::spoilt_tokens,
+        random: true,
+    },
+    Group {
+        name: "printed programs with a byte spoilt, or cut off",
+        run: texts::spoilt_bytes,
+        random: true,
+    },
+    Group {
+        name: "texts with tables and answers of all lengths",
+        run: texts::lengths,
         random: true,
     },
 ];

@@ -1,0 +1,188 @@
+//! Texts to try: printed programs of all sizes, and texts that are spoilt.
+
+use super::printer::{joined, nodes_of, print, Blanks, Lengths, Node, Printed};
+use super::programs::{accepted, balanced, SHAPES};
+use super::random::Random;
+use crate::checks::MOST_TRAPS;
+
+/// The numbers of `program` that give each kind of program its share.
+pub const NUMBERS: usize = 36;
+
+/// A program for each number in turn: of all shapes, and about as large, as deep, in as
+/// many traps or with as many signals as is allowed. It need not be accepted: a loop
+/// may end at once, and an exit may have no trap.
+pub fn program(random: &mut Random, number: usize) -> Vec<Node> {
+    // Each shape once, then those first that fill the nodes they are given.
+    let turn = if number < 9 { 0 } else { 4 };
+    let shape = &SHAPES[(number + turn) % SHAPES.len()];
+    let sizes = match number {
+        0..9 => [900, 1024],
+        9..12 => [1025, 1200],
+        12..18 => [61, 300],
+        _ => [1, 60],
+    };
+    let nodes = random.between(sizes[0], sizes[1]);
+    let mut program = nodes_of(&accepted(random, shape, nodes));
+    match number {
+        18..21 => wrap(
+            &mut program,
+            &[11],
+            random.between(MOST_TRAPS - 12, MOST_TRAPS + 2),
+        ),
+        21..24 => wrap(&mut program, &[5, 7, 8, 11], random.between(225, 258)),
+        24..26 => program = many_signals(random),
+        26..28 => change_levels(random, &mut program),
+        28..30 => change_pauses(random, &mut program),
+        _ => {}
+    }
+    if random.one_in(4) {
+        let most = *random.pick(&[2, 30, 300]);
+        change_signals(random, &mut program, most);
+    }
+    program
+}
+
+/// Puts so many nodes of one child around it, of these kinds by turns.
+fn wrap(program: &mut Vec<Node>, kinds: &[u8], times: usize) {
+    let kinds = kinds.iter().cycle().take(times);
+    program.extend(kinds.map(|&kind| (kind, 0)));
+}
+
+/// About as many signals as are allowed, each in a statement of its own.
+fn many_signals(random: &mut Random) -> Vec<Node> {
+    let count = random.between(254, 258);
+    let leaf = *random.pick(&[
+        &[3, 0][..],
+        &[2, 0, 5, 0],
+        &[1, 0, 7, 0],
+        &[2, 0, 1, 0, 6, 0],
+    ]);
+    // An even tree of sequences would be regrouped to one that is too deep.
+    let mut program = nodes_of(&balanced(leaf, count, &[10, 0]));
+    let signals = program.iter_mut().filter(|(kind, _)| names_signal(*kind));
+    signals.enumerate().for_each(|(at, node)| node.1 = at);
+    program
+}
+
+fn names_signal(kind: u8) -> bool {
+    matches!(kind, 3 | 5 | 6 | 7)
+}
+
+/// Gives all statements any of so many signals.
+fn change_signals(random: &mut Random, program: &mut [Node], most: usize) {
+    let signals = program.iter_mut().filter(|(kind, _)| names_signal(*kind));
+    signals.for_each(|node| node.1 = random.below(most));
+}
+
+/// Gives some of the exits a level that their traps may not reach.
+fn change_levels(random: &mut Random, program: &mut [Node]) {
+    let exits = program.iter_mut().filter(|(kind, _)| *kind == 4);
+    for exit in exits {
+        if random.one_in(3) {
+            exit.1 = *random.pick(&[0, 1, 2, 5, 62, 300]);
+        }
+    }
+}
+
+/// Turns some of the pauses into nothing or into an exit.
+fn change_pauses(random: &mut Random, program: &mut [Node]) {
+    let pauses = program.iter_mut().filter(|(kind, _)| *kind == 2);
+    for pause in pauses {
+        *pause = *random.pick(&[(1, 0), (2, 0), (2, 0), (2, 0), (4, 0)]);
+    }
+}
+
+/// Prints a program. Large ones mostly get short names, so that not all of their texts
+/// are too long.
+pub fn printed(random: &mut Random, number: usize) -> Printed {
+    let program = program(random, number);
+    let lengths = match program.len() {
+        0..200 => *random.pick(&[Lengths::Short, Lengths::Any, Lengths::Longest]),
+        _ if random.one_in(12) => Lengths::Longest,
+        _ => *random.pick(&[Lengths::Least, Lengths::Short]),
+    };
+    print(random, lengths, &program)
+}
+
+/// The tokens as a text. Large ones get few blanks.
+pub fn text(random: &mut Random, tokens: &[Vec<u8>]) -> Vec<u8> {
+    let blanks = match tokens.len() {
+        0..600 => *random.pick(&[Blanks::Least, Blanks::One, Blanks::Few, Blanks::Many]),
+        _ => *random.pick(&[Blanks::Least, Blanks::One, Blanks::Few]),
+    };
+    joined(random, blanks, tokens)
+}
+
+/// Spoils one token, or two neighbours. The text may still be one of the grammar.
+pub fn damage_tokens(random: &mut Random, tokens: &mut Vec<Vec<u8>>) {
+    let at = random.below(tokens.len());
+    match random.below(8) {
+        0 => {
+            tokens.remove(at);
+        }
+        1 => tokens.insert(at, tokens[at].clone()),
+        6 | 7 => rename(random, tokens),
+        2 if at + 1 < tokens.len() => tokens.swap(at, at + 1),
+        3 => tokens[at] = another_token(random, tokens),
+        4 => tokens.insert(at, another_token(random, tokens)),
+        _ => misspell(random, &mut tokens[at]),
+    }
+}
+
+/// Puts one name in the place of another: the text stays one of the grammar.
+fn rename(random: &mut Random, tokens: &mut [Vec<u8>]) {
+    let follows_word = |at: usize| is_before_name(&tokens[at - 1]);
+    let names: Vec<usize> = (1..tokens.len()).filter(|&at| follows_word(at)).collect();
+    if !names.is_empty() {
+        let other = *random.pick(&names);
+        tokens[*random.pick(&names)] = tokens[other].clone();
+    }
+}
+
+fn is_before_name(token: &[u8]) -> bool {
+    let words = ["emit", "exit", "signal", "trap", "present", "when"];
+    words.iter().any(|word| word.as_bytes() == token)
+}
+
+/// One of the text, or one that few texts have.
+fn another_token(random: &mut Random, tokens: &[Vec<u8>]) -> Vec<u8> {
+    const RARE: [&str; 12] = [
+        "|", "]", "[", "[]", ";", ":", "else", "when", "end", "%", "3", "await",
+    ];
+    if random.one_in(2) {
+        return random.pick(&RARE).as_bytes().to_vec();
+    }
+    random.pick(tokens).clone()
+}
+
+/// One character more, less or other, or many more.
+fn misspell(random: &mut Random, token: &mut Vec<u8>) {
+    let at = random.below(token.len());
+    match random.below(6) {
+        0 => {
+            token.remove(at);
+        }
+        1 => token.insert(at, token[at]),
+        2 => token[at] ^= 0x20,
+        3 => token.push(*random.pick(b"s_0 -")),
+        4 => token.extend(
+            b"abcdefghijklmnopqrstuvwxyz_12345"
+                .iter()
+                .skip(random.below(3)),
+        ),
+        _ => token[at] = *random.pick(b"abcSTU019_ \n;|[]"),
+    }
+}
+
+/// Changes, adds or takes away some byte, or all from a place on.
+pub fn damage_bytes(random: &mut Random, text: &mut Vec<u8>) {
+    let at = random.below(text.len());
+    match random.below(6) {
+        0..3 => text[at] = random.byte(),
+        3 => text.insert(at, random.byte()),
+        4 => {
+            text.remove(at);
+        }
+        _ => text.truncate(at),
+    }
+}

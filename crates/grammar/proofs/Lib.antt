@@ -1,0 +1,12 @@
+pub mod Completeness
+pub mod Soundness
+pub mod Weights
+pub mod Nesting
+pub mod Weighing
+pub mod Depth
+pub mod Stops
+pub mod Writing
+pub mod Clipping
+pub mod Order
+pub mod Theorems
+pub mod Examples

@@ -1,0 +1,11 @@
+pub mod Limits
+pub mod Ascii
+pub mod Tokens
+pub mod Tree
+pub mod Grammar
+pub mod Names
+pub mod Meaning
+pub mod Theorems
+pub mod Machine
+pub mod Progress
+pub mod Clipping

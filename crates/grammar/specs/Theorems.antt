@@ -1,0 +1,96 @@
+-- What is proved of the grammar and of what texts mean (F-1): the statements alone. The proofs are in proofs/.
+use Prim.Native.Nat.{ℕ, _≤_, _<_}
+use mathlib.Core.Path.{_≡_}
+use mathlib.Core.Logic.{_↔_}
+use mathlib.Core.Bool.{Bool, true, false}
+use mathlib.Core.List.{List, [], _∷_}
+use lib.ListN.{length}
+use Rattle.esterel.specs.Limits.{maxNodes}
+use Rattle.esterel.specs.Statement.{Stmt}
+use Rattle.esterel.specs.Table.{Verdict, passed, refused, postfix}
+use Rattle.esterel.specs.Checks.{verdict}
+use Rattle.grammar.specs.Limits.{maxText, maxLevels}
+use Rattle.grammar.specs.Tokens.{Token, opening, mark, name, stray, Opening, Mark, nothing, pause, emit, exit, signal, trap, loop, present, suspend, bracket, semicolon, bars, close, in-word, then, else, end, when, tokens}
+use Rattle.grammar.specs.Tree.{Tree, Name, levels}
+use Rattle.grammar.specs.Grammar.{Program}
+use Rattle.grammar.specs.Names.{see}
+use Rattle.grammar.specs.Meaning.{signals, statementOf, VerdictOf}
+
+-- At most one tree for a list of tokens: all derivations of a text give one table.
+unfoldable pub OneTree : Type 0
+OneTree = (ts : List Token) (p q : Tree) → Program p ts → Program q ts → p ≡ q
+
+-- a text passes check 14
+abbrev pub Passes14 : List ℕ → Type 0
+Passes14 text = (v : Verdict) (n node : ℕ) → VerdictOf text v n → v ≡ refused 14 node → ⊥
+
+-- the numbers that a text is refused with; only 8 and 9 name a node, of the table that is not written
+pub data Refusal : ℕ → ℕ → Type 0 where
+  outsideGrammar : Refusal 14 0
+  exitUntrapped : Refusal 15 0
+  manySignals : Refusal 16 0
+  manyNodes : Refusal 1 0
+  deepNode : (node : ℕ) → node < maxNodes → Refusal 8 node
+  manyTraps : (node : ℕ) → node < maxNodes → Refusal 9 node
+
+pub record OfTexts : Type 0 where
+  -- every text has one verdict and one number of signals
+  pub decided : (text : List ℕ) → (v : Verdict) × (n : ℕ) × VerdictOf text v n
+  pub oneVerdict : (text : List ℕ) (v w : Verdict) (n m : ℕ) → VerdictOf text v n → VerdictOf text w m → (v ≡ w) × (n ≡ m)
+  -- a text within the length passes 14 exactly if the grammar has a derivation for it
+  pub fourteen : (text : List ℕ) → length text ≤ maxText → Passes14 text ↔ ((t : Tree) × Program t (tokens text))
+  pub refusals : (text : List ℕ) (number node n : ℕ) → VerdictOf text (refused number node) n → Refusal number node
+  -- without a refusal the program is that of the derivation
+  pub program : (text : List ℕ) (p : Stmt) (n : ℕ) → VerdictOf text (passed p) n → (t : Tree) × Program t (tokens text) × (p ≡ statementOf t) × (n ≡ length (signals t))
+  -- and its table passes checks 1 to 10: the checker refuses it by 11 or not at all
+  pub onlyEleven : (text : List ℕ) (p : Stmt) (n number node : ℕ) → VerdictOf text (passed p) n → verdict (postfix p) ≡ refused number node → number ≡ 11
+
+-- The names of signals in a list of tokens, in its order: those right after emit, signal, present and when.
+abbrev pub opensSignal : Opening → Bool
+opensSignal nothing = false
+opensSignal pause = false
+opensSignal emit = true
+opensSignal exit = false
+opensSignal signal = true
+opensSignal trap = false
+opensSignal loop = false
+opensSignal present = true
+opensSignal suspend = false
+opensSignal bracket = false
+
+abbrev pub marksSignal : Mark → Bool
+marksSignal semicolon = false
+marksSignal bars = false
+marksSignal close = false
+marksSignal in-word = false
+marksSignal then = false
+marksSignal else = false
+marksSignal end = false
+marksSignal when = true
+
+abbrev pub namesSignal : Token → Bool
+namesSignal (opening o) = opensSignal o
+namesSignal (mark m) = marksSignal m
+namesSignal (name n) = false
+namesSignal stray = false
+
+abbrev pub signalNames : (isSignal : Bool) → List Token → List Name
+signalNames isSignal [] = []
+signalNames isSignal (opening o ∷ ts) = signalNames (namesSignal (opening o)) ts
+signalNames isSignal (mark m ∷ ts) = signalNames (namesSignal (mark m)) ts
+signalNames true (name n ∷ ts) = n ∷ signalNames false ts
+signalNames false (name n ∷ ts) = signalNames false ts
+signalNames isSignal (stray ∷ ts) = signalNames false ts
+
+-- a list with further names, each new one put at the end
+abbrev pub seeAll : List Name → List Name → List Name
+seeAll ns [] = ns
+seeAll ns (s ∷ ss) = seeAll (see ns s) ss
+
+-- Signals are numbered in order of first appearance: those of a tree are the names in its tokens, each where it first stands.
+unfoldable pub InOrder : Type 0
+InOrder = (ts : List Token) (t : Tree) → Program t ts → signals t ≡ seeAll [] (signalNames false ts)
+
+-- A text within the length has fewer than maxLevels levels, so that readers that go no deeper lose none.
+unfoldable pub Nesting : Type 0
+Nesting = (text : List ℕ) (t : Tree) → length text ≤ maxText → Program t (tokens text) → levels t < maxLevels

@@ -1,0 +1,39 @@
+-- Statements with names, as a text has them: the syntax trees of the grammar.
+use Prim.Native.Nat.{ℕ, suc, max}
+use mathlib.Core.List.{List}
+
+abbrev pub Name : Type 0
+Name = List ℕ
+
+pub data Leaf : Type 0 where
+  nothing : Leaf
+  pause : Leaf
+  emit : (s : Name) → Leaf
+  exit : (t : Name) → Leaf
+
+pub data Unary : Type 0 where
+  signal : (s : Name) → Unary
+  suspend : (s : Name) → Unary
+  loop : Unary
+  trap : (t : Name) → Unary
+
+pub data Binary : Type 0 where
+  present : (s : Name) → Binary  -- then, else
+  sequence : Binary
+  parallel : Binary
+
+pub data Tree : Type 0 where
+  leaf : (l : Leaf) → Tree
+  one : (u : Unary) (p : Tree) → Tree
+  two : (b : Binary) (p q : Tree) → Tree
+
+-- the levels of nesting: how many statements stand around each other. A sequence is none, since it is written flat
+abbrev pub over : Binary → ℕ → ℕ
+over (present s) l = suc l
+over sequence l = l
+over parallel l = suc l
+
+abbrev pub levels : Tree → ℕ
+levels (leaf l) = 0
+levels (one u p) = suc (levels p)
+levels (two b p q) = over b (max (levels p) (levels q))

@@ -1,0 +1,505 @@
+// The readers of a text: statement, sequence and bracket readers that call each other, the text that is left falling. What they
+// read they write on a sheet (crates/sheet), node by node. Neither an exit without its trap nor too many signals or nodes stop
+// them, since a text outside the grammar is refused first.
+ghost use mathlib.Core.Path.{_≡_};
+ghost use mathlib.Core.List.{List, [], _∷_};
+ghost use Prim.Native.Nat.{ℕ, _+_, _-_, _*_, _<_, _≤_};
+ghost use lib.ListN.{length};
+ghost use Rattle.grammar.specs.Limits.{maxLevels};
+ghost use Rattle.grammar.specs.Tokens as G;
+ghost use Rattle.grammar.specs.Tree.{Name, Leaf};
+ghost use Rattle.grammar.specs.Machine.{Frame, branch, thenBranch, suspended, alone, expect, wantName, anEmit, anExit, aSignal, aTrap, aPresent};
+ghost use Rattle.grammar.specs.Progress.{Progress, leafDone, trapsWithin, pastOpen};
+ghost use Rattle.sheet.specs.Sheet.{part, Part, Filled, Adds};
+ghost use Rattle.scan.specs.Scanning.{Lacks};
+ghost use Rattle.reader.specs.Reading.{OpenedFrom, LeafOf, FrameOf, Room, Ready, WholeIs, endOf, StatementRead, SequenceRead, RestRead, Plain, PlainEnd};
+ghost use Rattle.reader.specs.declared.Form as F;
+ghost use Rattle.reader.specs.declared.Form.the-variants as FV;
+use scan::Called;
+use scan::Mark;
+use scan::Opening;
+use scan::Past;
+use scan::Token;
+
+// What an open statement goes on with: branches of a bracket, a body up to `end`, a then branch, an else branch alone, a body up
+// to `when`.
+pub enum Form {
+    Bracket,
+    Body,
+    Then,
+    Else,
+    Suspend,
+}
+
+// The beginning of a statement: all of one without children, or one that is open. Both with the kind of its node and the places
+// of its name, which are the same where it has none so far.
+pub enum Opened {
+    Whole {
+        kind: u16,
+        start: usize,
+        stop: usize,
+        end: usize,
+    },
+    Inside {
+        form: Form,
+        kind: u16,
+        start: usize,
+        stop: usize,
+        end: usize,
+    },
+    Unopened,
+}
+
+// What a reader found: where it ended and how many nodes are written then; or that no text of the grammar goes on so, unless by
+// more levels than a text within the length has.
+pub enum Found {
+    Read { end: usize, nodes: usize },
+    Unread,
+}
+
+// After `emit` or `exit`.
+fn open_leaf(text: &[u8], at: usize, kind: u16) -> Opened
+    requires { ⌜ at ≤ length (now text) ⌝ }
+    ensures { λ r. ⌜ (kind ≡ 3 → OpenedFrom (wantName anEmit) (now (text .entry)) at r) × (kind ≡ 4 → OpenedFrom (wantName anExit) (now (text .entry)) at r) ⌝ }
+{
+    let Called::Named { start, stop } = scan::next_name(text, at) else {
+        return Opened::Unopened;
+    };
+    Opened::Whole {
+        kind,
+        start,
+        stop,
+        end: stop,
+    }
+}
+
+// After `signal` or `trap`.
+fn open_body(text: &[u8], at: usize, kind: u16) -> Opened
+    requires { ⌜ at ≤ length (now text) ⌝ }
+    ensures { λ r. ⌜ (kind ≡ 5 → OpenedFrom (wantName aSignal) (now (text .entry)) at r) × (kind ≡ 11 → OpenedFrom (wantName aTrap) (now (text .entry)) at r) ⌝ }
+{
+    let Called::Named { start, stop } = scan::next_name(text, at) else {
+        return Opened::Unopened;
+    };
+    let Past::At(end) = scan::past_mark(text, stop, Mark::In) else {
+        return Opened::Unopened;
+    };
+    Opened::Inside {
+        form: Form::Body,
+        kind,
+        start,
+        stop,
+        end,
+    }
+}
+
+// After `present`.
+fn open_present(text: &[u8], at: usize) -> Opened
+    requires { ⌜ at ≤ length (now text) ⌝ }
+    ensures { λ r. ⌜ OpenedFrom (wantName aPresent) (now (text .entry)) at r ⌝ }
+{
+    let Called::Named { start, stop } = scan::next_name(text, at) else {
+        return Opened::Unopened;
+    };
+    if let Past::At(end) = scan::past_mark(text, stop, Mark::Then) {
+        return Opened::Inside {
+            form: Form::Then,
+            kind: 6,
+            start,
+            stop,
+            end,
+        };
+    }
+    let Past::At(end) = scan::past_mark(text, stop, Mark::Else) else {
+        return Opened::Unopened;
+    };
+    Opened::Inside {
+        form: Form::Else,
+        kind: 6,
+        start,
+        stop,
+        end,
+    }
+}
+
+// The beginning of a statement.
+fn open(text: &[u8], at: usize) -> Opened
+    requires { ⌜ at ≤ length (now text) ⌝ }
+    ensures { λ r. ⌜ OpenedFrom expect (now (text .entry)) at r ⌝ }
+{
+    let scanned = scan::next(text, at);
+    let token = scanned.token;
+    let end = scanned.end;
+    let Token::Opens(opening) = token else {
+        return Opened::Unopened;
+    };
+    match opening {
+        Opening::Nothing => Opened::Whole {
+            kind: 1,
+            start: end,
+            stop: end,
+            end,
+        },
+        Opening::Pause => Opened::Whole {
+            kind: 2,
+            start: end,
+            stop: end,
+            end,
+        },
+        Opening::Emit => open_leaf(text, end, 3),
+        Opening::Exit => open_leaf(text, end, 4),
+        Opening::Signal => open_body(text, end, 5),
+        Opening::Trap => open_body(text, end, 11),
+        Opening::Loop => Opened::Inside {
+            form: Form::Body,
+            kind: 8,
+            start: end,
+            stop: end,
+            end,
+        },
+        Opening::Present => open_present(text, end),
+        Opening::Suspend => Opened::Inside {
+            form: Form::Suspend,
+            kind: 7,
+            start: end,
+            stop: end,
+            end,
+        },
+        Opening::Bracket => Opened::Inside {
+            form: Form::Bracket,
+            kind: 10,
+            start: end,
+            stop: end,
+            end,
+        },
+    }
+}
+
+// The node of a statement without children.
+fn put_leaf(
+    text: &[u8],
+    kind: u16,
+    start: usize,
+    stop: usize,
+    nodes: usize,
+    sheet: &mut [u16; sheet::ROOM],
+) -> usize
+    requires { ⌜ nodes ≤ 40000 ⌝ }
+    ensures { λ r. ⌜ (r ≡ nodes + 1) × ((l : Leaf) → LeafOf kind (part (now (text .entry)) start stop) l → Part (now (text .entry)) start stop → Adds (now (text .entry)) (now (sheet .entry)) nodes (now (sheet .exit)) r (λ ts g. leafDone ts l g)) ⌝ }
+{
+    if kind == 3 {
+        sheet::note(text, sheet, start, stop);
+        return sheet::put_named(text, sheet, nodes, 3, start, stop);
+    }
+    if kind == 4 {
+        return sheet::put_exit(text, sheet, nodes, start, stop);
+    }
+    sheet::put(sheet, nodes, kind, 0)
+}
+
+// What a beginning that is a whole statement, or none, comes to.
+fn read_whole(text: &[u8], opened: Opened, nodes: usize, sheet: &mut [u16; sheet::ROOM]) -> Found
+    requires { ⌜ nodes ≤ 40000 ⌝ }
+    ensures { λ r. ⌜ WholeIs (now (text .entry)) (now (sheet .entry)) nodes (now (sheet .exit)) opened r ⌝ }
+{
+    let Opened::Whole {
+        kind,
+        start,
+        stop,
+        end,
+    } = opened
+    else {
+        return Found::Unread;
+    };
+    let nodes = put_leaf(text, kind, start, stop, nodes, sheet);
+    Found::Read { end, nodes }
+}
+
+// What is done before a body: a signal is noted, a trap comes around it.
+fn enter_body(text: &[u8], kind: u16, start: usize, stop: usize, sheet: &mut [u16; sheet::ROOM])
+    ensures { λ _. ⌜ ((n : ℕ) (f : Frame) → FrameOf FV.Body kind (part (now (text .entry)) start stop) f → Part (now (text .entry)) start stop → (ts : List Name) (g : Progress) → length ts < maxLevels → Filled (now (text .entry)) (now (sheet .entry)) n ts g → Filled (now (text .entry)) (now (sheet .exit)) n (trapsWithin f ts) (pastOpen ts f g)) ⌝ }
+{
+    if kind == 5 {
+        sheet::note(text, sheet, start, stop);
+        return;
+    }
+    if kind == 11 {
+        sheet::enter_trap(sheet, start, stop);
+        return;
+    }
+}
+
+// What is done before the first sequence of an open statement. The then branch of a present that has only an else branch is
+// written before it.
+fn enter(
+    text: &[u8],
+    form: Form,
+    kind: u16,
+    start: usize,
+    stop: usize,
+    nodes: usize,
+    sheet: &mut [u16; sheet::ROOM],
+) -> usize
+    requires { ⌜ nodes ≤ 40000 ⌝ }
+    ensures { λ r. ⌜ (nodes ≤ r) × (r ≤ nodes + 1) × ((f : Frame) → FrameOf form kind (part (now (text .entry)) start stop) f → Part (now (text .entry)) start stop → (ts : List Name) (g : Progress) → length ts < maxLevels → Filled (now (text .entry)) (now (sheet .entry)) nodes ts g → Filled (now (text .entry)) (now (sheet .exit)) r (trapsWithin f ts) (pastOpen ts f g)) ⌝ }
+{
+    match form {
+        Form::Else => {
+            sheet::note(text, sheet, start, stop);
+            sheet::put(sheet, nodes, 1, 0)
+        }
+        Form::Then => {
+            sheet::note(text, sheet, start, stop);
+            nodes
+        }
+        Form::Body => {
+            enter_body(text, kind, start, stop, sheet);
+            nodes
+        }
+        _ => nodes,
+    }
+}
+
+// The node of a body, or of an only else branch, that ended.
+fn put_end(
+    text: &[u8],
+    kind: u16,
+    start: usize,
+    stop: usize,
+    nodes: usize,
+    sheet: &mut [u16; sheet::ROOM],
+) -> usize
+    requires { ⌜ nodes ≤ 40000 ⌝ }
+    ensures { λ r. ⌜ (r ≡ nodes + 1) × ((form : F.Form) (f : Frame) → FrameOf form kind (part (now (text .entry)) start stop) f → PlainEnd form → Part (now (text .entry)) start stop → (ts : List Name) (g : Progress) → Filled (now (text .entry)) (now (sheet .entry)) nodes (trapsWithin f ts) g → Filled (now (text .entry)) (now (sheet .exit)) r ts (endOf f g)) ⌝ }
+{
+    if kind == 8 {
+        return sheet::put(sheet, nodes, 8, 0);
+    }
+    if kind == 11 {
+        sheet::leave_trap(sheet);
+        return sheet::put(sheet, nodes, 11, 0);
+    }
+    sheet::put_named(text, sheet, nodes, kind, start, stop)
+}
+
+// The end of a body, or of an only else branch.
+fn close_end(
+    text: &[u8],
+    kind: u16,
+    start: usize,
+    stop: usize,
+    at: usize,
+    nodes: usize,
+    sheet: &mut [u16; sheet::ROOM],
+) -> Found
+    requires { ⌜ Ready (now text) at nodes ⌝ }
+    ensures { λ r. ⌜ ((depth : ℕ) (form : F.Form) (f : Frame) → FrameOf form kind (part (now (text .entry)) start stop) f → PlainEnd form → Part (now (text .entry)) start stop → RestRead f (now (text .entry)) at depth (now (sheet .entry)) nodes (now (sheet .exit)) r) ⌝ }
+{
+    let Past::At(end) = scan::past_mark(text, at, Mark::End) else {
+        return Found::Unread;
+    };
+    let nodes = put_end(text, kind, start, stop, nodes, sheet);
+    Found::Read { end, nodes }
+}
+
+// The end of a suspend, whose name comes last.
+fn close_when(text: &[u8], at: usize, nodes: usize, sheet: &mut [u16; sheet::ROOM]) -> Found
+    requires { ⌜ Ready (now text) at nodes ⌝ }
+    ensures { λ r. ⌜ ((depth : ℕ) → RestRead suspended (now (text .entry)) at depth (now (sheet .entry)) nodes (now (sheet .exit)) r) ⌝ }
+{
+    let Past::At(named) = scan::past_mark(text, at, Mark::When) else {
+        return Found::Unread;
+    };
+    let Called::Named { start, stop } = scan::next_name(text, named) else {
+        return Found::Unread;
+    };
+    sheet::note(text, sheet, start, stop);
+    let nodes = sheet::put_named(text, sheet, nodes, 7, start, stop);
+    Found::Read { end: stop, nodes }
+}
+
+// The end of a statement that has one sequence, and its node.
+fn close(
+    text: &[u8],
+    form: Form,
+    kind: u16,
+    start: usize,
+    stop: usize,
+    at: usize,
+    nodes: usize,
+    sheet: &mut [u16; sheet::ROOM],
+) -> Found
+    requires { ⌜ Ready (now text) at nodes × Plain form ⌝ }
+    ensures { λ r. ⌜ ((depth : ℕ) (f : Frame) → FrameOf form kind (part (now (text .entry)) start stop) f → Part (now (text .entry)) start stop → RestRead f (now (text .entry)) at depth (now (sheet .entry)) nodes (now (sheet .exit)) r) ⌝ }
+{
+    match form {
+        Form::Suspend => close_when(text, at, nodes, sheet),
+        _ => close_end(text, kind, start, stop, at, nodes, sheet),
+    }
+}
+
+// The end of a present that has no else branch.
+fn close_then(
+    text: &[u8],
+    at: usize,
+    start: usize,
+    stop: usize,
+    nodes: usize,
+    sheet: &mut [u16; sheet::ROOM],
+) -> Found
+    requires { ⌜ Ready (now text) at nodes × Lacks (now text) at (G.mark G.else) × Part (now text) start stop ⌝ }
+    ensures { λ r. ⌜ ((depth : ℕ) → RestRead (thenBranch (part (now (text .entry)) start stop)) (now (text .entry)) at depth (now (sheet .entry)) nodes (now (sheet .exit)) r) ⌝ }
+{
+    let Past::At(end) = scan::past_mark(text, at, Mark::End) else {
+        return Found::Unread;
+    };
+    let missing = sheet::put(sheet, nodes, 1, 0);
+    let nodes = sheet::put_named(text, sheet, missing, 6, start, stop);
+    Found::Read { end, nodes }
+}
+
+// The statement at a place, with at most `depth` levels in it, after so many nodes.
+fn read_statement(
+    text: &[u8],
+    at: usize,
+    depth: usize,
+    nodes: usize,
+    sheet: &mut [u16; sheet::ROOM],
+) -> Found
+    requires { ⌜ Room (now text) at nodes ⌝ }
+    ensures { λ r. ⌜ StatementRead (now (text .entry)) at depth (now (sheet .entry)) nodes (now (sheet .exit)) r ⌝ }
+{
+    let opened = open(text, at);
+    let Opened::Inside {
+        form,
+        kind,
+        start,
+        stop,
+        end: inner,
+    } = opened
+    else {
+        return read_whole(text, opened, nodes, sheet);
+    };
+    if depth == 0 {
+        return Found::Unread;
+    }
+    let begun = enter(text, form, kind, start, stop, nodes, sheet);
+    let body = read_sequence(text, inner, depth - 1, begun, sheet);
+    let Found::Read {
+        end: last,
+        nodes: inside,
+    } = body
+    else {
+        return Found::Unread;
+    };
+    match form {
+        Form::Bracket => read_bracket(text, last, depth - 1, inside, sheet),
+        Form::Then => read_else(text, last, start, stop, depth - 1, inside, sheet),
+        _ => close(text, form, kind, start, stop, last, inside, sheet),
+    }
+}
+
+// The sequence at a place: statements with semicolons between them, which group to the left.
+pub fn read_sequence(
+    text: &[u8],
+    at: usize,
+    depth: usize,
+    nodes: usize,
+    sheet: &mut [u16; sheet::ROOM],
+) -> Found
+    requires { ⌜ Room (now text) at nodes ⌝ }
+    ensures { λ r. ⌜ SequenceRead (now (text .entry)) at depth (now (sheet .entry)) nodes (now (sheet .exit)) r ⌝ }
+{
+    let first = read_statement(text, at, depth, nodes, sheet);
+    let Found::Read {
+        end: one,
+        nodes: single,
+    } = first
+    else {
+        return Found::Unread;
+    };
+    let mut end = one;
+    let mut total = single;
+    loop {
+        let Past::At(start) = scan::past_mark(text, end, Mark::Semicolon) else {
+            return Found::Read { end, nodes: total };
+        };
+        let found = read_statement(text, start, depth, total, sheet);
+        let Found::Read {
+            end: after,
+            nodes: more,
+        } = found
+        else {
+            return Found::Unread;
+        };
+        end = after;
+        total = sheet::put(sheet, more, 9, 0);
+    }
+}
+
+// The rest of a bracket after its first branch: at least one more, which group to the left.
+fn read_bracket(
+    text: &[u8],
+    at: usize,
+    depth: usize,
+    nodes: usize,
+    sheet: &mut [u16; sheet::ROOM],
+) -> Found
+    requires { ⌜ Ready (now text) at nodes ⌝ }
+    ensures { λ r. ⌜ RestRead (branch alone) (now (text .entry)) at depth (now (sheet .entry)) nodes (now (sheet .exit)) r ⌝ }
+{
+    let Past::At(first) = scan::past_mark(text, at, Mark::Bars) else {
+        return Found::Unread;
+    };
+    let mut start = first;
+    let mut total = nodes;
+    loop {
+        let branch = read_sequence(text, start, depth, total, sheet);
+        let Found::Read {
+            end: last,
+            nodes: inside,
+        } = branch
+        else {
+            return Found::Unread;
+        };
+        total = sheet::put(sheet, inside, 10, 0);
+        let Past::At(next) = scan::past_mark(text, last, Mark::Bars) else {
+            let Past::At(end) = scan::past_mark(text, last, Mark::Close) else {
+                return Found::Unread;
+            };
+            return Found::Read { end, nodes: total };
+        };
+        start = next;
+    }
+}
+
+// The rest of a present after its then branch.
+fn read_else(
+    text: &[u8],
+    at: usize,
+    start: usize,
+    stop: usize,
+    depth: usize,
+    nodes: usize,
+    sheet: &mut [u16; sheet::ROOM],
+) -> Found
+    requires { ⌜ Ready (now text) at nodes × Part (now text) start stop ⌝ }
+    ensures { λ r. ⌜ RestRead (thenBranch (part (now (text .entry)) start stop)) (now (text .entry)) at depth (now (sheet .entry)) nodes (now (sheet .exit)) r ⌝ }
+{
+    let Past::At(first) = scan::past_mark(text, at, Mark::Else) else {
+        return close_then(text, at, start, stop, nodes, sheet);
+    };
+    let branch = read_sequence(text, first, depth, nodes, sheet);
+    let Found::Read {
+        end: last,
+        nodes: inside,
+    } = branch
+    else {
+        return Found::Unread;
+    };
+    let Past::At(end) = scan::past_mark(text, last, Mark::End) else {
+        return Found::Unread;
+    };
+    let nodes = sheet::put_named(text, sheet, inside, 6, start, stop);
+    Found::Read { end, nodes }
+}

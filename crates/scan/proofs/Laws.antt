@@ -1,0 +1,203 @@
+-- How the tokens from a place on follow from the byte there.
+use mathlib.Core.Path.{_≡_, refl, sym, ap, _∙_}
+use mathlib.Core.Bool.{Bool, true, false, _&&_, _||_, cond}
+use mathlib.Core.List.{List, [], _∷_, _++_}
+use Prim.Native.Nat.{ℕ, suc, _+_, _≤_, _<_, _-_}
+use native.Mathlib.Numerals.{add-one}
+use native.Mathlib.Omega.{arith}
+use Prim.Native.Char.{code}
+use lib.Dec.{eqb, leb}
+use borrow.Author.Tests.{ne-eqb, eq-eqb, eqb-true}
+use lib.ListN.{length, take, drop, getD, length-drop}
+use lib.Seq.{drop-cons, take-suc, getD-drop}
+use Rattle.grammar.specs.Limits.{maxName}
+use Rattle.grammar.specs.Tokens as G
+use Rattle.grammar.specs.Tokens.{tokens, classOf, wordToken, sameBytes, Pending, none, word, firstBar, tokensAfter, meet, Class, isBlank, isInWord, isLetter, signOf, nameOr}
+use Rattle.scan.specs.declared.Token.{Token}
+use Rattle.scan.specs.declared.Token.the-variants.{Opens, Marks, Names, Stray, Finished}
+use Rattle.scan.specs.Scanning.{openingIs, markIs, tokenIs, rest, Skipped, Worded, ScannedAs}
+
+empty : (l : List ℕ) → length l ≡ 0 → l ≡ []
+empty [] e = refl
+empty (b ∷ l) e = let z : _≡_ {A = ℕ} 0 1 = absurd (omega arith) in absurd (omega arith)
+
+pub drop-past : (x : List ℕ) (at : ℕ) → length x ≤ at → drop at x ≡ []
+drop-past x at h = empty (drop at x) (omega (arith, length-drop at x))
+
+pub rest-past : (x : List ℕ) (at : ℕ) → length x ≤ at → rest x at ≡ []
+unfolding rest tokens
+rest-past x at h = rw (drop-past x at h)
+
+-- a byte of a class, with something before it
+pub after-byte : (x : List ℕ) (at : ℕ) (s : Pending) (c : Class) → at < length x → classOf (getD x at 0) ≡ c → tokensAfter s (drop at x) ≡ meet c (getD x at 0) s (λ n. tokensAfter n (drop (at + 1) x))
+after-byte x at s c h e = rw (add-one, drop-cons x at 0 h, e)
+
+pub blank-step : (x : List ℕ) (at : ℕ) → at < length x → classOf (getD x at 0) ≡ G.blank → rest x at ≡ rest x (at + 1)
+unfolding rest tokens
+blank-step x at h e = after-byte x at none G.blank h e
+
+pub sign-step : (x : List ℕ) (at : ℕ) (t : G.Token) → at < length x → classOf (getD x at 0) ≡ G.sign t → rest x at ≡ t ∷ rest x (at + 1)
+unfolding rest tokens
+sign-step x at t h e = after-byte x at none (G.sign t) h e
+
+-- a bar, by what follows it
+bar-met : (c : Class) (b : ℕ) (n : Pending → List G.Token) → (c ≡ G.bar → ⊥) → meet c b firstBar n ≡ G.stray ∷ meet c b none n
+bar-met G.inWord b n h = refl
+bar-met G.blank b n h = refl
+bar-met G.bar b n h = absurd (h refl)
+bar-met (G.sign t) b n h = refl
+
+pub one-bar : (x : List ℕ) (at : ℕ) → at < length x → classOf (getD x at 0) ≡ G.bar → (at + 1 < length x → classOf (getD x (at + 1) 0) ≡ G.bar → ⊥) → rest x at ≡ G.stray ∷ rest x (at + 1)
+unfolding rest tokens
+one-bar x at h e g = after-byte x at none G.bar h e ∙ go (drop (at + 1) x) refl
+  where
+    go : (l : List ℕ) → drop (at + 1) x ≡ l → tokensAfter firstBar l ≡ G.stray ∷ tokensAfter none l
+    go [] f = refl
+    go (b ∷ l) f =
+        let n : length x - (at + 1) ≡ suc (length l) = sym (length-drop (at + 1) x) ∙ ap length f in
+        let i : at + 1 < length x = omega arith in
+        let j : _≡_ {A = List ℕ} (b ∷ l) (getD x (at + 1) 0 ∷ drop (suc (at + 1)) x) = sym f ∙ drop-cons x (at + 1) 0 i in
+        let k : b ≡ getD x (at + 1) 0 = cc in
+        bar-met (classOf b) b (λ m. tokensAfter m l) (λ o. g i (rw k at o))
+
+pub two-bars : (x : List ℕ) (at : ℕ) → at + 1 < length x → classOf (getD x at 0) ≡ G.bar → classOf (getD x (at + 1) 0) ≡ G.bar → rest x at ≡ G.mark G.bars ∷ rest x (at + 1 + 1)
+unfolding rest tokens
+two-bars x at h e g = after-byte x at none G.bar (omega arith) e ∙ after-byte x (at + 1) firstBar G.bar h g
+
+-- a word, by its bytes
+pub word-start : (x : List ℕ) (at : ℕ) → at < length x → classOf (getD x at 0) ≡ G.inWord → rest x at ≡ tokensAfter (word (take (at + 1 - at) (drop at x))) (drop (at + 1) x)
+unfolding rest tokens
+word-start x at h e =
+    let one : at + 1 - at ≡ 1 = omega arith in
+    let first : take 1 (drop at x) ≡ getD x at 0 ∷ [] = rw (drop-cons x at 0 h) in
+    rw (one, first) (after-byte x at none G.inWord h e)
+
+pub word-more : (x : List ℕ) (at i : ℕ) → at < i → i < length x → classOf (getD x i 0) ≡ G.inWord → tokensAfter (word (take (i - at) (drop at x))) (drop i x) ≡ tokensAfter (word (take (i + 1 - at) (drop at x))) (drop (i + 1) x)
+word-more x at i f h e =
+    let len : i - at < length (drop at x) = omega (arith, length-drop at x) in
+    let one : i + 1 - at ≡ suc (i - at) = omega arith in
+    let sum : at + (i - at) ≡ i = omega arith in
+    let byte : getD (drop at x) (i - at) 0 ≡ getD x i 0 = getD-drop at x (i - at) 0 ∙ ap (λ (k : ℕ). getD x k 0) sum in
+    let longer : take (i + 1 - at) (drop at x) ≡ take (i - at) (drop at x) ++ (getD x i 0 ∷ []) = rw (one, take-suc (drop at x) (i - at) 0 len, byte) in
+    rw longer (after-byte x i (word (take (i - at) (drop at x))) G.inWord h e)
+
+word-met : (c : Class) (b : ℕ) (w : List ℕ) (n : Pending → List G.Token) → (c ≡ G.inWord → ⊥) → meet c b (word w) n ≡ wordToken w ∷ meet c b none n
+word-met G.inWord b w n h = absurd (h refl)
+word-met G.blank b w n h = refl
+word-met G.bar b w n h = refl
+word-met (G.sign t) b w n h = refl
+
+pub word-stop : (x : List ℕ) (i : ℕ) (w : List ℕ) → i < length x → (classOf (getD x i 0) ≡ G.inWord → ⊥) → tokensAfter (word w) (drop i x) ≡ wordToken w ∷ rest x i
+unfolding rest tokens
+word-stop x i w h e = rw (drop-cons x i 0 h) (word-met (classOf (getD x i 0)) (getD x i 0) w (λ n. tokensAfter n (drop (suc i) x)) e)
+
+pub word-last : (x : List ℕ) (i : ℕ) (w : List ℕ) → length x ≤ i → tokensAfter (word w) (drop i x) ≡ wordToken w ∷ rest x i
+unfolding rest tokens
+word-last x i w h = rw (drop-past x i h)
+
+-- byte strings
+pub same-lengths : (a b : List ℕ) → (length a ≡ length b → ⊥) → sameBytes a b ≡ false
+same-lengths [] [] h = absurd (h refl)
+same-lengths [] (b ∷ v) h = refl
+same-lengths (a ∷ w) [] h = refl
+same-lengths (a ∷ w) (b ∷ v) h = rw (same-lengths w v (λ e. h (ap suc e))) (right-false (eqb a b))
+  where
+    right-false : (t : Bool) → (t && false) ≡ false
+    right-false true = refl
+    right-false false = refl
+
+pub bytes-differ : (a b : List ℕ) (i : ℕ) → i < length a → length a ≡ length b → (getD a i 0 ≡ getD b i 0 → ⊥) → sameBytes (drop i a) (drop i b) ≡ false
+bytes-differ a b i h l n = rw (drop-cons a i 0 h, drop-cons b i 0 (omega arith), ne-eqb (getD a i 0) (getD b i 0) n)
+
+pub bytes-agree : (a b : List ℕ) (i : ℕ) → i < length a → length a ≡ length b → getD a i 0 ≡ getD b i 0 → sameBytes (drop i a) (drop i b) ≡ sameBytes (drop (i + 1) a) (drop (i + 1) b)
+bytes-agree a b i h l e = rw (add-one, drop-cons a i 0 h, drop-cons b i 0 (omega arith), eq-eqb (getD a i 0) (getD b i 0) e)
+
+pub bytes-end : (a b : List ℕ) (i : ℕ) → length a ≤ i → length a ≡ length b → sameBytes (drop i a) (drop i b) ≡ true
+bytes-end a b i h l = rw (drop-past a i h, drop-past b i (omega arith))
+
+-- what the scanner's tests say of a byte's class
+pub word-class : (b : ℕ) → isInWord b ≡ true → classOf b ≡ G.inWord
+unfolding classOf
+word-class b e = rw e
+
+blank-outside : (b : ℕ) → isBlank b ≡ true → isInWord b ≡ false
+blank-outside b = go (eqb b (code " ")) refl (eqb b (code "\t")) refl (eqb b (code "\n")) refl
+  where
+    go : (p : Bool) → eqb b (code " ") ≡ p → (q : Bool) → eqb b (code "\t") ≡ q → (r : Bool) → eqb b (code "\n") ≡ r → (p || q || r) ≡ true → isInWord b ≡ false
+    go true e q f r g h = rw (eqb-true b (code " ") e)
+    go false e true f r g h = rw (eqb-true b (code "\t") f)
+    go false e false f true g h = rw (eqb-true b (code "\n") g)
+    go false e false f false g h = let z : _≡_ {A = ℕ} 0 1 = cc in absurd (omega arith)
+
+pub blank-class : (b : ℕ) → isBlank b ≡ true → classOf b ≡ G.blank
+unfolding classOf
+blank-class b e = rw (blank-outside b e, e)
+
+pub bar-class : (b : ℕ) → b ≡ code "|" → classOf b ≡ G.bar
+unfolding classOf
+bar-class b e = rw e
+
+pub sign-class : (b : ℕ) → isInWord b ≡ false → isBlank b ≡ false → (b ≡ code "|" → ⊥) → classOf b ≡ G.sign (signOf b)
+unfolding classOf
+sign-class b e f g = rw (e, f, ne-eqb b (code "|") g)
+
+pub not-word : (b : ℕ) → isInWord b ≡ false → classOf b ≡ G.inWord → ⊥
+unfolding classOf
+not-word b e = go (isInWord b) e (isBlank b) (eqb b (code "|"))
+  where
+    go : (p : Bool) → p ≡ false → (q r : Bool) → cond p G.inWord (cond q G.blank (cond r G.bar (G.sign (signOf b)))) ≡ G.inWord → ⊥
+    go true e q r h = let z : _≡_ {A = ℕ} 0 1 = cc in omega arith
+    go false e true r h = let z : _≡_ {A = ℕ} 0 1 = cc in omega arith
+    go false e false true h = let z : _≡_ {A = ℕ} 0 1 = cc in omega arith
+    go false e false false h = let z : _≡_ {A = ℕ} 0 1 = cc in omega arith
+
+pub class-bar : (b : ℕ) → classOf b ≡ G.bar → b ≡ code "|"
+unfolding classOf
+class-bar b e = eqb-true b (code "|") (go (isInWord b) (isBlank b) (eqb b (code "|")) e)
+  where
+    go : (p q r : Bool) → cond p G.inWord (cond q G.blank (cond r G.bar (G.sign (signOf b)))) ≡ G.bar → r ≡ true
+    go true q r e = let z : _≡_ {A = ℕ} 0 1 = cc in absurd (omega arith)
+    go false true r e = let z : _≡_ {A = ℕ} 0 1 = cc in absurd (omega arith)
+    go false false true e = refl
+    go false false false e = let z : _≡_ {A = ℕ} 0 1 = cc in absurd (omega arith)
+
+pub is-name : (w : List ℕ) (t : Bool) → 0 < length w → t ≡ isLetter (getD w 0 0) → (t && leb (length w) maxName) ≡ true → _≡_ {A = List G.Token} (G.name w ∷ []) (nameOr w ∷ [])
+is-name [] t h l e = absurd (omega arith)
+is-name (b ∷ w) t h l e = rw (← l, e)
+
+pub no-name : (w : List ℕ) (t : Bool) → 0 < length w → t ≡ isLetter (getD w 0 0) → (t && leb (length w) maxName) ≡ false → _≡_ {A = List G.Token} (G.stray ∷ []) (nameOr w ∷ [])
+no-name [] t h l e = absurd (omega arith)
+no-name (b ∷ w) t h l e = rw (← l, e)
+
+-- a token after blanks
+pub after-blanks : (x : List ℕ) (at start s e : ℕ) (t : Token) → Skipped x at start → ScannedAs x start s e t → ScannedAs x at s e t
+after-blanks x at start s e (Opens o) k l = record { from = omega (arith, k .from, l .from); to = l .to; moves = k .same ∙ l .moves }
+after-blanks x at start s e (Marks o) k l = record { from = omega (arith, k .from, l .from); to = l .to; moves = k .same ∙ l .moves }
+after-blanks x at start s e Names k l = record { lexed = record { from = omega (arith, k .from, l .lexed .from); to = l .lexed .to; moves = k .same ∙ l .lexed .moves }; ordered = l .ordered }
+after-blanks x at start s e Stray k l = record { from = omega (arith, k .from, l .from); to = l .to; moves = k .same ∙ l .moves }
+after-blanks x at start s e Finished k l = k .same ∙ l
+
+-- a word
+pub word-scanned : (x : List ℕ) (at e : ℕ) (t : Token) → Worded x at e → tokenIs t (take (e - at) (drop at x)) ≡ wordToken (take (e - at) (drop at x)) ∷ [] → ScannedAs x at at e t
+word-scanned x at e (Opens o) w h = record { from = w .from; to = w .to; moves = let f : G.opening (openingIs o) ≡ wordToken (take (e - at) (drop at x)) = cc in rw f (w .moves) }
+word-scanned x at e (Marks m) w h = record { from = w .from; to = w .to; moves = let f : G.mark (markIs m) ≡ wordToken (take (e - at) (drop at x)) = cc in rw f (w .moves) }
+word-scanned x at e Names w h = record { lexed = record { from = w .from; to = w .to; moves = let f : G.name (take (e - at) (drop at x)) ≡ wordToken (take (e - at) (drop at x)) = cc in rw f (w .moves) }; ordered = omega (arith, w .from) }
+word-scanned x at e Stray w h = record { from = w .from; to = w .to; moves = let f : G.stray ≡ wordToken (take (e - at) (drop at x)) = cc in rw f (w .moves) }
+word-scanned x at e Finished w h = let z : _≡_ {A = ℕ} 0 1 = cc in absurd (omega arith)
+
+-- a sign
+pub sign-scanned : (x : List ℕ) (at : ℕ) (t : Token) (u : G.Token) → at < length x → tokenIs t [] ≡ u ∷ [] → rest x at ≡ u ∷ rest x (at + 1) → (u ≡ G.name [] → ⊥) → ScannedAs x at at (at + 1) t
+sign-scanned x at (Opens o) u h e m n = record { from = omega arith; to = omega arith; moves = let f : G.opening (openingIs o) ≡ u = cc in rw f m }
+sign-scanned x at (Marks k) u h e m n = record { from = omega arith; to = omega arith; moves = let f : G.mark (markIs k) ≡ u = cc in rw f m }
+sign-scanned x at Names u h e m n = let f : G.name [] ≡ u = cc in absurd (n (sym f))
+sign-scanned x at Stray u h e m n = record { from = omega arith; to = omega arith; moves = let f : G.stray ≡ u = cc in rw f m }
+sign-scanned x at Finished u h e m n = let z : _≡_ {A = ℕ} 0 1 = cc in absurd (omega arith)
+
+pub no-name-sign : (b : ℕ) → signOf b ≡ G.name [] → ⊥
+no-name-sign b = go (eqb b (code ";")) (eqb b (code "[")) (eqb b (code "]"))
+  where
+    go : (p q r : Bool) → cond p (G.mark G.semicolon) (cond q (G.opening G.bracket) (cond r (G.mark G.close) G.stray)) ≡ G.name [] → ⊥
+    go true q r e = let z : _≡_ {A = ℕ} 0 1 = cc in omega arith
+    go false true r e = let z : _≡_ {A = ℕ} 0 1 = cc in omega arith
+    go false false true e = let z : _≡_ {A = ℕ} 0 1 = cc in omega arith
+    go false false false e = let z : _≡_ {A = ℕ} 0 1 = cc in omega arith

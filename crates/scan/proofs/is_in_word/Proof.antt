@@ -1,0 +1,13 @@
+-- `scan::is_in_word` meets its contract: the letters by `is_letter`.
+use borrow.Author.Needs.{needs}
+use Rattle.scan.proofs.is_in_word.Statement.{statement}
+use Rattle.scan.proofs.is_in_word.Tie as tie
+
+is-letter-requires : tie.Need-is-letter-requires
+is-letter-requires c κs = search needs
+
+returns : tie.Need-returns
+returns c = rw (c .is-letter .ensures)
+
+pub is-in-word-spec : {M : Type 1} → statement M
+is-in-word-spec = tie.close (tie.spec is-letter-requires returns)

@@ -1,0 +1,5 @@
+pub mod Bytes
+pub mod Parsing
+pub mod Settling
+pub mod Theorems
+pub mod Cut

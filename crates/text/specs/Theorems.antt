@@ -1,0 +1,51 @@
+-- What F-1 says of the call `read`, from its contract: the statements alone. The proofs are in proofs/Theorems.antt.
+use Prim.Native.Nat.{ℕ, _*_, _≤_, _<_}
+use mathlib.Core.Path.{_≡_}
+use mathlib.Core.Logic.{_↔_}
+use mathlib.Core.List.{List, _++_}
+use lib.ListN.{length, take, drop}
+use Rattle.esterel.specs.Limits.{maxNodes}
+use Rattle.esterel.specs.Statement.{size}
+use Rattle.esterel.specs.Table.{refused, postfix}
+use Rattle.esterel.specs.Checks.{verdict}
+use Rattle.grammar.specs.Limits.{maxText}
+use Rattle.grammar.specs.Tokens.{tokens}
+use Rattle.grammar.specs.Tree.{Tree}
+use Rattle.grammar.specs.Grammar.{Program}
+use Rattle.grammar.specs.Meaning.{signals, statementOf}
+use Rattle.grammar.specs.Theorems.{Refusal}
+use Rattle.sheet.specs.Sheet.{tableRoom}
+use Rattle.text.specs.Reading.{ReadAs}
+use Rattle.text.specs.declared.Reading.{Reading}
+use Rattle.text.specs.declared.Reading.the-variants.{Done, Refused}
+
+-- the table of a derivation's tree was written
+pub record Wrote (text old new : List ℕ) (nodes n : ℕ) : Type 0 where
+  pub tree : Tree
+  pub derivation : Program tree (tokens text)
+  pub nodesAre : nodes ≡ size (statementOf tree)
+  pub signalsAre : n ≡ length (signals tree)
+  pub content : new ≡ postfix (statementOf tree) ++ drop (2 * nodes) old
+  pub fits : nodes ≤ maxNodes
+  pub room : tableRoom ≤ length old
+
+-- the numbers of a refusal
+pub data Number : ℕ → ℕ → Type 0 where
+  shortTable : Number 3 0
+  ofText : {number node : ℕ} → Refusal number node → Number number node
+
+pub record OfRead : Type 0 where
+  -- the contract leaves nothing open
+  pub determined : (text old new new′ : List ℕ) (r r′ : Reading) → ReadAs text old new r → ReadAs text old new′ r′ → (new ≡ new′) × (r ≡ r′)
+  -- without a refusal the table written is that of the text's derivation, and the checker refuses it by 11 or not at all
+  pub done : (text old new : List ℕ) (nodes n : ℕ) → ReadAs text old new (Done nodes n) → Wrote text old new nodes n
+  pub onlyEleven :
+      (text old new : List ℕ) (nodes n number node : ℕ) →
+      ReadAs text old new (Done nodes n) → verdict (take (2 * nodes) new) ≡ refused number node → number ≡ 11
+  -- after a refusal the table is as it was
+  pub refused : (text old new : List ℕ) (number node : ℕ) → ReadAs text old new (Refused number node) → (new ≡ old) × Number number node × (node < maxNodes)
+  -- a text within the length is refused 14 exactly if the grammar has no derivation for it
+  pub fourteen :
+      (text old new : List ℕ) (r : Reading) →
+      tableRoom ≤ length old → length text ≤ maxText → ReadAs text old new r →
+      (r ≡ Refused 14 0) ↔ ((t : Tree) → Program t (tokens text) → ⊥)

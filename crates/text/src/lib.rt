@@ -1,0 +1,134 @@
+// Programs as text (F-1): the call `read`, which turns a text of kernel Esterel into a table.
+ghost use mathlib.Core.Path.{_≡_};
+ghost use mathlib.Core.List.{List, [], _++_};
+ghost use Prim.Native.Nat.{ℕ, _*_, _≤_};
+ghost use lib.ListN.{length, take, drop};
+ghost use Rattle.esterel.specs.Sets.{placesOf};
+ghost use Rattle.grammar.specs.Limits.{maxText};
+ghost use Rattle.grammar.specs.Tree.{Tree};
+ghost use Rattle.grammar.specs.Meaning.{signals, statementOf, verdictOfTree};
+ghost use Rattle.grammar.specs.Progress.{past, blank};
+ghost use Rattle.grammar.specs.Clipping.{lowBytes, clip};
+ghost use Rattle.table.specs.Check.{placesCheck};
+ghost use Rattle.sheet.specs.Sheet.{tableRoom, Filled};
+ghost use Rattle.text.specs.Reading.{ParsedAs, Sheet, Surveyable, Told, ReadAs, refusalOf};
+use reader::Found;
+use table::Check;
+
+pub enum Reading {
+    Done { nodes: usize, signals: usize },
+    Refused { number: u8, node: usize },
+}
+
+// Whether the text is in the grammar, and how many nodes its table has.
+enum Parsed {
+    Nodes(usize),
+    Unread,
+}
+
+fn wide(x: u16) -> usize
+    ensures { λ r. ⌜ r ≡ x ⌝ }
+{
+    x as usize
+}
+
+// Writes the text's program on a fresh sheet.
+fn parse(text: &[u8], sheet: &mut [u16; sheet::ROOM]) -> Parsed
+    requires { ⌜ length (now text) ≤ maxText ⌝ }
+    ensures { λ r. ⌜ ParsedAs (now (text .entry)) (now (sheet .entry)) (now (sheet .exit)) r ⌝ }
+{
+    let program = reader::read_sequence(text, 0, grammar::MAX_LEVELS, 0, sheet);
+    let Found::Read { end, nodes } = program else {
+        return Parsed::Unread;
+    };
+    if !scan::is_finished(text, end) {
+        return Parsed::Unread;
+    }
+    Parsed::Nodes(nodes)
+}
+
+// The table of a sheet as bytes. A level above 255 loses its upper bits, but then 8 or 9 refuses the program, whose fields
+// these checks do not look at.
+fn copy_table(sheet: &[u16], table: &mut [u8], end: usize)
+    requires { ⌜ (end ≤ length (now sheet)) × (end ≤ length (now table)) ⌝ }
+    ensures { λ _. ⌜ now (table .exit) ≡ take end (lowBytes (now (sheet .entry))) ++ drop end (now (table .entry)) ⌝ }
+{
+    let mut i: usize = 0;
+    while i < end {
+        table[i] = (sheet[i] % 256) as u8;
+        i += 1;
+    }
+}
+
+// Checks 8 and 9 of the program on a sheet, by way of a table of its own. Check 10 fails nowhere: each exit has its trap.
+fn check_nesting(sheet: &[u16; sheet::ROOM], end: usize) -> Check
+    requires { ⌜ Surveyable (now sheet) end ⌝ }
+    ensures { λ r. ⌜ ((x : List ℕ) (t : Tree) (n : ℕ) → end ≡ 2 * n → Filled x (now (sheet .entry)) n [] (past [] t blank) → r ≡ placesCheck (placesOf (clip (statementOf t))) 0) ⌝ }
+{
+    let mut table = [0u8; sheet::TABLE];
+    copy_table(sheet, &mut table, end);
+    let survey = table::survey_table(&table[..end]);
+    survey.check
+}
+
+fn refused(check: Check) -> Reading
+    ensures { λ r. ⌜ r ≡ refusalOf check ⌝ }
+{
+    match check {
+        Check::Passed => Reading::Refused { number: 0, node: 0 },
+        Check::Refused { number, node } => Reading::Refused { number, node },
+    }
+}
+
+// 15, 16, 1, 8 and 9 of a program on a sheet; then its table.
+fn settle(sheet: &[u16; sheet::ROOM], nodes: usize, table: &mut [u8]) -> Reading
+    requires { ⌜ Sheet (now sheet) nodes × (tableRoom ≤ length (now table)) ⌝ }
+    ensures { λ r. ⌜ ((x : List ℕ) (t : Tree) → Filled x (now (sheet .entry)) nodes [] (past [] t blank) → Told (verdictOfTree t) (length (signals t)) (now (table .entry)) (now (table .exit)) r) ⌝ }
+{
+    if wide(sheet[sheet::UNTRAPPED]) != 0 {
+        return Reading::Refused {
+            number: 15,
+            node: 0,
+        };
+    }
+    let signals = wide(sheet[sheet::SIGNAL_COUNT]);
+    if esterel::SIGNALS < signals {
+        return Reading::Refused {
+            number: 16,
+            node: 0,
+        };
+    }
+    if esterel::MAX_NODES < nodes {
+        return Reading::Refused { number: 1, node: 0 };
+    }
+    let check = check_nesting(sheet, 2 * nodes);
+    let Check::Passed = check else {
+        return refused(check);
+    };
+    copy_table(sheet, table, 2 * nodes);
+    Reading::Done { nodes, signals }
+}
+
+// The table of a text: 3, then 14, 15, 16, 1, 8 and 9. A refusal changes nothing.
+pub fn read(text: &[u8], table: &mut [u8]) -> Reading
+    ensures { λ r. ⌜ ReadAs (now (text .entry)) (now (table .entry)) (now (table .exit)) r ⌝ }
+{
+    if table.len() < sheet::TABLE {
+        return Reading::Refused { number: 3, node: 0 };
+    }
+    if grammar::MAX_TEXT < text.len() {
+        return Reading::Refused {
+            number: 14,
+            node: 0,
+        };
+    }
+    let mut sheet = [0u16; sheet::ROOM];
+    let parsed = parse(text, &mut sheet);
+    let Parsed::Nodes(nodes) = parsed else {
+        return Reading::Refused {
+            number: 14,
+            node: 0,
+        };
+    };
+    settle(&sheet, nodes, table)
+}

@@ -1,0 +1,63 @@
+// Reads many texts: standard input holds them one after the other, each as its length in two bytes, lowest first, and its
+// bytes. For each a line is written: `ok`, the nodes, the signals and the bytes of the table; or the refusal. The expected output
+// comes from another program (compare/).
+ghost use Prim.Native.Nat.{_≤_};
+use text::Reading;
+
+fn wide(x: u8) -> usize
+    ensures { λ r. ⌜ r ≤ 255 ⌝ }
+{
+    x as usize
+}
+
+// Writes a space and a number.
+fn write_number(n: usize) -> bool {
+    io::write_all(libc::STDOUT_FILENO, b" ") && io::print_decimal(libc::STDOUT_FILENO, n as u64)
+}
+
+fn write_bytes(bytes: &[u8]) -> bool {
+    let mut i: usize = 0;
+    while i < bytes.len() {
+        if !write_number(wide(bytes[i])) {
+            return false;
+        }
+        i += 1;
+    }
+    true
+}
+
+// Writes what a text is read as, and answers whether it was written.
+fn read_one(text: &[u8]) -> bool {
+    let mut table = [0u8; 2 * esterel::MAX_NODES];
+    let reading = text::read(text, &mut table);
+    match reading {
+        Reading::Done { nodes, signals } => io::write_all(libc::STDOUT_FILENO, b"ok")
+            && write_number(nodes)
+            && write_number(signals)
+            && write_bytes(&table[..2 * nodes])
+            && io::write_all(libc::STDOUT_FILENO, b"\n"),
+        Reading::Refused { number, node } => io::write_all(libc::STDOUT_FILENO, b"refused")
+            && write_number(wide(number))
+            && write_number(node)
+            && io::write_all(libc::STDOUT_FILENO, b"\n"),
+    }
+}
+
+// Reads the next text; false at the end of the input.
+fn read_next() -> bool {
+    let mut head = [0u8; 2];
+    if !input::read_full(&mut head) {
+        return false;
+    }
+    let length = wide(head[0]) + 256 * wide(head[1]);
+    let mut text = io::large_buffer();
+    input::read_full(&mut text[..length]) && read_one(&text[..length])
+}
+
+// A proved loop has to end, so the texts are counted down from more than there are.
+fn main() {
+    let mut left: usize = 65536;
+    while left > 0 && read_next() {
+        left -= 1;
+    }
+}

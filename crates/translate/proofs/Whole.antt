@@ -1,0 +1,45 @@
+-- What was read is translated as the whole input is.
+use Prim.Native.Nat.{ℕ, _*_, _≤_, _<_}
+use native.Mathlib.Omega.{arith}
+use mathlib.Core.Path.{_≡_, refl, ap}
+use mathlib.Core.Bool.{Bool, true, false, cond}
+use mathlib.Core.List.{List, _++_}
+use lib.Dec.{leb}
+use lib.ListN.{length, take, drop, length-append}
+use lib.Seq.{length-take-le, take-all}
+use Rattle.grammar.specs.Limits.{maxText}
+use Rattle.input.specs.Reads.{Reads}
+use Rattle.input.specs.declared.Input.the-variants.{Bytes}
+use Rattle.input.proofs.Reading.{same-size, within}
+use Rattle.listing.specs.Rendering.{Rendering}
+use Rattle.listing.specs.declared.Rendered.the-variants.{Whole, TooShort}
+use Rattle.text.specs.Reading.{ReadAs}
+use Rattle.text.specs.declared.Reading.{Reading}
+use Rattle.text.specs.declared.Reading.the-variants.{Done}
+use Rattle.text.proofs.Theorems.{of-read, written-long}
+use Rattle.text.proofs.Cut.{read-of-front}
+use Rattle.translate.specs.Translates.{ReadsInput}
+
+module _ {b b′ t t′ : List ℕ} where
+  pub whole : {read : ℕ} (r : Reading) → maxText < length b → Reads 0 b b′ (Bytes read) → ReadAs (take read b′) t t′ r → ReadsInput b b′ t t′ r
+  whole {read} r room reads o = record {
+    read = read;
+    reads = reads;
+    whole = λ input e. read-of-front (length b′) input (omega (arith, same-size reads)) t t′ r (rw (← e) at o);
+  }
+
+  -- the input may be what was read and no more, so the table lies within its buffer
+  pub table-within : (end nodes signals : ℕ) → end ≡ 2 * nodes → ReadsInput b b′ t t′ (Done nodes signals) → end ≤ length t′
+  table-within end nodes signals e x =
+      let n : length (take (x .read) b′) ≤ length b′ = omega (arith, length-take-le (x .read) b′ (within (x .reads)), within (x .reads)) in
+      let o = x .whole (take (x .read) b′) (take-all (length b′) (take (x .read) b′) n) in
+      let w = of-read .done (take (x .read) b′) t t′ nodes signals o in
+      omega (arith, written-long (take (x .read) b′) t t′ nodes signals w)
+
+-- a line that was written lies within its buffer
+pub line-within : (text old new : List ℕ) (n : ℕ) → Rendering text old new (Whole n) → n ≤ length new
+line-within text old new n o = go (leb (length text) (length old)) refl (o .answer) (o .content)
+  where
+    go : (b : Bool) → leb (length text) (length old) ≡ b → Whole n ≡ cond b (Whole (length text)) TooShort → new ≡ cond b (text ++ drop (length text) old) old → n ≤ length new
+    go true e f c = let z : n ≡ length text = cc in omega (arith, ap (λ (l : List ℕ). length l) c, length-append text (drop (length text) old))
+    go false e f c = let z : _≡_ {A = ℕ} 0 1 = cc in absurd (omega arith)
