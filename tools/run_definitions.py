@@ -1,18 +1,20 @@
 #!/usr/bin/env python3
 """Runs the theory's definitions on outside vectors and on edges of documents 01 and 02, and reports each difference.
 
-    python3 tools/run_definitions.py [--vectors DIR] [--listings N] [--instants N] [--seed S]
+    python3 tools/run_definitions.py [--vectors DIR] [--listings N] [--instants N] [--texts N] [--seed S]
 
 Each vector becomes a theorem `what the definitions give ≡ what is expected`, proved by refl, so that the checker has to
-compute the definitions. All is written to a temporary repository, which has copies of crates/codes and crates/esterel.
-The theorem listing17 is the vector in line 17 of the listings; edges are numbered as they stand below.
+compute the definitions. All is written to a temporary repository, which has copies of crates/codes, crates/esterel and
+crates/grammar. The theorem listing17 is the vector in line 17 of the listings; edges are numbered as they stand below.
+A text's derivation cannot be computed: its tree is the one that the machine of crates/grammar finds, of which it is proved
+that it finds exactly the derivations.
 """
 import argparse, collections, json, os, random, re, shutil, subprocess, sys, tempfile, time
 from pathlib import Path
 
 ROOT = Path(__file__).resolve().parent.parent
-COPIED = ("codes", "esterel")
-CRATES_TXT = "codes:\nesterel: codes\ncontrol: esterel codes\nvectors: esterel codes\n"
+COPIED = ("codes", "esterel", "grammar")
+CRATES_TXT = "codes:\nesterel: codes\ngrammar: esterel\ncontrol: grammar esterel codes\nvectors: grammar esterel codes\n"
 
 # ---- the theorems in antt
 
@@ -25,14 +27,19 @@ use mathlib.Core.List.{List, [], _∷_, _++_}
 use lib.ListN.{length, take, drop}
 use lib.Dec.{ltb}
 use Rattle.esterel.specs.Statement.{Stmt, size, loopDepth}
-use Rattle.esterel.specs.Table.{Verdict, passed, refused, checkLength}
+use Rattle.esterel.specs.Table.{Verdict, passed, refused, checkLength, postfix}
 use Rattle.esterel.specs.Checks.{verdict, listing, Line, planned}
 use Rattle.esterel.specs.Instant.{Mode, started, resumed, start, resume, admitted}
 use Rattle.esterel.specs.Outcome.{Outcome, done, needsAnswer, noRule, outcome}
+use Rattle.grammar.specs.Limits.{maxText}
+use Rattle.grammar.specs.Tokens.{tokens}
+use Rattle.grammar.specs.Meaning.{verdictOfTree}
+use Rattle.grammar.specs.Machine as M
 
 pub data Shown : Type 0 where
   ok : (n d planned : ℕ) (lines : List Line) → Shown
   ran : (code taken entries : ℕ) (state emissions : List ℕ) → Shown
+  written : (table : List ℕ) → Shown
   refusal : (number node : ℕ) → Shown
   withoutRule : Shown
 
@@ -61,6 +68,17 @@ instant resumed state answers (passed p) =
 abbrev pub call : Mode → (bytes state answers : List ℕ) → Shown
 call mode bytes state answers =
     instant mode state answers (checkLength bytes (cond (ltb (length state) (length bytes / 2)) (refused 3 0) (verdict bytes)))
+
+abbrev pub told : M.Outcome → Verdict
+told (M.accepted t) = verdictOfTree t
+told (M.stuck rest) = refused 14 0
+
+abbrev pub table : Verdict → Shown
+table (passed p) = written (postfix p)
+table (refused number node) = refusal number node
+
+abbrev pub readText : List ℕ → Shown
+readText text = table (cond (ltb maxText (length text)) (refused 14 0) (told (M.parse (tokens text))))
 """
 HEAD = """
 use mathlib.Core.Path.{_≡_, refl}
@@ -68,7 +86,8 @@ use mathlib.Core.List.{List, [], _∷_}
 use Rattle.esterel.specs.Codes.{word}
 use Rattle.esterel.specs.Checks.{verdict, line}
 use Rattle.esterel.specs.Instant.{started, resumed}
-use Rattle.CRATE.proofs.Calls.{shown, figures, call, ok, ran, refusal}
+use Rattle.grammar.specs.Tokens.{tokens, classOf}
+use Rattle.CRATE.proofs.Calls.{shown, figures, call, readText, ok, ran, written, refusal}
 """
 Theorem = collections.namedtuple("Theorem", "name left right")  # left: a call of the definitions; right: what is expected
 
@@ -110,6 +129,10 @@ def instant_theorem(at, vector):
         right = ran(vector["code"], vector["taken"], vector["entries"], bytes.fromhex(vector["after"]), vector["emits"])
     mode = {"start": "started", "resume": "resumed"}[vector["call"]]
     return Theorem(f"instant{at}", call(mode, table, state, answers), right)
+
+def text_theorem(at, vector):
+    right = refused(vector["refused"], vector["node"]) if "refused" in vector else "written " + a_list(bytes.fromhex(vector["table"]))
+    return Theorem(f"text{at}", f"readText {a_list(bytes.fromhex(vector['text']))}", right)
 
 def vectors(file, wanted, chance, theorem):
     numbered = list(enumerate(file.read_text().splitlines(), 1))
@@ -212,8 +235,24 @@ INSTANTS = [  # mode, table, state, answers
 def edge_theorems():
     edges = [(verdict(table, "figures"), refused(*key)) for key, tables in REFUSED.items() for table in tables]
     edges += [(verdict(table, "figures"), ok(*key)) for key, tables in ACCEPTED.items() for table in tables]
-    edges += [(verdict(table), right) for table, right in LISTINGS] + [(call(*lent), right) for *lent, right in INSTANTS]
+    edges += [(verdict(table), right) for table, right in LISTINGS] + [(call(*lent), right) for *lent, right in INSTANTS] + list(text_edges())
     return [Theorem(f"edge{at}", *edge) for at, edge in enumerate(edges, 1)]
+
+TEXTS = [  # what is expected was worked out by hand from F-1 of document 02
+    ("suspend pause;nothing when S", [2, 0, 1, 0, 9, 0, 7, 0]), ("suspend emit A when S", [3, 0, 7, 1]),
+    ("present S then emit A end", [3, 1, 1, 0, 6, 0]), ("present S else pause end", [1, 0, 2, 0, 6, 0]),
+    ("[pause||pause||nothing]", [2, 0, 2, 0, 10, 0, 1, 0, 10, 0]), ("pause;pause;nothing", [2, 0, 2, 0, 9, 0, 1, 0, 9, 0]),
+    ("trap T in trap U in trap T in [exit T||exit U] end end end", [4, 0, 4, 1, 10, 0, 11, 0, 11, 0, 11, 0]),
+    ("[pause]", 14), ("", 14), ("emit3", 14), ("[pause| |pause]", 14), ("pause\r", 14), ("suspend pause when S end", 14), ("exit T;[pause]", 14),
+    ("emit " + "a" * 32, [3, 0]), ("emit " + "a" * 33, 14), ("trap T in pause end;exit T", 15), ("exit T;" * 3 + "pause", 15),
+    (";".join(f"emit s{i}" for i in range(257)), 16), ("exit T;" + ";".join(f"emit s{i}" for i in range(257)), 15),
+]
+
+def text_edges():
+    for text, right in TEXTS:
+        yield f"readText {a_list(text.encode())}", refused(right, 0) if isinstance(right, int) else "written " + a_list(right)
+    flat = ";".join(["nothing"] * 257)  # the first statement is the deepest
+    yield f"readText {a_list(flat.encode())}", refused(8, 0)
 
 def control_theorems():
     """A true theorem, then false ones, each off in one place: the checker must refuse these, and these alone."""
@@ -222,6 +261,7 @@ def control_theorems():
     edges = [(verdict(W1), right) for right in rights]
     rights = [ran(1, 0, 5, [1, 0, 0, 0], [7]), ran(1, 0, 6, [1, 0, 0, 0], [8]), ran(1, 0, 6, [0] * 4, [7])]
     edges += [(call("resumed", W1, [1, 0, 0, 0], []), right) for right in rights]
+    edges += [(f"readText {a_list(b'emit A;pause')}", "written " + a_list(right)) for right in ([3, 0, 2, 0, 9, 0, 9, 0], [3, 1, 2, 0, 9, 0])]
     return [Theorem(f"control{at}", *edge) for at, edge in enumerate(edges)]
 
 # ---- the temporary repository
@@ -244,7 +284,7 @@ def write_crate(repo, name, theorems, a_file):
     texts = {"src/lib.rt": f"pub const THEOREMS: usize = {len(theorems)};\n", "proofs/Calls.antt": CALLS}
     texts["proofs/Lib.antt"] = "pub mod Calls\n" + "".join(f"pub mod Part{at}\n" for at in range(len(parts)))
     for at, part in enumerate(parts):
-        proofs = (f"\n{x.name} : {x.left} ≡ {x.right}\nunfolding word\n{x.name} = refl\n" for x in part)
+        proofs = (f"\n{x.name} : {x.left} ≡ {x.right}\nunfolding word tokens classOf\n{x.name} = refl\n" for x in part)
         texts[f"proofs/Part{at}.antt"] = HEAD.replace("CRATE", name) + "".join(proofs)
     for file, text in texts.items():
         (folder / file).parent.mkdir(parents=True, exist_ok=True)
@@ -280,13 +320,14 @@ def run(repo, args):
     chance = random.Random(args.seed)
     listings = vectors(args.vectors / "listing7_open.jsonl", args.listings, chance, listing_theorem)
     instants = vectors(args.vectors / "instants7_open.jsonl", args.instants, chance, instant_theorem)
+    texts = vectors(args.vectors / "text_open.jsonl", args.texts, chance, text_theorem)
     edges, controls = edge_theorems(), control_theorems()
-    theorems = {x.name: x for x in edges + listings + instants}
+    theorems = {x.name: x for x in edges + listings + instants + texts}
     copy_crates(repo, args.whole)
     write_crate(repo, "control", controls, 1)
     write_crate(repo, "vectors", list(theorems.values()), 250)
     (repo / "crates.txt").write_text(CRATES_TXT)
-    for what, some in (("listings", listings), ("instants", instants), ("edges", edges)):
+    for what, some in (("listings", listings), ("instants", instants), ("texts", texts), ("edges", edges)):
         tally(what, some)
 
     proved, refusals, said = check(repo, "control")
@@ -308,9 +349,10 @@ def main():
     parser.add_argument("--vectors", type=Path, default=ROOT / "../shared/vectors", metavar="DIR")
     parser.add_argument("--listings", type=int, metavar="N", help="how many, drawn by the seed (default: all)")
     parser.add_argument("--instants", type=int, metavar="N", help="likewise")
+    parser.add_argument("--texts", type=int, metavar="N", help="likewise")
     parser.add_argument("--seed", type=int, default=random.randrange(10**6), metavar="S")
     parser.add_argument("--keep", action="store_true", help="keep the temporary repository")
-    parser.add_argument("--whole", action="store_true", help="prove the two crates whole first; else their definitions and types alone are read")
+    parser.add_argument("--whole", action="store_true", help="prove the three crates whole first; else their definitions and types alone are read")
     args = parser.parse_args()
     print(f"seed {args.seed}")
     repo = Path(tempfile.mkdtemp(prefix="definitions-"))

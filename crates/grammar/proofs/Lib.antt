@@ -8,5 +8,8 @@ pub mod Stops
 pub mod Writing
 pub mod Clipping
 pub mod Order
+pub mod Spelling
+pub mod Printing
+pub mod Saying
 pub mod Theorems
 pub mod Examples

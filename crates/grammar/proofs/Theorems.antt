@@ -7,7 +7,7 @@ use Prim.Native.Nat.{ℕ, _+_, _*_, _≤_}
 use native.Mathlib.Omega.{arith}
 use lib.Dec.{ltb}
 use lib.ListN.{length}
-use borrow.Author.Tests.{lt-ltb, ltb-true, ltb-false}
+use borrow.Author.Tests.{lt-ltb, le-ltb, ltb-true, ltb-false}
 use Rattle.esterel.specs.Limits.{maxNodes, signals as maxSignals}
 use Rattle.esterel.specs.Statement.{Stmt, size}
 use Rattle.esterel.specs.Codes.{empty}
@@ -18,13 +18,17 @@ use Rattle.esterel.proofs.Reading.{length-postfix, reads-back}
 use Rattle.esterel.proofs.Accepted.{length-places}
 use Rattle.esterel.proofs.Refusals.{Below, first-below}
 use Rattle.grammar.specs.Limits.{maxText}
-use Rattle.grammar.specs.Tokens.{tokens}
-use Rattle.grammar.specs.Tree.{Tree}
+use Rattle.grammar.specs.Tokens.{Token, tokens}
+use Rattle.grammar.specs.Tree.{Tree, Name}
 use Rattle.grammar.specs.Grammar.{Program}
 use Rattle.grammar.specs.Machine.{Outcome, accepted, stuck, parse}
 use Rattle.grammar.specs.Clipping.{clip}
-use Rattle.grammar.specs.Meaning.{signals, untrapped, statementOf, checkNesting, verdictOfTree, VerdictOf, overlong, underivable, derived}
-use Rattle.grammar.specs.Theorems.{OneTree, Passes14, Refusal, exitUntrapped, outsideGrammar, manySignals, manyNodes, deepNode, manyTraps, OfTexts, Nesting}
+use Rattle.grammar.specs.Meaning.{signals, untrapped, resolve, statementOf, checkNesting, verdictOfTree, VerdictOf, overlong, underivable, derived}
+use Rattle.grammar.specs.Theorems.{OneTree, Passes14, Refusal, exitUntrapped, outsideGrammar, manySignals, manyNodes, deepNode, manyTraps, OfTexts, Nesting, RoundTrip, OnlySayable}
+use Rattle.grammar.specs.Printing.{named, print, spell, printed, metIn, Sayable}
+use Rattle.grammar.proofs.Spelling.{spelled, spellable, derivation}
+use Rattle.grammar.proofs.Printing.{nameList, long, signals-named, all-trapped, resolved}
+use Rattle.grammar.proofs.Saying.{flat, trapped, in-turn}
 use Rattle.grammar.proofs.Completeness.{complete, one-tree}
 use Rattle.grammar.proofs.Soundness.{sound}
 use Rattle.grammar.proofs.Stops.{refuses}
@@ -194,3 +198,45 @@ program-few text p n j = let d = of-derivation text (passed p) p n j refl in go 
     go : (b : Bool) → ltb maxNodes (size p) ≡ b → read (postfix p) ≡ passed p → size p ≤ maxNodes
     go true e f = not-passed (sym (readTable p true e) ∙ f)
     go false e f = ltb-false maxNodes (size p) e
+
+-- what is printed is read back
+module _ (p : Stmt) (h : Sayable p) (few : size p ≤ maxNodes) (low : metIn 0 p ≤ maxSignals) where
+  abbrev tree : Tree
+  tree = named 0 p
+
+  tree-signals : signals tree ≡ nameList (metIn 0 p)
+  tree-signals = signals-named 0 0 p (h .ordered) (omega arith)
+
+  tree-statement : statementOf tree ≡ p
+  tree-statement = ap (λ (ns : List Name). resolve ns [] tree) tree-signals ∙ resolved (metIn 0 p) (omega arith) 0 0 p (h .ordered) (omega arith) (h .trapped) (omega arith)
+
+  signals-met : length (signals tree) ≡ metIn 0 p
+  signals-met = ap (λ (ns : List Name). length ns) tree-signals ∙ long (metIn 0 p)
+
+  tree-verdict : verdictOfTree tree ≡ checkNesting (passed p)
+  tree-verdict =
+      let a : untrapped [] tree ≡ false = all-trapped 0 p (h .trapped) (omega arith) in
+      let b : ltb maxSignals (length (signals tree)) ≡ false = le-ltb maxSignals (length (signals tree)) (omega (arith, signals-met)) in
+      let c : read (postfix (statementOf tree)) ≡ passed p = ap (λ (q : Stmt). read (postfix q)) tree-statement ∙ reads-back p few in
+      rw (a, b, c)
+
+  back : length (printed p) ≤ maxText → VerdictOf (printed p) (checkNesting (passed p)) (metIn 0 p)
+  unfolding printed
+  back l =
+      let ts : List Token = print tree [] in
+      let e : tokens (spell ts) ≡ ts = spelled ts (spellable 0 p [] tt) in
+      let d : Program tree (tokens (spell ts)) = rw e (derivation 0 p (h .flat) [] .whole) in
+      rw (← tree-verdict, ← signals-met) (derived tree l d)
+
+pub round-trip : RoundTrip
+unfolding RoundTrip
+round-trip p h few low l = back p h few low l
+
+-- and only what can be said is read
+pub only-sayable : OnlySayable
+unfolding OnlySayable
+only-sayable text p n j =
+    let (t, d, h, e) = of-derivation text (passed p) p n j refl in
+    let o = in-turn (signals t) [] [] t (longer-same (signals t)) in
+    let q : Sayable (statementOf t) = record { flat = flat d (signals t) []; ordered = o .order; trapped = trapped (signals t) [] t (h .trapped) } in
+    (rw (h .is) q, rw (h .is) (e ∙ sym (o .count)))

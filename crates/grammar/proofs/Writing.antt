@@ -17,12 +17,12 @@ use Rattle.grammar.specs.Names.{place, has, see}
 use Rattle.grammar.specs.Meaning.{signalsFrom, signals, untrapped, resolve, statementOf}
 use Rattle.grammar.specs.Progress.{Progress, past, blank, note}
 
-same-name : (s : Name) → sameBytes s s ≡ true
+pub same-name : (s : Name) → sameBytes s s ≡ true
 same-name [] = refl
 same-name (b ∷ s) = rw (eq-eqb b b refl, same-name s)
 
 -- a name that is in a list keeps its place when the list grows
-place-in : (ns more : List Name) (s : Name) → place ns s < length ns → place (ns ++ more) s ≡ place ns s
+pub place-in : (ns more : List Name) (s : Name) → place ns s < length ns → place (ns ++ more) s ≡ place ns s
 place-in [] more s h = absurd (omega arith)
 place-in (n ∷ ns) more s h = go (sameBytes n s) refl (λ i. place-in ns more s i)
   where
@@ -30,7 +30,7 @@ place-in (n ∷ ns) more s h = go (sameBytes n s) refl (λ i. place-in ns more s
     go true e ih = rw e
     go false e ih = let g : place (n ∷ ns) s ≡ suc (place ns s) = rw e in rw e (ap suc (ih (omega arith)))
 
-place-end : (ns : List Name) (s : Name) → length ns ≤ place ns s → place (ns ++ (s ∷ [])) s ≡ length ns
+pub place-end : (ns : List Name) (s : Name) → length ns ≤ place ns s → place (ns ++ (s ∷ [])) s ≡ length ns
 place-end [] s h = rw (same-name s)
 place-end (n ∷ ns) s h = go (sameBytes n s) refl (λ i. place-end ns s i)
   where

@@ -5,6 +5,7 @@ pub mod Tree
 pub mod Grammar
 pub mod Names
 pub mod Meaning
+pub mod Printing
 pub mod Theorems
 pub mod Machine
 pub mod Progress

@@ -5,8 +5,8 @@ use mathlib.Core.Logic.{_↔_}
 use mathlib.Core.Bool.{Bool, true, false}
 use mathlib.Core.List.{List, [], _∷_}
 use lib.ListN.{length}
-use Rattle.esterel.specs.Limits.{maxNodes}
-use Rattle.esterel.specs.Statement.{Stmt}
+use Rattle.esterel.specs.Limits.{maxNodes, signals as maxSignals}
+use Rattle.esterel.specs.Statement.{Stmt, size}
 use Rattle.esterel.specs.Table.{Verdict, passed, refused, postfix}
 use Rattle.esterel.specs.Checks.{verdict}
 use Rattle.grammar.specs.Limits.{maxText, maxLevels}
@@ -14,7 +14,8 @@ use Rattle.grammar.specs.Tokens.{Token, opening, mark, name, stray, Open
 use Rattle.grammar.specs.Tree.{Tree, Name, levels}
 use Rattle.grammar.specs.Grammar.{Program}
 use Rattle.grammar.specs.Names.{see}
-use Rattle.grammar.specs.Meaning.{signals, statementOf, VerdictOf}
+use Rattle.grammar.specs.Meaning.{signals, statementOf, checkNesting, VerdictOf}
+use Rattle.grammar.specs.Printing.{printed, metIn, Sayable}
 
 -- At most one tree for a list of tokens: all derivations of a text give one table.
 unfoldable pub OneTree : Type 0
@@ -94,3 +95,13 @@ InOrder = (ts : List Token) (t : Tree) → Program t ts → signals t ≡ seeAll
 -- A text within the length has fewer than maxLevels levels, so that readers that go no deeper lose none.
 unfoldable pub Nesting : Type 0
 Nesting = (text : List ℕ) (t : Tree) → length text ≤ maxText → Program t (tokens text) → levels t < maxLevels
+
+-- Round trip: what is printed of a program that a text can say is read as that program, to which then only checks 8 and 9 are left.
+unfoldable pub RoundTrip : Type 0
+RoundTrip =
+    (p : Stmt) → Sayable p → size p ≤ maxNodes → metIn 0 p ≤ maxSignals → length (printed p) ≤ maxText →
+    VerdictOf (printed p) (checkNesting (passed p)) (metIn 0 p)
+
+-- And only such programs are read from texts.
+unfoldable pub OnlySayable : Type 0
+OnlySayable = (text : List ℕ) (p : Stmt) (n : ℕ) → VerdictOf text (passed p) n → Sayable p × (n ≡ metIn 0 p)
