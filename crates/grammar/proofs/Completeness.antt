@@ -4,7 +4,7 @@ use mathlib.Core.List.{List, _∷_}
 use Rattle.grammar.specs.Tokens.{Token, opening, mark, nothing, signal, trap, loop, bracket, bars, close}
 use Rattle.grammar.specs.Tree as T
 use Rattle.grammar.specs.Tree.{Tree, leaf, two}
-use Rattle.grammar.specs.Grammar.{What, statement, sequence, branches, Derives, a-nothing, a-pause, an-emit, an-exit, a-signal, a-trap, a-loop, a-suspend, a-then-else, a-then, an-else, a-bracket, a-single, a-sequence, a-pair, a-branch, Program}
+use Rattle.grammar.specs.Grammar.{Category, statement, sequence, branches, Derives, a-nothing, a-pause, an-emit, an-exit, a-signal, a-trap, a-loop, a-suspend, a-then-else, a-then, an-else, a-bracket, a-single, a-sequence, a-pair, a-branch, Program}
 use Rattle.grammar.specs.Machine.{Before, alone, after, join, Open, top, within, branch, body, thenBranch, elseBranch, suspended, expect, have, accepted, run, parse}
 
 -- branches that end in q, after those of l
@@ -14,7 +14,7 @@ pub record Branches (p : Tree) (ts r : List Token) : Type 0 where
   pub same : p ≡ two T.parallel left right
   pub moves : (b : Before) (k : Open) → run (expect alone (within (branch alone) b k)) ts ≡ run (have right (within (branch (after left)) b k)) r
 
-abbrev pub Reads : What → Tree → List Token → List Token → Type 0
+abbrev pub Reads : Category → Tree → List Token → List Token → Type 0
 Reads statement p ts r = (b : Before) (k : Open) → run (expect b k) ts ≡ run (have (join b p) k) r
 Reads sequence p ts r = (k : Open) → run (expect alone k) ts ≡ run (have p k) r
 Reads branches p ts r = Branches p ts r
@@ -33,7 +33,7 @@ more-branches {p = p} {q = q} {us = us} d e = record {
       ∙ e (within (branch (after p)) b k);
 }
 
-pub reads : {w : What} {p : Tree} {ts r : List Token} → Derives w p ts r → Reads w p ts r
+pub reads : {w : Category} {p : Tree} {ts r : List Token} → Derives w p ts r → Reads w p ts r
 reads a-nothing = λ b k. refl
 reads a-pause = λ b k. refl
 reads an-emit = λ b k. refl

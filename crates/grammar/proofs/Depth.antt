@@ -6,7 +6,7 @@ use Prim.Native.Nat.{ℕ, suc, _+_, _≤_, _<_, max}
 use native.Mathlib.Omega.{arith}
 use lib.ListN.{length}
 use Rattle.grammar.specs.Limits.{maxText, maxLevels}
-use Rattle.grammar.specs.Tokens.{Token, opening, mark, name, stray, Opening, Mark, nothing, pause, emit, exit, signal, trap, loop, present, suspend, bracket, semicolon, bars, close, in-word, then, else, end, when, tokens}
+use Rattle.grammar.specs.Tokens.{Token, opening, mark, name, stray, Opening, Mark, nothing, pause, emit, exit, signal, trap, loop, present, suspend, bracket, semicolon, bars, close, in-mark, then, else, end, when, tokens}
 use Rattle.grammar.specs.Tree as T
 use Rattle.grammar.specs.Tree.{Tree, Name, leaf, one, two, levels}
 use Rattle.grammar.specs.Machine.{Before, alone, after, join, beside, Open, top, within, Frame, branch, body, thenBranch, elseBranch, suspended, Wanting, anEmit, anExit, aSignal, aTrap, aPresent, aSuspend, State, expect, have, wantName, wantIn, wantBranch, Next, to, no-way, next, begin, named, goOn, atBars, atClose, atElse, atEnd, atWhen, atIn, atBranch, Outcome, accepted, stuck, finish, takeStep, run, parse, height}
@@ -139,7 +139,7 @@ go-on : (m : Mark) (p : Tree) (k : Open) → Higher (reach k (levels p)) (goOn m
 go-on semicolon p k = rises k _ _ (omega arith)
 go-on bars p k = bars-step p k
 go-on close p k = close-step p k
-go-on in-word p k = tt
+go-on in-mark p k = tt
 go-on then p k = tt
 go-on else p k = else-step p k
 go-on end p k = end-step p k
@@ -150,7 +150,7 @@ unfolding reach
 in-step semicolon u b k = tt
 in-step bars u b k = tt
 in-step close u b k = tt
-in-step in-word u b k = rises k _ _ (omega arith)
+in-step in-mark u b k = rises k _ _ (omega arith)
 in-step then u b k = tt
 in-step else u b k = tt
 in-step end u b k = tt
@@ -161,7 +161,7 @@ unfolding reach
 branch-step semicolon s b k = tt
 branch-step bars s b k = tt
 branch-step close s b k = tt
-branch-step in-word s b k = tt
+branch-step in-mark s b k = tt
 branch-step then s b k = rises k _ _ (omega arith)
 branch-step else s b k = rises k _ _ (omega arith)
 branch-step end s b k = tt

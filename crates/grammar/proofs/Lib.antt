@@ -1,5 +1,7 @@
+pub mod Runs
 pub mod Completeness
 pub mod Soundness
+pub mod Tracing
 pub mod Weights
 pub mod Nesting
 pub mod Weighing

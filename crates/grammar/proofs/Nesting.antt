@@ -4,10 +4,10 @@ use Prim.Native.Nat.{_+_, _*_, _≤_}
 use native.Mathlib.Omega.{arith}
 use Rattle.grammar.specs.Tokens.{Token}
 use Rattle.grammar.specs.Tree.{Tree, levels}
-use Rattle.grammar.specs.Grammar.{What, Derives, a-nothing, a-pause, an-emit, an-exit, a-signal, a-trap, a-loop, a-suspend, a-then-else, a-then, an-else, a-bracket, a-single, a-sequence, a-pair, a-branch}
+use Rattle.grammar.specs.Grammar.{Category, Derives, a-nothing, a-pause, an-emit, an-exit, a-signal, a-trap, a-loop, a-suspend, a-then-else, a-then, an-else, a-bracket, a-single, a-sequence, a-pair, a-branch}
 use Rattle.grammar.proofs.Weights.{weights}
 
-pub takes : {w : What} {p : Tree} {ts r : List Token} → Derives w p ts r → 7 * levels p + 5 + weights r ≤ weights ts
+pub takes : {w : Category} {p : Tree} {ts r : List Token} → Derives w p ts r → 7 * levels p + 5 + weights r ≤ weights ts
 takes a-nothing = omega arith
 takes a-pause = omega arith
 takes an-emit = omega arith

@@ -4,12 +4,12 @@ use mathlib.Core.Bool.{false}
 use mathlib.Core.List.{List, []}
 use Rattle.grammar.specs.Tokens.{Token}
 use Rattle.grammar.specs.Tree.{Tree, Name}
-use Rattle.grammar.specs.Grammar.{What, Derives, a-nothing, a-pause, an-emit, an-exit, a-signal, a-trap, a-loop, a-suspend, a-then-else, a-then, an-else, a-bracket, a-single, a-sequence, a-pair, a-branch}
+use Rattle.grammar.specs.Grammar.{Category, Derives, a-nothing, a-pause, an-emit, an-exit, a-signal, a-trap, a-loop, a-suspend, a-then-else, a-then, an-else, a-bracket, a-single, a-sequence, a-pair, a-branch}
 use Rattle.grammar.specs.Meaning.{signalsFrom}
 use Rattle.grammar.specs.Theorems.{signalNames, seeAll, InOrder}
 
 -- the names before a statement, then those from it on, are those of the statement, then those after it
-in-order : {w : What} {p : Tree} {ts r : List Token} → Derives w p ts r → (ns : List Name) → seeAll ns (signalNames false ts) ≡ seeAll (signalsFrom ns p) (signalNames false r)
+in-order : {w : Category} {p : Tree} {ts r : List Token} → Derives w p ts r → (ns : List Name) → seeAll ns (signalNames false ts) ≡ seeAll (signalsFrom ns p) (signalNames false r)
 in-order a-nothing ns = refl
 in-order a-pause ns = refl
 in-order an-emit ns = refl

@@ -10,19 +10,19 @@ use Rattle.esterel.specs.Statement.{Stmt}
 use Rattle.grammar.specs.Tokens.{Token}
 use Rattle.grammar.specs.Tree as T
 use Rattle.grammar.specs.Tree.{Tree, Name, leaf, one, two}
-use Rattle.grammar.specs.Grammar.{What, statement, sequence, branches, Derives, a-nothing, a-pause, an-emit, an-exit, a-signal, a-trap, a-loop, a-suspend, a-then-else, a-then, an-else, a-bracket, a-single, a-sequence, a-pair, a-branch}
+use Rattle.grammar.specs.Grammar.{Category, statement, sequence, branches, Derives, a-nothing, a-pause, an-emit, an-exit, a-signal, a-trap, a-loop, a-suspend, a-then-else, a-then, an-else, a-bracket, a-single, a-sequence, a-pair, a-branch}
 use Rattle.grammar.specs.Names.{place, has, see}
 use Rattle.grammar.specs.Meaning.{signalsFrom, untrapped, resolve}
 use Rattle.grammar.specs.Printing.{NoSequence, Flat, met, metIn, Ordered, Trapped}
 use Rattle.grammar.proofs.Writing.{place-end, Longer, longer-then, longer-signals, longer-see, place-kept}
 
 -- a statement is no sequence, so that the second of a sequence is none
-abbrev FlatAs : What → Stmt → Type 0
+abbrev FlatAs : Category → Stmt → Type 0
 FlatAs statement p = Flat p × NoSequence p
 FlatAs sequence p = Flat p
 FlatAs branches p = Flat p × NoSequence p
 
-pub flat : {w : What} {p : Tree} {ts r : List Token} → Derives w p ts r → (ns us : List Name) → FlatAs w (resolve ns us p)
+pub flat : {w : Category} {p : Tree} {ts r : List Token} → Derives w p ts r → (ns us : List Name) → FlatAs w (resolve ns us p)
 flat a-nothing ns us = (tt, tt)
 flat a-pause ns us = (tt, tt)
 flat an-emit ns us = (tt, tt)

@@ -1,9 +1,9 @@
--- What the machine has read is a beginning of a derivation, so what it accepts has one.
+-- Category the machine has read is a beginning of a derivation, so what it accepts has one.
 use mathlib.Core.Path.{_≡_, subst}
 use mathlib.Core.List.{List, [], _∷_}
 use Prim.Native.Nat.{ℕ}
 use native.Mathlib.Omega.{arith}
-use Rattle.grammar.specs.Tokens.{Token, opening, mark, name, stray, Opening, Mark, nothing, pause, emit, exit, signal, trap, loop, present, suspend, bracket, semicolon, bars, close, in-word, then, else, end, when}
+use Rattle.grammar.specs.Tokens.{Token, opening, mark, name, stray, Opening, Mark, nothing, pause, emit, exit, signal, trap, loop, present, suspend, bracket, semicolon, bars, close, in-mark, then, else, end, when}
 use Rattle.grammar.specs.Tree as T
 use Rattle.grammar.specs.Tree.{Tree, Name, leaf, one}
 use Rattle.grammar.specs.Grammar.{statement, sequence, branches, Derives, a-nothing, a-pause, an-emit, an-exit, a-signal, a-trap, a-loop, a-suspend, a-then-else, a-then, an-else, a-bracket, a-single, a-sequence, a-pair, a-branch, Program}
@@ -23,7 +23,7 @@ data Heads : Frame → List Token → List Token → Type 0 where
   first-branch : {r : List Token} → Heads (branch alone) (opening bracket ∷ r) r
   second-branch : {p : Tree} {ts r : List Token} → Derives sequence p ts (mark bars ∷ r) → Heads (branch (after p)) (opening bracket ∷ ts) r
   later-branch : {p : Tree} {ts r : List Token} → Derives branches p ts (mark bars ∷ r) → Heads (branch (after p)) (opening bracket ∷ ts) r
-  in-body : {u : T.Unary} {ts r : List Token} → Header u ts (mark in-word ∷ r) → Heads (body u) ts r
+  in-body : {u : T.Unary} {ts r : List Token} → Header u ts (mark in-mark ∷ r) → Heads (body u) ts r
   in-loop : {r : List Token} → Heads (body T.loop) (opening loop ∷ r) r
   in-then : {s : Name} {r : List Token} → Heads (thenBranch s) (opening present ∷ name s ∷ mark then ∷ r) r
   in-else : {s : Name} {p : Tree} {ts r : List Token} → Derives sequence p ts (mark else ∷ r) → Heads (elseBranch s p) (opening present ∷ name s ∷ mark then ∷ ts) r
@@ -112,7 +112,7 @@ else-step o s (in-else e) d = ends
 else-step o s only-else d = ends
 else-step o s in-suspend d = ends
 
-body-end : {p : Tree} {u : T.Unary} {ts us r : List Token} → Header u ts (mark in-word ∷ us) → Derives sequence p us (mark end ∷ r) → Derives statement (one u p) ts r
+body-end : {p : Tree} {u : T.Unary} {ts us r : List Token} → Header u ts (mark in-mark ∷ us) → Derives sequence p us (mark end ∷ r) → Derives statement (one u p) ts r
 body-end h-signal d = a-signal d
 body-end h-trap d = a-trap d
 
@@ -144,7 +144,7 @@ go-on bars outside d = ends
 go-on bars (inside o s h) d = bars-step o s h d
 go-on close outside d = ends
 go-on close (inside o s h) d = close-step o s h d
-go-on in-word o d = ends
+go-on in-mark o d = ends
 go-on then o d = ends
 go-on else outside d = ends
 go-on else (inside o s h) d = else-step o s h d
@@ -157,7 +157,7 @@ in-step : (m : Mark) {u : T.Unary} {b : Before} {k : Open} {ts us vs r : List To
 in-step semicolon o s h = ends
 in-step bars o s h = ends
 in-step close o s h = ends
-in-step in-word o s h = goes (expects (inside o s (in-body h)) start)
+in-step in-mark o s h = goes (expects (inside o s (in-body h)) start)
 in-step then o s h = ends
 in-step else o s h = ends
 in-step end o s h = ends
@@ -167,7 +167,7 @@ branch-step : (m : Mark) {n : Name} {b : Before} {k : Open} {ts us r : List Toke
 branch-step semicolon o s = ends
 branch-step bars o s = ends
 branch-step close o s = ends
-branch-step in-word o s = ends
+branch-step in-mark o s = ends
 branch-step then o s = goes (expects (inside o s in-then) start)
 branch-step else o s = goes (expects (inside o s only-else) start)
 branch-step end o s = ends

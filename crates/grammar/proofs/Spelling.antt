@@ -1,4 +1,4 @@
--- What is printed has the tokens that were meant, and they are a derivation's.
+-- Category is printed has the tokens that were meant, and they are a derivation's.
 use mathlib.Core.Path.{_≡_, refl, ap, _∙_}
 use mathlib.Core.Bool.{true}
 use mathlib.Core.List.{List, [], _∷_, _++_}
@@ -9,7 +9,7 @@ use borrow.Author.Tests.{le-leb}
 use Rattle.esterel.specs.Statement as S
 use Rattle.esterel.specs.Statement.{Stmt}
 use Rattle.grammar.specs.Ascii.{ascii}
-use Rattle.grammar.specs.Tokens.{Token, opening, mark, name, stray, Opening, Mark, nothing, pause, emit, exit, signal, trap, loop, present, suspend, bracket, semicolon, bars, close, in-word, then, else, end, when, tokens, isInWord, inWord, blank, classOf}
+use Rattle.grammar.specs.Tokens.{Token, opening, mark, name, stray, Opening, Mark, nothing, pause, emit, exit, signal, trap, loop, present, suspend, bracket, semicolon, bars, close, in-mark, then, else, end, when, tokens, isInWord, inWord, blank, classOf}
 use Rattle.grammar.specs.Grammar.{Derives, statement, sequence, a-nothing, a-pause, an-emit, an-exit, a-signal, a-trap, a-loop, a-suspend, a-then-else, a-bracket, a-single, a-sequence, a-pair}
 use Rattle.grammar.specs.Printing.{letter, nameOf, named, print, spellOpening, spellMark, spell, NoSequence, Flat}
 
@@ -51,7 +51,7 @@ unfolding tokens classOf
 mark-spelled semicolon rest = refl
 mark-spelled bars rest = refl
 mark-spelled close rest = refl
-mark-spelled in-word rest = refl
+mark-spelled in-mark rest = refl
 mark-spelled then rest = refl
 mark-spelled else rest = refl
 mark-spelled end rest = refl

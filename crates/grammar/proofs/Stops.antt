@@ -3,7 +3,7 @@ use mathlib.Core.Path.{_≡_, refl}
 use mathlib.Core.List.{List, [], _∷_}
 use Prim.Native.Nat.{ℕ}
 use native.Mathlib.Omega.{arith}
-use Rattle.grammar.specs.Tokens.{Token, opening, mark, name, stray, Opening, semicolon, bars, close, in-word, then, else, end, when}
+use Rattle.grammar.specs.Tokens.{Token, opening, mark, name, stray, Opening, semicolon, bars, close, in-mark, then, else, end, when}
 use Rattle.grammar.specs.Tree as T
 use Rattle.grammar.specs.Tree.{Tree, Name}
 use Rattle.grammar.specs.Machine.{Before, alone, after, Open, top, within, branch, body, thenBranch, elseBranch, suspended, Wanting, expect, have, wantName, wantIn, wantBranch, Outcome, accepted, stuck, run}
@@ -19,13 +19,13 @@ wants-name w b k (mark m ∷ ts) h = refl
 wants-name w b k (name n ∷ ts) h = absurd (h n ts refl)
 wants-name w b k (stray ∷ ts) h = refl
 
-pub wants-in : (u : T.Unary) (b : Before) (k : Open) (ts : List Token) → Without ts (mark in-word) → run (wantIn u b k) ts ≡ stuck ts
+pub wants-in : (u : T.Unary) (b : Before) (k : Open) (ts : List Token) → Without ts (mark in-mark) → run (wantIn u b k) ts ≡ stuck ts
 wants-in u b k [] h = refl
 wants-in u b k (opening o ∷ ts) h = refl
 wants-in u b k (mark semicolon ∷ ts) h = refl
 wants-in u b k (mark bars ∷ ts) h = refl
 wants-in u b k (mark close ∷ ts) h = refl
-wants-in u b k (mark in-word ∷ ts) h = absurd (h ts refl)
+wants-in u b k (mark in-mark ∷ ts) h = absurd (h ts refl)
 wants-in u b k (mark then ∷ ts) h = refl
 wants-in u b k (mark else ∷ ts) h = refl
 wants-in u b k (mark end ∷ ts) h = refl
@@ -39,7 +39,7 @@ wants-branch s b k (opening o ∷ ts) h i = refl
 wants-branch s b k (mark semicolon ∷ ts) h i = refl
 wants-branch s b k (mark bars ∷ ts) h i = refl
 wants-branch s b k (mark close ∷ ts) h i = refl
-wants-branch s b k (mark in-word ∷ ts) h i = refl
+wants-branch s b k (mark in-mark ∷ ts) h i = refl
 wants-branch s b k (mark then ∷ ts) h i = absurd (h ts refl)
 wants-branch s b k (mark else ∷ ts) h i = absurd (i ts refl)
 wants-branch s b k (mark end ∷ ts) h i = refl
@@ -55,7 +55,7 @@ module _ (p : Tree) (b : Before) (k : Open) where
   first-bars (mark semicolon ∷ ts) h i = absurd (h ts refl)
   first-bars (mark bars ∷ ts) h i = absurd (i ts refl)
   first-bars (mark close ∷ ts) h i = refl
-  first-bars (mark in-word ∷ ts) h i = refl
+  first-bars (mark in-mark ∷ ts) h i = refl
   first-bars (mark then ∷ ts) h i = refl
   first-bars (mark else ∷ ts) h i = refl
   first-bars (mark end ∷ ts) h i = refl
@@ -69,7 +69,7 @@ module _ (p : Tree) (b : Before) (k : Open) where
   bars-or-close l (mark semicolon ∷ ts) h i j = absurd (h ts refl)
   bars-or-close l (mark bars ∷ ts) h i j = absurd (i ts refl)
   bars-or-close l (mark close ∷ ts) h i j = absurd (j ts refl)
-  bars-or-close l (mark in-word ∷ ts) h i j = refl
+  bars-or-close l (mark in-mark ∷ ts) h i j = refl
   bars-or-close l (mark then ∷ ts) h i j = refl
   bars-or-close l (mark else ∷ ts) h i j = refl
   bars-or-close l (mark end ∷ ts) h i j = refl
@@ -83,7 +83,7 @@ module _ (p : Tree) (b : Before) (k : Open) where
   body-end u (mark semicolon ∷ ts) h i = absurd (h ts refl)
   body-end u (mark bars ∷ ts) h i = refl
   body-end u (mark close ∷ ts) h i = refl
-  body-end u (mark in-word ∷ ts) h i = refl
+  body-end u (mark in-mark ∷ ts) h i = refl
   body-end u (mark then ∷ ts) h i = refl
   body-end u (mark else ∷ ts) h i = refl
   body-end u (mark end ∷ ts) h i = absurd (i ts refl)
@@ -97,7 +97,7 @@ module _ (p : Tree) (b : Before) (k : Open) where
   else-end s q (mark semicolon ∷ ts) h i = absurd (h ts refl)
   else-end s q (mark bars ∷ ts) h i = refl
   else-end s q (mark close ∷ ts) h i = refl
-  else-end s q (mark in-word ∷ ts) h i = refl
+  else-end s q (mark in-mark ∷ ts) h i = refl
   else-end s q (mark then ∷ ts) h i = refl
   else-end s q (mark else ∷ ts) h i = refl
   else-end s q (mark end ∷ ts) h i = absurd (i ts refl)
@@ -111,7 +111,7 @@ module _ (p : Tree) (b : Before) (k : Open) where
   then-end s (mark semicolon ∷ ts) h i j = absurd (h ts refl)
   then-end s (mark bars ∷ ts) h i j = refl
   then-end s (mark close ∷ ts) h i j = refl
-  then-end s (mark in-word ∷ ts) h i j = refl
+  then-end s (mark in-mark ∷ ts) h i j = refl
   then-end s (mark then ∷ ts) h i j = refl
   then-end s (mark else ∷ ts) h i j = absurd (i ts refl)
   then-end s (mark end ∷ ts) h i j = absurd (j ts refl)
@@ -125,7 +125,7 @@ module _ (p : Tree) (b : Before) (k : Open) where
   suspend-when (mark semicolon ∷ ts) h i = absurd (h ts refl)
   suspend-when (mark bars ∷ ts) h i = refl
   suspend-when (mark close ∷ ts) h i = refl
-  suspend-when (mark in-word ∷ ts) h i = refl
+  suspend-when (mark in-mark ∷ ts) h i = refl
   suspend-when (mark then ∷ ts) h i = refl
   suspend-when (mark else ∷ ts) h i = refl
   suspend-when (mark end ∷ ts) h i = refl
@@ -138,7 +138,7 @@ top-end p (opening o) ts h = refl
 top-end p (mark semicolon) ts h = absurd (h ts refl)
 top-end p (mark bars) ts h = refl
 top-end p (mark close) ts h = refl
-top-end p (mark in-word) ts h = refl
+top-end p (mark in-mark) ts h = refl
 top-end p (mark then) ts h = refl
 top-end p (mark else) ts h = refl
 top-end p (mark end) ts h = refl

@@ -24,11 +24,12 @@ use Rattle.grammar.specs.Grammar.{Program}
 use Rattle.grammar.specs.Machine.{Outcome, accepted, stuck, parse}
 use Rattle.grammar.specs.Clipping.{clip}
 use Rattle.grammar.specs.Meaning.{signals, untrapped, resolve, statementOf, checkNesting, verdictOfTree, VerdictOf, overlong, underivable, derived}
-use Rattle.grammar.specs.Theorems.{OneTree, Passes14, Refusal, exitUntrapped, outsideGrammar, manySignals, manyNodes, deepNode, manyTraps, OfTexts, Nesting, RoundTrip, OnlySayable}
-use Rattle.grammar.specs.Printing.{named, print, spell, printed, metIn, Sayable}
+use Rattle.grammar.specs.Theorems.{OneDerivation, Passes14, Refusal, exitUntrapped, outsideGrammar, manySignals, manyNodes, deepNode, manyTraps, OfTexts, Nesting, RoundTrip, OnlyExpressible}
+use Rattle.grammar.specs.Printing.{named, print, spell, printed, metIn, Expressible}
 use Rattle.grammar.proofs.Spelling.{spelled, spellable, derivation}
 use Rattle.grammar.proofs.Printing.{nameList, long, signals-named, all-trapped, resolved}
 use Rattle.grammar.proofs.Saying.{flat, trapped, in-turn}
+use Rattle.grammar.proofs.Tracing.{top, traced}
 use Rattle.grammar.proofs.Completeness.{complete, one-tree}
 use Rattle.grammar.proofs.Soundness.{sound}
 use Rattle.grammar.proofs.Stops.{refuses}
@@ -36,9 +37,11 @@ use Rattle.grammar.proofs.Depth.{few-levels}
 use Rattle.grammar.proofs.Writing.{longer-same}
 use Rattle.grammar.proofs.Clipping.{none-first, first-none, caught, clip-same}
 
-pub one-tree-only : OneTree
-unfolding OneTree
-one-tree-only ts p q d e = one-tree p q ts d e
+pub one-derivation : OneDerivation
+one-derivation = record {
+  sameProductions = λ ts p q d e. sym (traced d top) ∙ traced e top;
+  sameTree = λ ts p q d e. one-tree p q ts d e;
+}
 
 pub nesting : Nesting
 unfolding Nesting
@@ -200,7 +203,7 @@ program-few text p n j = let d = of-derivation text (passed p) p n j refl in go 
     go false e f = ltb-false maxNodes (size p) e
 
 -- what is printed is read back
-module _ (p : Stmt) (h : Sayable p) (few : size p ≤ maxNodes) (low : metIn 0 p ≤ maxSignals) where
+module _ (p : Stmt) (h : Expressible p) (few : size p ≤ maxNodes) (low : metIn 0 p ≤ maxSignals) where
   abbrev tree : Tree
   tree = named 0 p
 
@@ -233,10 +236,10 @@ unfolding RoundTrip
 round-trip p h few low l = back p h few low l
 
 -- and only what can be said is read
-pub only-sayable : OnlySayable
-unfolding OnlySayable
-only-sayable text p n j =
+pub only-expressible : OnlyExpressible
+unfolding OnlyExpressible
+only-expressible text p n j =
     let (t, d, h, e) = of-derivation text (passed p) p n j refl in
     let o = in-turn (signals t) [] [] t (longer-same (signals t)) in
-    let q : Sayable (statementOf t) = record { flat = flat d (signals t) []; ordered = o .order; trapped = trapped (signals t) [] t (h .trapped) } in
+    let q : Expressible (statementOf t) = record { flat = flat d (signals t) []; ordered = o .order; trapped = trapped (signals t) [] t (h .trapped) } in
     (rw (h .is) q, rw (h .is) (e ∙ sym (o .count)))

@@ -1,7 +1,7 @@
--- What a token weighs: the bytes that it takes at least.
+-- Category a token weighs: the bytes that it takes at least.
 use Prim.Native.Nat.{ℕ, _+_}
 use mathlib.Core.List.{List, [], _∷_}
-use Rattle.grammar.specs.Tokens.{Token, opening, mark, name, stray, Opening, Mark, nothing, pause, emit, exit, signal, trap, loop, present, suspend, bracket, semicolon, bars, close, in-word, then, else, end, when}
+use Rattle.grammar.specs.Tokens.{Token, opening, mark, name, stray, Opening, Mark, nothing, pause, emit, exit, signal, trap, loop, present, suspend, bracket, semicolon, bars, close, in-mark, then, else, end, when}
 
 abbrev pub openingWeight : Opening → ℕ
 openingWeight nothing = 7
@@ -19,7 +19,7 @@ abbrev pub markWeight : Mark → ℕ
 markWeight semicolon = 1
 markWeight bars = 2
 markWeight close = 1
-markWeight in-word = 2
+markWeight in-mark = 2
 markWeight then = 4
 markWeight else = 4
 markWeight end = 3

@@ -1,4 +1,4 @@
--- A quoted text as its bytes, so that the words of the language and the worked examples stand here as they are written.
+-- A quoted text as its bytes, so that words of the language, and worked examples, stand as they are written.
 use Prim.Native.Nat.{ℕ}
 use Prim.Native.Char.{code}
 use Prim.Native.String.{String, [], _∷_}

@@ -11,24 +11,24 @@
 -- `Derives what p ts rest`: the tokens ts begin with a statement (a sequence, the branches of a bracket) whose tree is p, and rest are the tokens
 -- after it. Semicolons and double bars group to the left; a missing branch is nothing.
 use mathlib.Core.List.{List, [], _∷_}
-use Rattle.grammar.specs.Tokens.{Token, opening, mark, name, nothing, pause, emit, exit, signal, trap, loop, present, suspend, bracket, semicolon, bars, close, in-word, then, else, end, when}
+use Rattle.grammar.specs.Tokens.{Token, opening, mark, name, nothing, pause, emit, exit, signal, trap, loop, present, suspend, bracket, semicolon, bars, close, in-mark, then, else, end, when}
 use Rattle.grammar.specs.Tree as T
 use Rattle.grammar.specs.Tree.{Tree, Name, leaf, one, two}
 
-pub data What : Type 0 where
-  statement sequence branches : What
+pub data Category : Type 0 where
+  statement sequence branches : Category
 
-pub data Derives : What → Tree → List Token → List Token → Type 0 where
+pub data Derives : Category → Tree → List Token → List Token → Type 0 where
   a-nothing : {r : List Token} → Derives statement (leaf T.nothing) (opening nothing ∷ r) r
   a-pause : {r : List Token} → Derives statement (leaf T.pause) (opening pause ∷ r) r
   an-emit : {s : Name} {r : List Token} → Derives statement (leaf (T.emit s)) (opening emit ∷ name s ∷ r) r
   an-exit : {t : Name} {r : List Token} → Derives statement (leaf (T.exit t)) (opening exit ∷ name t ∷ r) r
   a-signal : {s : Name} {p : Tree} {ts r : List Token} →
       Derives sequence p ts (mark end ∷ r) →
-      Derives statement (one (T.signal s) p) (opening signal ∷ name s ∷ mark in-word ∷ ts) r
+      Derives statement (one (T.signal s) p) (opening signal ∷ name s ∷ mark in-mark ∷ ts) r
   a-trap : {t : Name} {p : Tree} {ts r : List Token} →
       Derives sequence p ts (mark end ∷ r) →
-      Derives statement (one (T.trap t) p) (opening trap ∷ name t ∷ mark in-word ∷ ts) r
+      Derives statement (one (T.trap t) p) (opening trap ∷ name t ∷ mark in-mark ∷ ts) r
   a-loop : {p : Tree} {ts r : List Token} →
       Derives sequence p ts (mark end ∷ r) →
       Derives statement (one T.loop p) (opening loop ∷ ts) r
@@ -63,3 +63,26 @@ pub data Derives : What → Tree → List Token → List Token → Type 0 where
 -- a program is a sequence that takes all tokens
 abbrev pub Program : Tree → List Token → Type 0
 Program p ts = Derives sequence p ts []
+
+-- The productions of a derivation, each after those of its parts, before further ones.
+pub data Production : Type 0 where
+  of-nothing of-pause of-emit of-exit of-signal of-trap of-loop of-suspend of-then-else of-then of-else of-bracket : Production
+  of-single of-sequence of-pair of-branch : Production
+
+abbrev pub productions : {what : Category} {p : Tree} {ts r : List Token} → Derives what p ts r → List Production → List Production
+productions a-nothing more = of-nothing ∷ more
+productions a-pause more = of-pause ∷ more
+productions an-emit more = of-emit ∷ more
+productions an-exit more = of-exit ∷ more
+productions (a-signal d) more = productions d (of-signal ∷ more)
+productions (a-trap d) more = productions d (of-trap ∷ more)
+productions (a-loop d) more = productions d (of-loop ∷ more)
+productions (a-suspend d) more = productions d (of-suspend ∷ more)
+productions (a-then-else d e) more = productions d (productions e (of-then-else ∷ more))
+productions (a-then d) more = productions d (of-then ∷ more)
+productions (an-else d) more = productions d (of-else ∷ more)
+productions (a-bracket d) more = productions d (of-bracket ∷ more)
+productions (a-single d) more = productions d (of-single ∷ more)
+productions (a-sequence d e) more = productions d (productions e (of-sequence ∷ more))
+productions (a-pair d e) more = productions d (productions e (of-pair ∷ more))
+productions (a-branch d e) more = productions d (productions e (of-branch ∷ more))

@@ -1,7 +1,8 @@
--- Reading token by token: what has been read so far is a state, and a token takes it to the next one or to none.
+-- Reading token by token: what has been read so far is a state, and a token takes it to the next one or to none. The readers' contracts speak of
+-- this machine, which is proved to accept exactly what the grammar derives; what a text means does not rest on it.
 use Prim.Native.Nat.{ℕ, suc}
 use mathlib.Core.List.{List, [], _∷_}
-use Rattle.grammar.specs.Tokens.{Token, opening, mark, name, stray, Opening, Mark, nothing, pause, emit, exit, signal, trap, loop, present, suspend, bracket, semicolon, bars, close, in-word, then, else, end, when}
+use Rattle.grammar.specs.Tokens.{Token, opening, mark, name, stray, Opening, Mark, nothing, pause, emit, exit, signal, trap, loop, present, suspend, bracket, semicolon, bars, close, in-mark, then, else, end, when}
 use Rattle.grammar.specs.Tree as T
 use Rattle.grammar.specs.Tree.{Tree, Name, leaf, one, two}
 
@@ -114,7 +115,7 @@ abbrev pub goOn : Mark → Tree → Open → Next
 goOn semicolon p k = to (expect (after p) k)
 goOn bars p k = atBars p k
 goOn close p k = atClose p k
-goOn in-word p k = no-way
+goOn in-mark p k = no-way
 goOn then p k = no-way
 goOn else p k = atElse p k
 goOn end p k = atEnd p k
@@ -124,7 +125,7 @@ abbrev pub atIn : Mark → T.Unary → Before → Open → Next
 atIn semicolon u b k = no-way
 atIn bars u b k = no-way
 atIn close u b k = no-way
-atIn in-word u b k = to (expect alone (within (body u) b k))
+atIn in-mark u b k = to (expect alone (within (body u) b k))
 atIn then u b k = no-way
 atIn else u b k = no-way
 atIn end u b k = no-way
@@ -134,7 +135,7 @@ abbrev pub atBranch : Mark → Name → Before → Open → Next
 atBranch semicolon s b k = no-way
 atBranch bars s b k = no-way
 atBranch close s b k = no-way
-atBranch in-word s b k = no-way
+atBranch in-mark s b k = no-way
 atBranch then s b k = to (expect alone (within (thenBranch s) b k))
 atBranch else s b k = to (expect alone (within (elseBranch s (leaf T.nothing)) b k))
 atBranch end s b k = no-way

@@ -1,4 +1,4 @@
--- A printer of programs as text, with names by number, and which programs a text can say.
+-- A printer of programs as text, with names by number, and which programs a text can express.
 use Prim.Native.Nat.{ℕ, suc, _+_, _-_, _/_, _%_, _≤_, _<_}
 use Prim.Native.Char.{code}
 use mathlib.Core.Bool.{cond}
@@ -7,14 +7,15 @@ use lib.Dec.{ltb}
 use Rattle.esterel.specs.Statement as S
 use Rattle.esterel.specs.Statement.{Stmt}
 use Rattle.grammar.specs.Ascii.{ascii}
-use Rattle.grammar.specs.Tokens.{Token, opening, mark, name, stray, Opening, Mark, nothing, pause, emit, exit, signal, trap, loop, present, suspend, bracket, semicolon, bars, close, in-word, then, else, end, when}
+use Rattle.grammar.specs.Tokens.{Token, opening, mark, name, stray, Opening, Mark, nothing, pause, emit, exit, signal, trap, loop, present, suspend, bracket, semicolon, bars, close, in-mark, then, else, end, when}
 use Rattle.grammar.specs.Tree as T
 use Rattle.grammar.specs.Tree.{Tree, Name, leaf, one, two}
 
--- the name of a number below 17,576: N and three letters
+-- a letter for the last digit of a number to the base 26
 abbrev pub letter : ℕ → ℕ
-letter d = 65 + d % 26
+letter d = code "A" + d % 26
 
+-- the name of a number, another one for each below 17,576: N and three letters
 abbrev pub nameOf : ℕ → Name
 nameOf n = code "N" ∷ letter (n / 26 / 26) ∷ letter (n / 26) ∷ letter n ∷ []
 
@@ -38,10 +39,10 @@ print (leaf T.nothing) r = opening nothing ∷ r
 print (leaf T.pause) r = opening pause ∷ r
 print (leaf (T.emit s)) r = opening emit ∷ name s ∷ r
 print (leaf (T.exit t)) r = opening exit ∷ name t ∷ r
-print (one (T.signal s) p) r = opening signal ∷ name s ∷ mark in-word ∷ print p (mark end ∷ r)
+print (one (T.signal s) p) r = opening signal ∷ name s ∷ mark in-mark ∷ print p (mark end ∷ r)
 print (one (T.suspend s) p) r = opening suspend ∷ print p (mark when ∷ name s ∷ r)
 print (one T.loop p) r = opening loop ∷ print p (mark end ∷ r)
-print (one (T.trap t) p) r = opening trap ∷ name t ∷ mark in-word ∷ print p (mark end ∷ r)
+print (one (T.trap t) p) r = opening trap ∷ name t ∷ mark in-mark ∷ print p (mark end ∷ r)
 print (two (T.present s) p q) r = opening present ∷ name s ∷ mark then ∷ print p (mark else ∷ print q (mark end ∷ r))
 print (two T.sequence p q) r = print p (mark semicolon ∷ print q r)
 print (two T.parallel p q) r = opening bracket ∷ print p (mark bars ∷ print q (mark close ∷ r))
@@ -63,7 +64,7 @@ abbrev pub spellMark : Mark → List ℕ
 spellMark semicolon = ascii "; "
 spellMark bars = ascii "|| "
 spellMark close = ascii "] "
-spellMark in-word = ascii "in "
+spellMark in-mark = ascii "in "
 spellMark then = ascii "then "
 spellMark else = ascii "else "
 spellMark end = ascii "end "
@@ -136,8 +137,8 @@ Trapped d (S.one S.loop p) = Trapped d p
 Trapped d (S.one S.trap p) = Trapped (suc d) p
 Trapped d (S.two b p q) = Trapped d p × Trapped d q
 
--- a program that a text can say
-pub record Sayable (p : Stmt) : Type 0 where
+-- a program that a text can express
+pub record Expressible (p : Stmt) : Type 0 where
   pub flat : Flat p
   pub ordered : Ordered 0 p
   pub trapped : Trapped 0 p

@@ -1,25 +1,51 @@
--- What is proved of the grammar and of what texts mean (F-1): the statements alone. The proofs are in proofs/.
+-- Category is proved of the grammar and of what texts mean (F-1): the statements alone. The proofs are in proofs/.
 use Prim.Native.Nat.{ℕ, _≤_, _<_}
 use mathlib.Core.Path.{_≡_}
 use mathlib.Core.Logic.{_↔_}
 use mathlib.Core.Bool.{Bool, true, false}
-use mathlib.Core.List.{List, [], _∷_}
+use Prim.Native.Char.{code}
+use mathlib.Core.List.{List, [], _∷_, _++_}
 use lib.ListN.{length}
 use Rattle.esterel.specs.Limits.{maxNodes, signals as maxSignals}
 use Rattle.esterel.specs.Statement.{Stmt, size}
 use Rattle.esterel.specs.Table.{Verdict, passed, refused, postfix}
 use Rattle.esterel.specs.Checks.{verdict}
 use Rattle.grammar.specs.Limits.{maxText, maxLevels}
-use Rattle.grammar.specs.Tokens.{Token, opening, mark, name, stray, Opening, Mark, nothing, pause, emit, exit, signal, trap, loop, present, suspend, bracket, semicolon, bars, close, in-word, then, else, end, when, tokens}
+use Rattle.grammar.specs.Ascii.{ascii}
+use Rattle.grammar.specs.Tokens.{Token, opening, mark, name, stray, Opening, Mark, nothing, pause, emit, exit, signal, trap, loop, present, suspend, bracket, semicolon, bars as barsMark, close, in-mark, then, else, end, when, tokens, isInWord, isBlank, wordToken, signOf}
 use Rattle.grammar.specs.Tree.{Tree, Name, levels}
-use Rattle.grammar.specs.Grammar.{Program}
+use Rattle.grammar.specs.Grammar.{Program, productions}
 use Rattle.grammar.specs.Names.{see}
 use Rattle.grammar.specs.Meaning.{signals, statementOf, checkNesting, VerdictOf}
-use Rattle.grammar.specs.Printing.{printed, metIn, Sayable}
+use Rattle.grammar.specs.Printing.{printed, metIn, Expressible}
 
--- At most one tree for a list of tokens: all derivations of a text give one table.
-unfoldable pub OneTree : Type 0
-OneTree = (ts : List Token) (p q : Tree) → Program p ts → Program q ts → p ≡ q
+-- How bytes are taken together: an unbroken run of letters, digits and underscores is one word, blanks separate, two bars are a sign, and any other
+-- byte stands by itself. One of these holds of each text.
+abbrev pub AllInWord : List ℕ → Type 0
+AllInWord [] = Unit {0}
+AllInWord (b ∷ w) = (isInWord b ≡ true) × AllInWord w
+
+abbrev pub NoWordNext : List ℕ → Type 0
+NoWordNext [] = Unit {0}
+NoWordNext (b ∷ rest) = isInWord b ≡ false
+
+abbrev pub NoBarNext : List ℕ → Type 0
+NoBarNext [] = Unit {0}
+NoBarNext (b ∷ rest) = b ≡ code "|" → ⊥
+
+pub record InRuns : Type 0 where
+  pub none : tokens [] ≡ []
+  pub word : (b : ℕ) (w rest : List ℕ) → AllInWord (b ∷ w) → NoWordNext rest → tokens ((b ∷ w) ++ rest) ≡ wordToken (b ∷ w) ∷ tokens rest
+  pub blank : (b : ℕ) (rest : List ℕ) → isBlank b ≡ true → tokens (b ∷ rest) ≡ tokens rest
+  pub bars : (rest : List ℕ) → tokens (ascii "||" ++ rest) ≡ mark barsMark ∷ tokens rest
+  pub bar : (rest : List ℕ) → NoBarNext rest → tokens (ascii "|" ++ rest) ≡ stray ∷ tokens rest
+  pub sign : (b : ℕ) (rest : List ℕ) → isInWord b ≡ false → isBlank b ≡ false → (b ≡ code "|" → ⊥) → tokens (b ∷ rest) ≡ signOf b ∷ tokens rest
+
+-- At most one derivation for a list of tokens: two have the same productions in the same order, which make a derivation, since each production has
+-- a fixed number of parts and the names stand in the tokens; and the same tree. So all derivations of a text give one table.
+pub record OneDerivation : Type 0 where
+  pub sameProductions : (ts : List Token) (p q : Tree) (d : Program p ts) (e : Program q ts) → productions d [] ≡ productions e []
+  pub sameTree : (ts : List Token) (p q : Tree) → Program p ts → Program q ts → p ≡ q
 
 -- a text passes check 14
 abbrev pub Passes14 : List ℕ → Type 0
@@ -61,24 +87,18 @@ opensSignal bracket = false
 
 abbrev pub marksSignal : Mark → Bool
 marksSignal semicolon = false
-marksSignal bars = false
+marksSignal barsMark = false
 marksSignal close = false
-marksSignal in-word = false
+marksSignal in-mark = false
 marksSignal then = false
 marksSignal else = false
 marksSignal end = false
 marksSignal when = true
 
-abbrev pub namesSignal : Token → Bool
-namesSignal (opening o) = opensSignal o
-namesSignal (mark m) = marksSignal m
-namesSignal (name n) = false
-namesSignal stray = false
-
 abbrev pub signalNames : (isSignal : Bool) → List Token → List Name
 signalNames isSignal [] = []
-signalNames isSignal (opening o ∷ ts) = signalNames (namesSignal (opening o)) ts
-signalNames isSignal (mark m ∷ ts) = signalNames (namesSignal (mark m)) ts
+signalNames isSignal (opening o ∷ ts) = signalNames (opensSignal o) ts
+signalNames isSignal (mark m ∷ ts) = signalNames (marksSignal m) ts
 signalNames true (name n ∷ ts) = n ∷ signalNames false ts
 signalNames false (name n ∷ ts) = signalNames false ts
 signalNames isSignal (stray ∷ ts) = signalNames false ts
@@ -99,9 +119,9 @@ Nesting = (text : List ℕ) (t : Tree) → length text ≤ maxText → Program t
 -- Round trip: what is printed of a program that a text can say is read as that program, to which then only checks 8 and 9 are left.
 unfoldable pub RoundTrip : Type 0
 RoundTrip =
-    (p : Stmt) → Sayable p → size p ≤ maxNodes → metIn 0 p ≤ maxSignals → length (printed p) ≤ maxText →
+    (p : Stmt) → Expressible p → size p ≤ maxNodes → metIn 0 p ≤ maxSignals → length (printed p) ≤ maxText →
     VerdictOf (printed p) (checkNesting (passed p)) (metIn 0 p)
 
 -- And only such programs are read from texts.
-unfoldable pub OnlySayable : Type 0
-OnlySayable = (text : List ℕ) (p : Stmt) (n : ℕ) → VerdictOf text (passed p) n → Sayable p × (n ≡ metIn 0 p)
+unfoldable pub OnlyExpressible : Type 0
+OnlyExpressible = (text : List ℕ) (p : Stmt) (n : ℕ) → VerdictOf text (passed p) n → Expressible p × (n ≡ metIn 0 p)

@@ -14,7 +14,7 @@ pub data Opening : Type 0 where
 
 -- the words and signs that stand within a statement or between two
 pub data Mark : Type 0 where
-  semicolon bars close in-word then else end when : Mark
+  semicolon bars close in-mark then else end when : Mark
 
 pub data Token : Type 0 where
   opening : (o : Opening) → Token
@@ -42,7 +42,7 @@ openingWords =
 
 abbrev pub innerWords : List Word
 innerWords =
-    record { letters = ascii "in"; token = mark in-word } ∷
+    record { letters = ascii "in"; token = mark in-mark } ∷
     record { letters = ascii "then"; token = mark then } ∷
     record { letters = ascii "else"; token = mark else } ∷
     record { letters = ascii "end"; token = mark end } ∷

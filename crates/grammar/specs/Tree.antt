@@ -27,7 +27,8 @@ pub data Tree : Type 0 where
   one : (u : Unary) (p : Tree) → Tree
   two : (b : Binary) (p q : Tree) → Tree
 
--- the levels of nesting: how many statements stand around each other. A sequence is none, since it is written flat
+-- the levels of nesting: how many statements but sequences stand around each other in the tree. A bracket of m branches has m - 1 of them, while a
+-- reader goes one level deep for it; so the readers never go deeper than this
 abbrev pub over : Binary → ℕ → ℕ
 over (present s) l = suc l
 over sequence l = l

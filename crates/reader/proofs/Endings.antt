@@ -1,7 +1,7 @@
 -- Before and after the sequences of an open statement.
 use mathlib.Core.Path.{_≡_, refl}
 use mathlib.Core.List.{List, [], _∷_}
-use Prim.Native.Nat.{ℕ, _+_, _<_}
+use Prim.Native.Nat.{ℕ, _+_, _<_, _≤_}
 use native.Mathlib.Omega.{arith}
 use lib.ListN.{length}
 use types.Run.{OneOf, miss}
@@ -14,7 +14,10 @@ use Rattle.grammar.specs.Tree.{Tree, Name, leaf, one, two}
 use Rattle.grammar.specs.Machine.{Before, alone, Open, within, Frame, branch, body, thenBranch, elseBranch, suspended, aSuspend, have, stuck, run}
 use Rattle.grammar.specs.Progress as P
 use Rattle.grammar.specs.Progress.{Progress, node, named, leafDone, trapsWithin, pastOpen}
+use Rattle.esterel.specs.Limits.{signals as maxSignals}
+use Rattle.grammar.specs.Names.{place, see}
 use Rattle.sheet.specs.Sheet.{part, Part, Filled, Adds}
+use Rattle.sheet.proofs.Sheets.{field-known}
 use Rattle.scan.specs.Scanning.{rest, Lexed, NameAt}
 use Rattle.scan.specs.Scanning.{Lacks}
 use Rattle.grammar.proofs.Stops.{wants-name, body-end, else-end, suspend-when, refuses}
@@ -43,10 +46,14 @@ module _ (x : List ℕ) (t : List ℕ) (n : ℕ) (start stop : ℕ) where
   abbrev s : Name
   s = part x start stop
 
-  pub leaf-emit : {t1 t2 : List ℕ} {m kind : ℕ} → kind ≡ 3 → ((k : ℕ) → Part x start stop → Adds x t k t1 k (λ ts g. P.note s g)) → (Part x start stop → Adds x t1 n t2 m (λ ts g. named 3 s g)) → (l : T.Leaf) → LeafOf kind s l → Part x start stop → Adds x t n t2 m (λ ts g. leafDone ts l g)
+  -- a signal is met, and then a node with its number is written
+  met-named : {t1 t2 : List ℕ} {m number : ℕ} (kind : ℕ) → ((k : ℕ) → Part x start stop → Adds x t k t1 k (λ ts g. P.note s g)) × ((k : ℕ) (ts : List Name) (g : Progress) → Part x start stop → Filled x t k ts g → length (see (g .seen) s) ≤ maxSignals → number ≡ place (see (g .seen) s) s) → Adds x t1 n t2 m (λ ts g. node kind number g) → Part x start stop → Adds x t n t2 m (λ ts g. named kind s (P.note s g))
+  met-named kind a b v ts g f = field-known x _ _ ts (P.note s g) kind _ _ (a .1 n ts g v f) (b ts (P.note s g) (a .0 n v ts g f))
+
+  pub leaf-emit : {t1 t2 : List ℕ} {m kind number : ℕ} → kind ≡ 3 → ((k : ℕ) → Part x start stop → Adds x t k t1 k (λ ts g. P.note s g)) × ((k : ℕ) (ts : List Name) (g : Progress) → Part x start stop → Filled x t k ts g → length (see (g .seen) s) ≤ maxSignals → number ≡ place (see (g .seen) s) s) → Adds x t1 n t2 m (λ ts g. node 3 number g) → (l : T.Leaf) → LeafOf kind s l → Part x start stop → Adds x t n t2 m (λ ts g. leafDone ts l g)
   leaf-emit e a b l (is-nothing r) v = absurd (omega arith)
   leaf-emit e a b l (is-pause r) v = absurd (omega arith)
-  leaf-emit e a b l (is-emit r) v = λ ts g f. b v ts (P.note s g) (a n v ts g f)
+  leaf-emit e a b l (is-emit r) v = met-named 3 a b v
   leaf-emit e a b l (is-exit r) v = absurd (omega arith)
 
   pub leaf-exit : {t1 : List ℕ} {m kind : ℕ} → kind ≡ 4 → (Part x start stop → Adds x t n t1 m (λ ts g. leafDone ts (T.exit s) g)) → (l : T.Leaf) → LeafOf kind s l → Part x start stop → Adds x t n t1 m (λ ts g. leafDone ts l g)
@@ -180,7 +187,7 @@ module _ (x : List ℕ) (at : ℕ) (stops : Lacks x at (mark G.semicolon)) (t : 
   when-unnamed {e = e} depth l h p b k q i =
       absurd (refuses {ts = rest x e} q (rw (l .moves) (wants-name (aSuspend p) b k (rest x e) (λ s. h s .first))) i)
 
-  pub when-named : {e start f : ℕ} (depth : ℕ) → Lexed x at e (mark G.when) → NameAt x e start f → (t1 : List ℕ) → ((k : ℕ) → Part x start f → Adds x t k t1 k (λ ts g. P.note (part x start f) g)) → (t2 : List ℕ) {m : ℕ} → m ≡ n + 1 → (Part x start f → Adds x t1 n t2 m (λ ts g. named 7 (part x start f) g)) → RestIs suspended x at depth t n t2 f m
+  pub when-named : {e start f : ℕ} (depth : ℕ) → Lexed x at e (mark G.when) → NameAt x e start f → (t1 : List ℕ) {number : ℕ} → ((k : ℕ) → Part x start f → Adds x t k t1 k (λ ts g. P.note (part x start f) g)) × ((k : ℕ) (ts : List Name) (g : Progress) → Part x start f → Filled x t k ts g → length (see (g .seen) (part x start f)) ≤ maxSignals → number ≡ place (see (g .seen) (part x start f)) (part x start f)) → (t2 : List ℕ) {m : ℕ} → m ≡ n + 1 → Adds x t1 n t2 m (λ ts g. node 7 number g) → RestIs suspended x at depth t n t2 f m
   when-named {start = start} {f = f} depth l d t1 a t2 z w =
       let v : Part x start f = record { order = d .ordered; within = d .lexed .to } in
       record {
@@ -190,7 +197,7 @@ module _ (x : List ℕ) (at : ℕ) (stops : Lacks x at (mark G.semicolon)) (t : 
         goes = λ p. record {
           tree = one (T.suspend (part x start f)) p;
           moves = λ b k. rw (l .moves, d .lexed .moves);
-          wrote = λ ts g h c. w v ts _ (a n v ts _ c);
+          wrote = λ ts g h c. met-named x t n start f 7 a w v ts _ c;
         };
       }
 

@@ -81,11 +81,11 @@ module _ {x : List ℕ} {at : ℕ} where
       moves = λ b k. rw (d .lexed .moves);
     }
 
-    pub in-missing : (w : Wanting) (u : Name → T.Unary) → ((n : Name) (b : Before) (k : Open) (ts : List G.Token) → run (wantName w b k) (name n ∷ ts) ≡ run (wantIn (u n) b k) ts) → Lacks x e (mark G.in-word) → NoWay (wantName w) x at
+    pub in-missing : (w : Wanting) (u : Name → T.Unary) → ((n : Name) (b : Before) (k : Open) (ts : List G.Token) → run (wantName w b k) (name n ∷ ts) ≡ run (wantIn (u n) b k) ts) → Lacks x e (mark G.in-mark) → NoWay (wantName w) x at
     in-missing w u m h =
         λ b k p. refuses {ts = rest x e} p (rw (d .lexed .moves) (m called b k (rest x e) ∙ wants-in (u called) b k (rest x e) (h .first)))
 
-    pub body-entered : {f : ℕ} (w : Wanting) (u : Name → T.Unary) → ((n : Name) (b : Before) (k : Open) (ts : List G.Token) → run (wantName w b k) (name n ∷ ts) ≡ run (wantIn (u n) b k) ts) → (kind : ℕ) → FrameOf Body kind called (body (u called)) → Lexed x e f (mark G.in-word) → Entered (wantName w) x at Body kind start e f
+    pub body-entered : {f : ℕ} (w : Wanting) (u : Name → T.Unary) → ((n : Name) (b : Before) (k : Open) (ts : List G.Token) → run (wantName w b k) (name n ∷ ts) ≡ run (wantIn (u n) b k) ts) → (kind : ℕ) → FrameOf Body kind called (body (u called)) → Lexed x e f (mark G.in-mark) → Entered (wantName w) x at Body kind start e f
     body-entered {f = f} w u m kind fit l = record {
       frame = body (u called);
       fits = fit;

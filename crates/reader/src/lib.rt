@@ -10,10 +10,11 @@ ghost use Rattle.grammar.specs.Tokens as G;
 ghost use Rattle.grammar.specs.Tree.{Name, Leaf};
 ghost use Rattle.grammar.specs.Machine.{Frame, branch, thenBranch, suspended, alone, expect, wantName, anEmit, anExit, aSignal, aTrap, aPresent};
 ghost use Rattle.grammar.specs.Progress.{Progress, leafDone, trapsWithin, pastOpen};
-ghost use Rattle.sheet.specs.Sheet.{part, Part, Filled, Adds};
+ghost use Rattle.sheet.specs.Sheet.{maxCounted, part, Part, Filled, Adds};
 ghost use Rattle.scan.specs.Scanning.{Lacks};
 ghost use Rattle.reader.specs.Reading.{OpenedFrom, LeafOf, FrameOf, Room, Ready, WholeIs, endOf, StatementRead, SequenceRead, RestRead, Plain, PlainEnd};
 ghost use Rattle.reader.specs.declared.Form as F;
+ghost use Rattle.reader.specs.declared.Opened.the-variants.{Whole, Inside};
 ghost use Rattle.reader.specs.declared.Form.the-variants as FV;
 use scan::Called;
 use scan::Mark;
@@ -104,7 +105,7 @@ fn open_present(text: &[u8], at: usize) -> Opened
     if let Past::At(end) = scan::past_mark(text, stop, Mark::Then) {
         return Opened::Inside {
             form: Form::Then,
-            kind: 6,
+            kind: sheet::PRESENT,
             start,
             stop,
             end,
@@ -115,9 +116,33 @@ fn open_present(text: &[u8], at: usize) -> Opened
     };
     Opened::Inside {
         form: Form::Else,
-        kind: 6,
+        kind: sheet::PRESENT,
         start,
         stop,
+        end,
+    }
+}
+
+// A beginning of one word or sign: a whole statement, or an open one.
+fn bare(kind: u16, end: usize) -> Opened
+    ensures { λ r. ⌜ r ≡ Whole kind end end end ⌝ }
+{
+    Opened::Whole {
+        kind,
+        start: end,
+        stop: end,
+        end,
+    }
+}
+
+fn bare_inside(form: Form, kind: u16, end: usize) -> Opened
+    ensures { λ r. ⌜ r ≡ Inside form kind end end end ⌝ }
+{
+    Opened::Inside {
+        form,
+        kind,
+        start: end,
+        stop: end,
         end,
     }
 }
@@ -134,44 +159,16 @@ fn open(text: &[u8], at: usize) -> Opened
         return Opened::Unopened;
     };
     match opening {
-        Opening::Nothing => Opened::Whole {
-            kind: 1,
-            start: end,
-            stop: end,
-            end,
-        },
-        Opening::Pause => Opened::Whole {
-            kind: 2,
-            start: end,
-            stop: end,
-            end,
-        },
-        Opening::Emit => open_leaf(text, end, 3),
-        Opening::Exit => open_leaf(text, end, 4),
-        Opening::Signal => open_body(text, end, 5),
-        Opening::Trap => open_body(text, end, 11),
-        Opening::Loop => Opened::Inside {
-            form: Form::Body,
-            kind: 8,
-            start: end,
-            stop: end,
-            end,
-        },
+        Opening::Nothing => bare(sheet::NOTHING, end),
+        Opening::Pause => bare(sheet::PAUSE, end),
+        Opening::Emit => open_leaf(text, end, sheet::EMIT),
+        Opening::Exit => open_leaf(text, end, sheet::EXIT),
+        Opening::Signal => open_body(text, end, sheet::SIGNAL),
+        Opening::Trap => open_body(text, end, sheet::TRAP),
+        Opening::Loop => bare_inside(Form::Body, sheet::LOOP, end),
         Opening::Present => open_present(text, end),
-        Opening::Suspend => Opened::Inside {
-            form: Form::Suspend,
-            kind: 7,
-            start: end,
-            stop: end,
-            end,
-        },
-        Opening::Bracket => Opened::Inside {
-            form: Form::Bracket,
-            kind: 10,
-            start: end,
-            stop: end,
-            end,
-        },
+        Opening::Suspend => bare_inside(Form::Suspend, sheet::SUSPEND, end),
+        Opening::Bracket => bare_inside(Form::Bracket, sheet::PARALLEL, end),
     }
 }
 
@@ -184,14 +181,14 @@ fn put_leaf(
     nodes: usize,
     sheet: &mut [u16; sheet::ROOM],
 ) -> usize
-    requires { ⌜ nodes ≤ 40000 ⌝ }
+    requires { ⌜ nodes ≤ maxCounted ⌝ }
     ensures { λ r. ⌜ (r ≡ nodes + 1) × ((l : Leaf) → LeafOf kind (part (now (text .entry)) start stop) l → Part (now (text .entry)) start stop → Adds (now (text .entry)) (now (sheet .entry)) nodes (now (sheet .exit)) r (λ ts g. leafDone ts l g)) ⌝ }
 {
-    if kind == 3 {
-        sheet::note(text, sheet, start, stop);
-        return sheet::put_named(text, sheet, nodes, 3, start, stop);
+    if kind == sheet::EMIT {
+        let number = sheet::note(text, sheet, start, stop);
+        return sheet::put(sheet, nodes, sheet::EMIT, number);
     }
-    if kind == 4 {
+    if kind == sheet::EXIT {
         return sheet::put_exit(text, sheet, nodes, start, stop);
     }
     sheet::put(sheet, nodes, kind, 0)
@@ -199,7 +196,7 @@ fn put_leaf(
 
 // What a beginning that is a whole statement, or none, comes to.
 fn read_whole(text: &[u8], opened: Opened, nodes: usize, sheet: &mut [u16; sheet::ROOM]) -> Found
-    requires { ⌜ nodes ≤ 40000 ⌝ }
+    requires { ⌜ nodes ≤ maxCounted ⌝ }
     ensures { λ r. ⌜ WholeIs (now (text .entry)) (now (sheet .entry)) nodes (now (sheet .exit)) opened r ⌝ }
 {
     let Opened::Whole {
@@ -219,11 +216,11 @@ fn read_whole(text: &[u8], opened: Opened, nodes: usize, sheet: &mut [u16; sheet
 fn enter_body(text: &[u8], kind: u16, start: usize, stop: usize, sheet: &mut [u16; sheet::ROOM])
     ensures { λ _. ⌜ ((n : ℕ) (f : Frame) → FrameOf FV.Body kind (part (now (text .entry)) start stop) f → Part (now (text .entry)) start stop → (ts : List Name) (g : Progress) → length ts < maxLevels → Filled (now (text .entry)) (now (sheet .entry)) n ts g → Filled (now (text .entry)) (now (sheet .exit)) n (trapsWithin f ts) (pastOpen ts f g)) ⌝ }
 {
-    if kind == 5 {
+    if kind == sheet::SIGNAL {
         sheet::note(text, sheet, start, stop);
         return;
     }
-    if kind == 11 {
+    if kind == sheet::TRAP {
         sheet::enter_trap(sheet, start, stop);
         return;
     }
@@ -240,13 +237,13 @@ fn enter(
     nodes: usize,
     sheet: &mut [u16; sheet::ROOM],
 ) -> usize
-    requires { ⌜ nodes ≤ 40000 ⌝ }
+    requires { ⌜ nodes ≤ maxCounted ⌝ }
     ensures { λ r. ⌜ (nodes ≤ r) × (r ≤ nodes + 1) × ((f : Frame) → FrameOf form kind (part (now (text .entry)) start stop) f → Part (now (text .entry)) start stop → (ts : List Name) (g : Progress) → length ts < maxLevels → Filled (now (text .entry)) (now (sheet .entry)) nodes ts g → Filled (now (text .entry)) (now (sheet .exit)) r (trapsWithin f ts) (pastOpen ts f g)) ⌝ }
 {
     match form {
         Form::Else => {
             sheet::note(text, sheet, start, stop);
-            sheet::put(sheet, nodes, 1, 0)
+            sheet::put(sheet, nodes, sheet::NOTHING, 0)
         }
         Form::Then => {
             sheet::note(text, sheet, start, stop);
@@ -269,15 +266,15 @@ fn put_end(
     nodes: usize,
     sheet: &mut [u16; sheet::ROOM],
 ) -> usize
-    requires { ⌜ nodes ≤ 40000 ⌝ }
+    requires { ⌜ nodes ≤ maxCounted ⌝ }
     ensures { λ r. ⌜ (r ≡ nodes + 1) × ((form : F.Form) (f : Frame) → FrameOf form kind (part (now (text .entry)) start stop) f → PlainEnd form → Part (now (text .entry)) start stop → (ts : List Name) (g : Progress) → Filled (now (text .entry)) (now (sheet .entry)) nodes (trapsWithin f ts) g → Filled (now (text .entry)) (now (sheet .exit)) r ts (endOf f g)) ⌝ }
 {
-    if kind == 8 {
-        return sheet::put(sheet, nodes, 8, 0);
+    if kind == sheet::LOOP {
+        return sheet::put(sheet, nodes, sheet::LOOP, 0);
     }
-    if kind == 11 {
+    if kind == sheet::TRAP {
         sheet::leave_trap(sheet);
-        return sheet::put(sheet, nodes, 11, 0);
+        return sheet::put(sheet, nodes, sheet::TRAP, 0);
     }
     sheet::put_named(text, sheet, nodes, kind, start, stop)
 }
@@ -313,8 +310,8 @@ fn close_when(text: &[u8], at: usize, nodes: usize, sheet: &mut [u16; sheet::ROO
     let Called::Named { start, stop } = scan::next_name(text, named) else {
         return Found::Unread;
     };
-    sheet::note(text, sheet, start, stop);
-    let nodes = sheet::put_named(text, sheet, nodes, 7, start, stop);
+    let number = sheet::note(text, sheet, start, stop);
+    let nodes = sheet::put(sheet, nodes, sheet::SUSPEND, number);
     Found::Read { end: stop, nodes }
 }
 
@@ -353,8 +350,8 @@ fn close_then(
     let Past::At(end) = scan::past_mark(text, at, Mark::End) else {
         return Found::Unread;
     };
-    let missing = sheet::put(sheet, nodes, 1, 0);
-    let nodes = sheet::put_named(text, sheet, missing, 6, start, stop);
+    let missing = sheet::put(sheet, nodes, sheet::NOTHING, 0);
+    let nodes = sheet::put_named(text, sheet, missing, sheet::PRESENT, start, stop);
     Found::Read { end, nodes }
 }
 
@@ -433,7 +430,7 @@ pub fn read_sequence(
             return Found::Unread;
         };
         end = after;
-        total = sheet::put(sheet, more, 9, 0);
+        total = sheet::put(sheet, more, sheet::SEQUENCE, 0);
     }
 }
 
@@ -462,7 +459,7 @@ fn read_bracket(
         else {
             return Found::Unread;
         };
-        total = sheet::put(sheet, inside, 10, 0);
+        total = sheet::put(sheet, inside, sheet::PARALLEL, 0);
         let Past::At(next) = scan::past_mark(text, last, Mark::Bars) else {
             let Past::At(end) = scan::past_mark(text, last, Mark::Close) else {
                 return Found::Unread;
@@ -500,6 +497,6 @@ fn read_else(
     let Past::At(end) = scan::past_mark(text, last, Mark::End) else {
         return Found::Unread;
     };
-    let nodes = sheet::put_named(text, sheet, inside, 6, start, stop);
+    let nodes = sheet::put_named(text, sheet, inside, sheet::PRESENT, start, stop);
     Found::Read { end, nodes }
 }

@@ -1,18 +1,19 @@
 -- How the tokens from a place on follow from the byte there.
 use mathlib.Core.Path.{_≡_, refl, sym, ap, _∙_}
-use mathlib.Core.Bool.{Bool, true, false, _&&_, _||_, cond}
+use mathlib.Core.Bool.{Bool, true, false, _&&_, cond}
 use mathlib.Core.List.{List, [], _∷_, _++_}
 use Prim.Native.Nat.{ℕ, suc, _+_, _≤_, _<_, _-_}
 use native.Mathlib.Numerals.{add-one}
 use native.Mathlib.Omega.{arith}
 use Prim.Native.Char.{code}
 use lib.Dec.{eqb, leb}
-use borrow.Author.Tests.{ne-eqb, eq-eqb, eqb-true}
+use borrow.Author.Tests.{ne-eqb, eq-eqb}
 use lib.ListN.{length, take, drop, getD, length-drop}
 use lib.Seq.{drop-cons, take-suc, getD-drop}
 use Rattle.grammar.specs.Limits.{maxName}
 use Rattle.grammar.specs.Tokens as G
-use Rattle.grammar.specs.Tokens.{tokens, classOf, wordToken, sameBytes, Pending, none, word, firstBar, tokensAfter, meet, Class, isBlank, isInWord, isLetter, signOf, nameOr}
+use Rattle.grammar.specs.Tokens.{tokens, classOf, wordToken, sameBytes, Pending, none, word, firstBar, tokensAfter, meet, Class, isLetter, signOf, nameOr}
+use Rattle.grammar.proofs.Runs.{bar-met, word-met}
 use Rattle.scan.specs.declared.Token.{Token}
 use Rattle.scan.specs.declared.Token.the-variants.{Opens, Marks, Names, Stray, Finished}
 use Rattle.scan.specs.Scanning.{openingIs, markIs, tokenIs, rest, Skipped, Worded, ScannedAs}
@@ -41,12 +42,6 @@ unfolding rest tokens
 sign-step x at t h e = after-byte x at none (G.sign t) h e
 
 -- a bar, by what follows it
-bar-met : (c : Class) (b : ℕ) (n : Pending → List G.Token) → (c ≡ G.bar → ⊥) → meet c b firstBar n ≡ G.stray ∷ meet c b none n
-bar-met G.inWord b n h = refl
-bar-met G.blank b n h = refl
-bar-met G.bar b n h = absurd (h refl)
-bar-met (G.sign t) b n h = refl
-
 pub one-bar : (x : List ℕ) (at : ℕ) → at < length x → classOf (getD x at 0) ≡ G.bar → (at + 1 < length x → classOf (getD x (at + 1) 0) ≡ G.bar → ⊥) → rest x at ≡ G.stray ∷ rest x (at + 1)
 unfolding rest tokens
 one-bar x at h e g = after-byte x at none G.bar h e ∙ go (drop (at + 1) x) refl
@@ -81,12 +76,6 @@ word-more x at i f h e =
     let longer : take (i + 1 - at) (drop at x) ≡ take (i - at) (drop at x) ++ (getD x i 0 ∷ []) = rw (one, take-suc (drop at x) (i - at) 0 len, byte) in
     rw longer (after-byte x i (word (take (i - at) (drop at x))) G.inWord h e)
 
-word-met : (c : Class) (b : ℕ) (w : List ℕ) (n : Pending → List G.Token) → (c ≡ G.inWord → ⊥) → meet c b (word w) n ≡ wordToken w ∷ meet c b none n
-word-met G.inWord b w n h = absurd (h refl)
-word-met G.blank b w n h = refl
-word-met G.bar b w n h = refl
-word-met (G.sign t) b w n h = refl
-
 pub word-stop : (x : List ℕ) (i : ℕ) (w : List ℕ) → i < length x → (classOf (getD x i 0) ≡ G.inWord → ⊥) → tokensAfter (word w) (drop i x) ≡ wordToken w ∷ rest x i
 unfolding rest tokens
 word-stop x i w h e = rw (drop-cons x i 0 h) (word-met (classOf (getD x i 0)) (getD x i 0) w (λ n. tokensAfter n (drop (suc i) x)) e)
@@ -114,52 +103,6 @@ bytes-agree a b i h l e = rw (add-one, drop-cons a i 0 h, drop-cons b i 0 (omega
 
 pub bytes-end : (a b : List ℕ) (i : ℕ) → length a ≤ i → length a ≡ length b → sameBytes (drop i a) (drop i b) ≡ true
 bytes-end a b i h l = rw (drop-past a i h, drop-past b i (omega arith))
-
--- what the scanner's tests say of a byte's class
-pub word-class : (b : ℕ) → isInWord b ≡ true → classOf b ≡ G.inWord
-unfolding classOf
-word-class b e = rw e
-
-blank-outside : (b : ℕ) → isBlank b ≡ true → isInWord b ≡ false
-blank-outside b = go (eqb b (code " ")) refl (eqb b (code "\t")) refl (eqb b (code "\n")) refl
-  where
-    go : (p : Bool) → eqb b (code " ") ≡ p → (q : Bool) → eqb b (code "\t") ≡ q → (r : Bool) → eqb b (code "\n") ≡ r → (p || q || r) ≡ true → isInWord b ≡ false
-    go true e q f r g h = rw (eqb-true b (code " ") e)
-    go false e true f r g h = rw (eqb-true b (code "\t") f)
-    go false e false f true g h = rw (eqb-true b (code "\n") g)
-    go false e false f false g h = let z : _≡_ {A = ℕ} 0 1 = cc in absurd (omega arith)
-
-pub blank-class : (b : ℕ) → isBlank b ≡ true → classOf b ≡ G.blank
-unfolding classOf
-blank-class b e = rw (blank-outside b e, e)
-
-pub bar-class : (b : ℕ) → b ≡ code "|" → classOf b ≡ G.bar
-unfolding classOf
-bar-class b e = rw e
-
-pub sign-class : (b : ℕ) → isInWord b ≡ false → isBlank b ≡ false → (b ≡ code "|" → ⊥) → classOf b ≡ G.sign (signOf b)
-unfolding classOf
-sign-class b e f g = rw (e, f, ne-eqb b (code "|") g)
-
-pub not-word : (b : ℕ) → isInWord b ≡ false → classOf b ≡ G.inWord → ⊥
-unfolding classOf
-not-word b e = go (isInWord b) e (isBlank b) (eqb b (code "|"))
-  where
-    go : (p : Bool) → p ≡ false → (q r : Bool) → cond p G.inWord (cond q G.blank (cond r G.bar (G.sign (signOf b)))) ≡ G.inWord → ⊥
-    go true e q r h = let z : _≡_ {A = ℕ} 0 1 = cc in omega arith
-    go false e true r h = let z : _≡_ {A = ℕ} 0 1 = cc in omega arith
-    go false e false true h = let z : _≡_ {A = ℕ} 0 1 = cc in omega arith
-    go false e false false h = let z : _≡_ {A = ℕ} 0 1 = cc in omega arith
-
-pub class-bar : (b : ℕ) → classOf b ≡ G.bar → b ≡ code "|"
-unfolding classOf
-class-bar b e = eqb-true b (code "|") (go (isInWord b) (isBlank b) (eqb b (code "|")) e)
-  where
-    go : (p q r : Bool) → cond p G.inWord (cond q G.blank (cond r G.bar (G.sign (signOf b)))) ≡ G.bar → r ≡ true
-    go true q r e = let z : _≡_ {A = ℕ} 0 1 = cc in absurd (omega arith)
-    go false true r e = let z : _≡_ {A = ℕ} 0 1 = cc in absurd (omega arith)
-    go false false true e = refl
-    go false false false e = let z : _≡_ {A = ℕ} 0 1 = cc in absurd (omega arith)
 
 pub is-name : (w : List ℕ) (t : Bool) → 0 < length w → t ≡ isLetter (getD w 0 0) → (t && leb (length w) maxName) ≡ true → _≡_ {A = List G.Token} (G.name w ∷ []) (nameOr w ∷ [])
 is-name [] t h l e = absurd (omega arith)

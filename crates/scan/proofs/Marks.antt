@@ -17,13 +17,13 @@ use Rattle.scan.proofs.Token.{the-type as token-type}
 use Rattle.scan.specs.Scanning.{numberOf, Lacks, none}
 
 abbrev marks : List G.Mark
-marks = G.semicolon ∷ G.bars ∷ G.close ∷ G.in-word ∷ G.then ∷ G.else ∷ G.end ∷ G.when ∷ []
+marks = G.semicolon ∷ G.bars ∷ G.close ∷ G.in-mark ∷ G.then ∷ G.else ∷ G.end ∷ G.when ∷ []
 
 numbered : (m : G.Mark) → getD marks (numberOf m) G.when ≡ m
 numbered G.semicolon = refl
 numbered G.bars = refl
 numbered G.close = refl
-numbered G.in-word = refl
+numbered G.in-mark = refl
 numbered G.then = refl
 numbered G.else = refl
 numbered G.end = refl

@@ -34,7 +34,7 @@ abbrev pub markIs : Mark → G.Mark
 markIs Semicolon = G.semicolon
 markIs Bars = G.bars
 markIs Close = G.close
-markIs In = G.in-word
+markIs In = G.in-mark
 markIs Then = G.then
 markIs Else = G.else
 markIs End = G.end
@@ -88,7 +88,7 @@ abbrev pub numberOf : G.Mark → ℕ
 numberOf G.semicolon = 0
 numberOf G.bars = 1
 numberOf G.close = 2
-numberOf G.in-word = 3
+numberOf G.in-mark = 3
 numberOf G.then = 4
 numberOf G.else = 5
 numberOf G.end = 6

@@ -34,6 +34,7 @@ pub enum Mark {
     When,
 }
 
+// A token: by what it opens or marks, a name, a stray word or byte, or that the text is over.
 pub enum Token {
     Opens(Opening),
     Marks(Mark),
@@ -42,6 +43,7 @@ pub enum Token {
     Finished,
 }
 
+// A token, and the part of the text that it is.
 pub struct Scanned {
     pub token: Token,
     pub start: usize,
@@ -267,6 +269,7 @@ pub fn next(text: &[u8], at: usize) -> Scanned
     }
 }
 
+// Marks are compared by their numbers: a match on two enums would have an arm for each pair.
 fn mark_number(mark: Mark) -> u8
     ensures { λ r. ⌜ r ≡ numberOf (markIs mark) ⌝ }
 {

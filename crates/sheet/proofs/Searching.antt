@@ -10,7 +10,7 @@ use borrow.Author.Tests.{eqb-true, eqb-false}
 use Rattle.grammar.specs.Tokens.{sameBytes}
 use Rattle.grammar.specs.Tree.{Name}
 use Rattle.grammar.specs.Names.{place}
-use Rattle.sheet.specs.Sheet.{part, Part, Entry, Listed, Found}
+use Rattle.sheet.specs.Sheet.{part, Part, Entry, Listed, FoundAt}
 
 place-at : (ns : List Name) (s : Name) (i : ℕ) → i < length ns → ((j : ℕ) → j < i → sameBytes (getD ns j []) s ≡ false) → sameBytes (getD ns i []) s ≡ true → i ≡ place ns s
 place-at [] s i h f e = absurd (omega arith)
@@ -40,7 +40,7 @@ module _ (x w : List ℕ) (first count start stop : ℕ) where
       rw (← k .is) (rw (← p, ← q) (sym (r (rw (p, q) b) v)))
 
   module _ (i : ℕ) {a e : ℕ} {t : Bool} (h : i < count) (p : a ≡ getD w (first + 2 * i) 0) (q : e ≡ getD w (first + 2 * i + 1) 0) (r : Part x a e → Part x start stop → t ≡ sameBytes (part x a e) s) (o : Without x w first count s start stop i) where
-    pub found-at : t ≡ true → (i ≤ count) × Found x w first count s start stop i
+    pub found-at : t ≡ true → (i ≤ count) × FoundAt x w first count s start stop i
     found-at c = (
       omega arith,
       record {
@@ -58,7 +58,7 @@ module _ (x w : List ℕ) (first count start stop : ℕ) where
         go ns v l z j g true y = rw (eqb-true j i y) (tested i h p q r ns v l z ∙ c)
         go ns v l z j g false y = let ne : j ≡ i → ⊥ = eqb-false j i y in o .others ns v l z j (omega arith)
 
-  pub none-found : (i : ℕ) → count ≤ i → Without x w first count s start stop i → (count ≤ count) × Found x w first count s start stop count
+  pub none-found : (i : ℕ) → count ≤ i → Without x w first count s start stop i → (count ≤ count) × FoundAt x w first count s start stop count
   none-found i h o = (
     omega arith,
     record {

@@ -14,7 +14,8 @@ use Rattle.grammar.specs.Names.{place, has, see}
 use Rattle.grammar.specs.Progress as P
 use Rattle.grammar.specs.Progress.{Progress, node, leave}
 use Rattle.grammar.specs.Limits.{maxLevels}
-use Rattle.sheet.specs.Sheet.{sheetRoom, part, Part, Entry, Listed, Found, flag, Filled, Adds}
+use Rattle.grammar.proofs.Writing.{place-end}
+use Rattle.sheet.specs.Sheet.{sheetRoom, part, Part, Entry, Listed, FoundAt, flag, Filled, Adds}
 
 pub place-most : (ns : List Name) (s : Name) → place ns s ≤ length ns
 place-most [] s = omega arith
@@ -165,7 +166,10 @@ module _ (x w : List ℕ) (n start stop : ℕ) (v : Part x start stop) (ts : Lis
           around = c .around;
         }
 
-    module _ (low : count ≤ 256) (r : ℕ) (o : Found x w 2051 count s start stop r) where
+    pub number-many : 256 < count → (k : ℕ) → length (see (g .seen) s) ≤ 256 → k ≡ place (see (g .seen) s) s
+    number-many h k l = absurd (omega (arith, many-signals (omega arith), see-long (g .seen) s))
+
+    module _ (low : count ≤ 256) (r : ℕ) (o : FoundAt x w 2051 count s start stop r) where
       seen-few : length (g .seen) ≤ 256
       seen-few = few-signals (omega arith)
 
@@ -246,11 +250,23 @@ module _ (x w : List ℕ) (n start stop : ℕ) (v : Part x start stop) (ts : Lis
             around = same-listed x w w2 (sheetRoom - 2 * length ts) ts (λ j a b. other j (λ z. omega (arith, c .few)) (λ z. omega (arith, c .few)) (λ z. omega (arith, c .few))) (c .around);
           }
 
+          pub number-new : count % 65536 ≡ place (see (g .seen) s) s
+          number-new = rw new (omega (arith, place-end (g .seen) s (omega (arith, placed, seen-count)), seen-count))
+
+        pub number-last : count ≡ 256 → (k : ℕ) → length (see (g .seen) s) ≤ 256 → k ≡ place (see (g .seen) s) s
+        number-last e k l = absurd (omega (arith, rw new at l, longer))
+
       pub numbered : r % 65536 ≡ place (g .seen) s
       numbered = omega (arith, placed, place-most (g .seen) s, seen-count)
 
+      pub number-known : r < count → r % 65536 ≡ place (see (g .seen) s) s
+      number-known h =
+          let e : has (g .seen) s ≡ true = lt-ltb (place (g .seen) s) (length (g .seen)) (omega (arith, placed, seen-count)) in
+          let d : see (g .seen) s ≡ g .seen = rw e in
+          rw d numbered
+
   -- an exit's name
-  module _ (count : ℕ) (is : count ≡ getD w 2050 0) (r : ℕ) (o : Found x w (sheetRoom - 2 * count) count s start stop r) where
+  module _ (count : ℕ) (is : count ≡ getD w 2050 0) (r : ℕ) (o : FoundAt x w (sheetRoom - 2 * count) count s start stop r) where
     trap-count : length ts ≡ count
     trap-count = sym (c .traps) ∙ sym is
 

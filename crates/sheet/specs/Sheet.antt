@@ -11,7 +11,7 @@ use Rattle.grammar.specs.Tree.{Name}
 use Rattle.grammar.specs.Names.{place}
 use Rattle.grammar.specs.Progress.{Progress}
 
--- the places of a sheet, by the names that the code has for them
+-- the places of a sheet: TABLE, SIGNAL_COUNT, UNTRAPPED, TRAP_COUNT, FIRST_SIGNAL and ROOM of src/lib.rt
 abbrev pub tableRoom : ℕ
 tableRoom = 2 * maxNodes
 
@@ -29,6 +29,10 @@ firstSignal = tableRoom + 3
 
 abbrev pub sheetRoom : ℕ
 sheetRoom = firstSignal + 2 * maxSignals + 2 * maxLevels
+
+-- more nodes than a text within the length has: so far they are counted
+abbrev pub maxCounted : ℕ
+maxCounted = 40000
 
 -- a part of the text
 abbrev pub part : List ℕ → ℕ → ℕ → Name
@@ -49,7 +53,7 @@ pub record Listed (x w : List ℕ) (first : ℕ) (ns : List Name) : Type 0 where
   pub at : (i : ℕ) → i < length ns → Entry x w (first + 2 * i) (getD ns i [])
 
 -- what a search finds
-pub record Found (x w : List ℕ) (first count : ℕ) (s : Name) (start stop r : ℕ) : Type 0 where
+pub record FoundAt (x w : List ℕ) (first count : ℕ) (s : Name) (start stop r : ℕ) : Type 0 where
   pub is : (ns : List Name) → Part x start stop → Listed x w first ns → length ns ≡ count → r ≡ place ns s
 
 abbrev pub flag : Bool → ℕ

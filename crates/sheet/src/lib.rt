@@ -12,9 +12,9 @@ ghost use Rattle.esterel.specs.Limits.{signals as maxSignals};
 ghost use Rattle.grammar.specs.Limits.{maxLevels};
 ghost use Rattle.grammar.specs.Tokens as G;
 ghost use Rattle.grammar.specs.Tree.{Name};
-ghost use Rattle.grammar.specs.Names.{place};
+ghost use Rattle.grammar.specs.Names.{place, see};
 ghost use Rattle.grammar.specs.Progress as P;
-ghost use Rattle.sheet.specs.Sheet.{sheetRoom, part, Part, Listed, Adds, Filled, Found};
+ghost use Rattle.sheet.specs.Sheet.{sheetRoom, maxCounted, part, Part, Listed, Adds, Filled, FoundAt};
 
 // Where things stand on a sheet: the table's bytes, three numbers, two places for each signal in order of appearance, and from
 // the end on two for each trap around, the nearest first.
@@ -30,15 +30,47 @@ const FIRST_SIGNAL: usize = TABLE + 3;
 
 pub const ROOM: usize = FIRST_SIGNAL + 2 * esterel::SIGNALS + 2 * grammar::MAX_LEVELS;
 
-fn wide(x: u16) -> usize
+// The kinds of nodes, as document 01 numbers them.
+pub const NOTHING: u16 = 1;
+
+pub const PAUSE: u16 = 2;
+
+pub const EMIT: u16 = 3;
+
+pub const EXIT: u16 = 4;
+
+pub const SIGNAL: u16 = 5;
+
+pub const PRESENT: u16 = 6;
+
+pub const SUSPEND: u16 = 7;
+
+pub const LOOP: u16 = 8;
+
+pub const SEQUENCE: u16 = 9;
+
+pub const PARALLEL: u16 = 10;
+
+pub const TRAP: u16 = 11;
+
+// The number of signals where there are more than a program may have.
+const TOO_MANY: u16 = 257;
+
+pub fn wide(x: u16) -> usize
     ensures { λ r. ⌜ r ≡ x ⌝ }
 {
     x as usize
 }
 
 // Whether two parts of the text are the same.
-fn is_same_part(text: &[u8], start: usize, stop: usize, other: usize, end: usize) -> bool
-    ensures { λ r. ⌜ (Part (now (text .entry)) start stop → Part (now (text .entry)) other end → r ≡ G.sameBytes (part (now (text .entry)) start stop) (part (now (text .entry)) other end)) ⌝ }
+fn is_same_part(
+    text: &[u8],
+    start: usize,
+    stop: usize,
+    other_start: usize,
+    other_stop: usize,
+) -> bool
+    ensures { λ r. ⌜ (Part (now (text .entry)) start stop → Part (now (text .entry)) «other_start» «other_stop» → r ≡ G.sameBytes (part (now (text .entry)) start stop) (part (now (text .entry)) «other_start» «other_stop»)) ⌝ }
 {
     if stop < start {
         return false;
@@ -46,13 +78,13 @@ fn is_same_part(text: &[u8], start: usize, stop: usize, other: usize, end: usize
     if text.len() < stop {
         return false;
     }
-    if end < other {
+    if other_stop < other_start {
         return false;
     }
-    if text.len() < end {
+    if text.len() < other_stop {
         return false;
     }
-    scan::is_same(&text[start..stop], &text[other..end])
+    scan::is_same(&text[start..stop], &text[other_start..other_stop])
 }
 
 // The place of a name among those kept from `first` on, or their count.
@@ -65,13 +97,13 @@ fn find(
     stop: usize,
 ) -> usize
     requires { ⌜ first + 2 * count ≤ sheetRoom ⌝ }
-    ensures { λ r. ⌜ (r ≤ count) × Found (now (text .entry)) (now (sheet .entry)) first count (part (now (text .entry)) start stop) start stop r ⌝ }
+    ensures { λ r. ⌜ (r ≤ count) × FoundAt (now (text .entry)) (now (sheet .entry)) first count (part (now (text .entry)) start stop) start stop r ⌝ }
 {
     let mut i = 0;
     while i < count {
-        let a = wide(sheet[first + 2 * i]);
-        let e = wide(sheet[first + 2 * i + 1]);
-        if is_same_part(text, a, e, start, stop) {
+        let kept_start = wide(sheet[first + 2 * i]);
+        let kept_stop = wide(sheet[first + 2 * i + 1]);
+        if is_same_part(text, kept_start, kept_stop, start, stop) {
             return i;
         }
         i += 1;
@@ -81,7 +113,7 @@ fn find(
 
 // A node is counted, and written if the table has room for it: a table that is too long is refused once all of the text is read.
 pub fn put(sheet: &mut [u16; ROOM], nodes: usize, kind: u16, field: u16) -> usize
-    requires { ⌜ nodes ≤ 40000 ⌝ }
+    requires { ⌜ nodes ≤ maxCounted ⌝ }
     ensures { λ r. ⌜ (r ≡ nodes + 1) × ((x : List ℕ) → Adds x (now (sheet .entry)) nodes (now (sheet .exit)) r (λ ts g. P.node kind field g)) ⌝ }
 {
     let at = 2 * nodes;
@@ -93,26 +125,27 @@ pub fn put(sheet: &mut [u16; ROOM], nodes: usize, kind: u16, field: u16) -> usiz
     nodes + 1
 }
 
-// A signal's name is met. The 257th is counted and not kept.
-pub fn note(text: &[u8], sheet: &mut [u16; ROOM], start: usize, stop: usize)
-    ensures { λ _. ⌜ ((n : ℕ) → Part (now (text .entry)) start stop → Adds (now (text .entry)) (now (sheet .entry)) n (now (sheet .exit)) n (λ ts g. P.note (part (now (text .entry)) start stop) g)) ⌝ }
+// A signal's name is met; its number. The 257th name is counted and not kept, and then no number matters.
+pub fn note(text: &[u8], sheet: &mut [u16; ROOM], start: usize, stop: usize) -> u16
+    ensures { λ r. ⌜ ((n : ℕ) → Part (now (text .entry)) start stop → Adds (now (text .entry)) (now (sheet .entry)) n (now (sheet .exit)) n (λ ts g. P.note (part (now (text .entry)) start stop) g)) × ((n : ℕ) (ts : List Name) (g : P.Progress) → Part (now (text .entry)) start stop → Filled (now (text .entry)) (now (sheet .entry)) n ts g → length (see (g .seen) (part (now (text .entry)) start stop)) ≤ maxSignals → r ≡ place (see (g .seen) (part (now (text .entry)) start stop)) (part (now (text .entry)) start stop)) ⌝ }
 {
     let count = wide(sheet[SIGNAL_COUNT]);
     if esterel::SIGNALS < count {
-        return;
+        return 0;
     }
     let found = find(text, sheet, FIRST_SIGNAL, count, start, stop);
     if found < count {
-        return;
+        return (found % 65536) as u16;
     }
     if count == esterel::SIGNALS {
-        sheet[SIGNAL_COUNT] = 257;
-        return;
+        sheet[SIGNAL_COUNT] = TOO_MANY;
+        return 0;
     }
     let at = FIRST_SIGNAL + 2 * count;
     sheet[at] = (start % 65536) as u16;
     sheet[at + 1] = (stop % 65536) as u16;
     sheet[SIGNAL_COUNT] = ((count + 1) % 65536) as u16;
+    (count % 65536) as u16
 }
 
 // The number of a signal that was met.
@@ -127,7 +160,7 @@ fn number_of(text: &[u8], sheet: &[u16; ROOM], start: usize, stop: usize) -> u16
     (found % 65536) as u16
 }
 
-// The node of a signal's name.
+// The node of a statement whose signal was met before.
 pub fn put_named(
     text: &[u8],
     sheet: &mut [u16; ROOM],
@@ -136,7 +169,7 @@ pub fn put_named(
     start: usize,
     stop: usize,
 ) -> usize
-    requires { ⌜ nodes ≤ 40000 ⌝ }
+    requires { ⌜ nodes ≤ maxCounted ⌝ }
     ensures { λ r. ⌜ (r ≡ nodes + 1) × (Part (now (text .entry)) start stop → Adds (now (text .entry)) (now (sheet .entry)) nodes (now (sheet .exit)) r (λ ts g. P.named kind (part (now (text .entry)) start stop) g)) ⌝ }
 {
     let field = number_of(text, sheet, start, stop);
@@ -167,11 +200,11 @@ pub fn put_exit(
     start: usize,
     stop: usize,
 ) -> usize
-    requires { ⌜ nodes ≤ 40000 ⌝ }
+    requires { ⌜ nodes ≤ maxCounted ⌝ }
     ensures { λ r. ⌜ (r ≡ nodes + 1) × (Part (now (text .entry)) start stop → Adds (now (text .entry)) (now (sheet .entry)) nodes (now (sheet .exit)) r (λ ts g. P.node 4 (place ts (part (now (text .entry)) start stop)) (P.leave ts (part (now (text .entry)) start stop) g))) ⌝ }
 {
     let level = level_of(text, sheet, start, stop);
-    put(sheet, nodes, 4, level)
+    put(sheet, nodes, EXIT, level)
 }
 
 // A trap's name comes around what is read next.

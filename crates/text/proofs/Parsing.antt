@@ -17,7 +17,7 @@ use Rattle.grammar.proofs.Depth.{few-levels}
 use Rattle.grammar.proofs.Stops.{top-end, refuses}
 use Rattle.scan.specs.Scanning.{rest, none}
 use Rattle.reader.specs.Reading.{Deeper, SequenceIs}
-use Rattle.text.specs.Reading.{Parsing}
+use Rattle.text.specs.Inner.{Parsing}
 
 module _ (x : List ℕ) (short : length x ≤ maxText) where
   pub never-read : ((k : Open) → Deeper (expect alone k) k x 0 maxLevels) → (t : Tree) → Program t (tokens x) → ⊥

@@ -25,15 +25,16 @@ use Rattle.grammar.proofs.Writing.{written, longer-same}
 use Rattle.grammar.proofs.Clipping.{low-postfix, size-clip, same-first, deep-blind, traps-blind, none-first, first-none, caught, clip-same}
 use Rattle.sheet.specs.Sheet.{sheetRoom, signalCount, untrappedAt, trapCount, Filled, flag}
 use Rattle.table.specs.Program.{programIn, programOf, Readable}
-use Rattle.table.specs.Check.{refuseFound, placesCheck}
+use Rattle.table.specs.Check.{passIf, refuseFound, placesCheck}
 use types.Run.{OneOf, miss}
 use denote.Enum.Declared.{tagOf}
 use Rattle.table.proofs.Check.{the-type as check-type}
 use Rattle.table.specs.declared.Check.{Check}
-use Rattle.table.specs.declared.Check.the-variants.{Passed}
+use Rattle.table.specs.declared.Check.the-variants.{Passed, Refused as CheckRefused}
 use Rattle.text.specs.declared.Reading.{Reading}
 use Rattle.text.specs.declared.Reading.the-variants.{Done, Refused}
-use Rattle.text.specs.Reading.{Told, refusalOf}
+use Rattle.text.specs.Reading.{Told}
+use Rattle.text.specs.Inner.{refusalOf}
 use Rattle.text.proofs.Bytes.{take-low, take-is}
 
 module _ (x w : List ℕ) (n : ℕ) (t : Tree) (c : Filled x w n [] (past [] t blank)) where
@@ -171,6 +172,15 @@ module _ (x w : List ℕ) (n : ℕ) (t : Tree) (c : Filled x w n [] (past [] t b
                 let z : 2 * n ≡ length (postfix (statementOf t)) = omega (arith, length-postfix (statementOf t), nodes-are) in
                 let f : new ≡ postfix (statementOf t) ++ drop (length (postfix (statementOf t))) old = e ∙ rw (l, z) in
                 rw v (cc (nodes-are, signals-are), f)
+
+-- a check that names no node, by its test
+pub test-fails : (number : ℕ) (b : Bool) {k : Check} → k ≡ passIf number b → OneOf (1 ∷ []) (tagOf check-type k) → {r : Reading} → r ≡ refusalOf k → (b ≡ false) × (r ≡ Refused number 0)
+test-fails number true e o f = absurd (miss (1 ∷ []) 0 tt (rw e at o))
+test-fails number false e o f = (refl, f ∙ ap refusalOf e)
+
+pub test-holds : (number : ℕ) (b : Bool) {k : Check} → k ≡ passIf number b → k ≡ Passed → b ≡ true
+test-holds number true e f = refl
+test-holds number false e f = let g : CheckRefused number 0 ≡ Passed = sym e ∙ f in let v : _≡_ {A = ℕ} 0 1 = cc in absurd (omega arith)
 
 -- a sheet of zeros
 pub fresh : (x : List ℕ) → length x ≤ maxText → (w : List ℕ) → (length w ≡ sheetRoom) × (getD w signalCount 0 ≡ 0) × (getD w untrappedAt 0 ≡ 0) × (getD w trapCount 0 ≡ 0) → Filled x w 0 [] blank

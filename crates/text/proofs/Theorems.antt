@@ -18,7 +18,6 @@ use Rattle.grammar.specs.Grammar.{Program}
 use Rattle.grammar.specs.Meaning.{statementOf, VerdictOf, underivable}
 use Rattle.grammar.specs.Theorems.{Refusal, outsideGrammar, exitUntrapped, manySignals, manyNodes, deepNode, manyTraps}
 use Rattle.grammar.proofs.Theorems.{of-texts, program-few}
-use Rattle.sheet.specs.Sheet.{tableRoom}
 use Rattle.text.specs.declared.Reading.{Reading}
 use Rattle.text.specs.declared.Reading.the-variants.{Done, Refused}
 use Rattle.text.specs.Reading.{Told, ReadAs, short, judged}
@@ -41,7 +40,7 @@ not-done : {A : Type 0} {number node nodes n : ℕ} → Done nodes n ≡ Refused
 not-done e = let z : _≡_ {A = ℕ} 0 1 = cc in absurd (omega arith)
 
 -- a program that was written
-written : (text old new : List ℕ) (p : Stmt) (m nodes n : ℕ) → tableRoom ≤ length old → VerdictOf text (passed p) m → Told (passed p) m old new (Done nodes n) → Wrote text old new nodes n
+written : (text old new : List ℕ) (p : Stmt) (m nodes n : ℕ) → 2 * maxNodes ≤ length old → VerdictOf text (passed p) m → Told (passed p) m old new (Done nodes n) → Wrote text old new nodes n
 written text old new p m nodes n h j a =
     let d = of-texts .program text p m j in
     let e : nodes ≡ size p = cc in
@@ -104,7 +103,7 @@ is-refused text old new number node (judged (refused k i) m h j a) =
     (a .1, ofText r, below r)
 
 -- check 14
-fourteen : (text old new : List ℕ) (r : Reading) → tableRoom ≤ length old → length text ≤ maxText → ReadAs text old new r → (r ≡ Refused 14 0) ↔ ((t : Tree) → Program t (tokens text) → ⊥)
+fourteen : (text old new : List ℕ) (r : Reading) → 2 * maxNodes ≤ length old → length text ≤ maxText → ReadAs text old new r → (r ≡ Refused 14 0) ↔ ((t : Tree) → Program t (tokens text) → ⊥)
 fourteen text old new r room h c = (to r c, λ d. determined text old new old r (Refused 14 0) c (judged (refused 14 0) 0 room (underivable d) (refl, refl)) .1)
   where
     to : (q : Reading) → ReadAs text old new q → q ≡ Refused 14 0 → (t : Tree) → Program t (tokens text) → ⊥

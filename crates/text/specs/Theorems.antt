@@ -14,7 +14,6 @@ use Rattle.grammar.specs.Tree.{Tree}
 use Rattle.grammar.specs.Grammar.{Program}
 use Rattle.grammar.specs.Meaning.{signals, statementOf}
 use Rattle.grammar.specs.Theorems.{Refusal}
-use Rattle.sheet.specs.Sheet.{tableRoom}
 use Rattle.text.specs.Reading.{ReadAs}
 use Rattle.text.specs.declared.Reading.{Reading}
 use Rattle.text.specs.declared.Reading.the-variants.{Done, Refused}
@@ -27,7 +26,7 @@ pub record Wrote (text old new : List ℕ) (nodes n : ℕ) : Type 0 where
   pub signalsAre : n ≡ length (signals tree)
   pub content : new ≡ postfix (statementOf tree) ++ drop (2 * nodes) old
   pub fits : nodes ≤ maxNodes
-  pub room : tableRoom ≤ length old
+  pub room : 2 * maxNodes ≤ length old
 
 -- the numbers of a refusal
 pub data Number : ℕ → ℕ → Type 0 where
@@ -47,5 +46,5 @@ pub record OfRead : Type 0 where
   -- a text within the length is refused 14 exactly if the grammar has no derivation for it
   pub fourteen :
       (text old new : List ℕ) (r : Reading) →
-      tableRoom ≤ length old → length text ≤ maxText → ReadAs text old new r →
+      2 * maxNodes ≤ length old → length text ≤ maxText → ReadAs text old new r →
       (r ≡ Refused 14 0) ↔ ((t : Tree) → Program t (tokens text) → ⊥)

@@ -9,12 +9,15 @@ ghost use Rattle.grammar.specs.Tree.{Tree};
 ghost use Rattle.grammar.specs.Meaning.{signals, statementOf, verdictOfTree};
 ghost use Rattle.grammar.specs.Progress.{past, blank};
 ghost use Rattle.grammar.specs.Clipping.{lowBytes, clip};
-ghost use Rattle.table.specs.Check.{placesCheck};
-ghost use Rattle.sheet.specs.Sheet.{tableRoom, Filled};
-ghost use Rattle.text.specs.Reading.{ParsedAs, Sheet, Surveyable, Told, ReadAs, refusalOf};
+ghost use Rattle.esterel.specs.Limits.{maxNodes};
+ghost use Rattle.table.specs.Check.{passIf, placesCheck};
+ghost use Rattle.sheet.specs.Sheet.{Filled};
+ghost use Rattle.text.specs.Reading.{Told, ReadAs};
+ghost use Rattle.text.specs.Inner.{ParsedAs, Written, Surveyable, refusalOf};
 use reader::Found;
 use table::Check;
 
+// What became of a text: how many nodes and signals its program has, or its refusal.
 pub enum Reading {
     Done { nodes: usize, signals: usize },
     Refused { number: u8, node: usize },
@@ -26,10 +29,14 @@ enum Parsed {
     Unread,
 }
 
-fn wide(x: u16) -> usize
-    ensures { λ r. ⌜ r ≡ x ⌝ }
+// A check that names no node: passed if the test holds.
+fn pass_if(number: u8, test: bool) -> Check
+    ensures { λ r. ⌜ r ≡ passIf number test ⌝ }
 {
-    x as usize
+    if test {
+        return Check::Passed;
+    }
+    Check::Refused { number, node: 0 }
 }
 
 // Writes the text's program on a fresh sheet.
@@ -71,6 +78,7 @@ fn check_nesting(sheet: &[u16; sheet::ROOM], end: usize) -> Check
     survey.check
 }
 
+// The refusal that a check answers. It is not asked of one that passed.
 fn refused(check: Check) -> Reading
     ensures { λ r. ⌜ r ≡ refusalOf check ⌝ }
 {
@@ -82,28 +90,25 @@ fn refused(check: Check) -> Reading
 
 // 15, 16, 1, 8 and 9 of a program on a sheet; then its table.
 fn settle(sheet: &[u16; sheet::ROOM], nodes: usize, table: &mut [u8]) -> Reading
-    requires { ⌜ Sheet (now sheet) nodes × (tableRoom ≤ length (now table)) ⌝ }
+    requires { ⌜ Written (now sheet) nodes × (2 * maxNodes ≤ length (now table)) ⌝ }
     ensures { λ r. ⌜ ((x : List ℕ) (t : Tree) → Filled x (now (sheet .entry)) nodes [] (past [] t blank) → Told (verdictOfTree t) (length (signals t)) (now (table .entry)) (now (table .exit)) r) ⌝ }
 {
-    if wide(sheet[sheet::UNTRAPPED]) != 0 {
-        return Reading::Refused {
-            number: 15,
-            node: 0,
-        };
-    }
-    let signals = wide(sheet[sheet::SIGNAL_COUNT]);
-    if esterel::SIGNALS < signals {
-        return Reading::Refused {
-            number: 16,
-            node: 0,
-        };
-    }
-    if esterel::MAX_NODES < nodes {
-        return Reading::Refused { number: 1, node: 0 };
-    }
-    let check = check_nesting(sheet, 2 * nodes);
-    let Check::Passed = check else {
-        return refused(check);
+    let exits = pass_if(15, sheet::wide(sheet[sheet::UNTRAPPED]) == 0);
+    let Check::Passed = exits else {
+        return refused(exits);
+    };
+    let signals = sheet::wide(sheet[sheet::SIGNAL_COUNT]);
+    let names = pass_if(16, signals <= esterel::SIGNALS);
+    let Check::Passed = names else {
+        return refused(names);
+    };
+    let length = pass_if(1, nodes <= esterel::MAX_NODES);
+    let Check::Passed = length else {
+        return refused(length);
+    };
+    let nesting = check_nesting(sheet, 2 * nodes);
+    let Check::Passed = nesting else {
+        return refused(nesting);
     };
     copy_table(sheet, table, 2 * nodes);
     Reading::Done { nodes, signals }
@@ -113,15 +118,14 @@ fn settle(sheet: &[u16; sheet::ROOM], nodes: usize, table: &mut [u8]) -> Reading
 pub fn read(text: &[u8], table: &mut [u8]) -> Reading
     ensures { λ r. ⌜ ReadAs (now (text .entry)) (now (table .entry)) (now (table .exit)) r ⌝ }
 {
-    if table.len() < sheet::TABLE {
-        return Reading::Refused { number: 3, node: 0 };
-    }
-    if grammar::MAX_TEXT < text.len() {
-        return Reading::Refused {
-            number: 14,
-            node: 0,
-        };
-    }
+    let room = pass_if(3, sheet::TABLE <= table.len());
+    let Check::Passed = room else {
+        return refused(room);
+    };
+    let length = pass_if(14, text.len() <= grammar::MAX_TEXT);
+    let Check::Passed = length else {
+        return refused(length);
+    };
     let mut sheet = [0u16; sheet::ROOM];
     let parsed = parse(text, &mut sheet);
     let Parsed::Nodes(nodes) = parsed else {

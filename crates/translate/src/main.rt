@@ -31,11 +31,15 @@ fn translate_input(buffer: &mut [u8], table: &mut [u8; 2 * esterel::MAX_NODES]) 
     }
 }
 
-// The line of a refusal, which 64 bytes hold, to standard error.
+// More bytes than the line of any refusal has.
+const LINE: usize = 64;
+
+// The line of a refusal, to standard error.
 fn tell_refusal(number: u8, node: usize) {
-    let mut line = [0u8; 64];
+    let mut line = [0u8; LINE];
     let rendered = listing::render_refusal(number, node, &mut line);
     let Rendered::Whole { length } = rendered else {
+        os::fail(b"translate: the refusal");
         return;
     };
     io::write_all(libc::STDERR_FILENO, &line[..length]);

@@ -32,11 +32,11 @@ returns-2 c = let l = rw (c .before .before .before .before .named .given .1) at
 note-requires : tie.Need-note-requires
 note-requires c κs = search needs
 
-put-named-requires : tie.Need-put-named-requires
-put-named-requires c κs = omega (arith, c .before .before .before .before .before .before .before .before .before .before .before .before .pre .room .within, c .before .before .before .before .before .before .before .before .before .before .before .before .pre .room .short, c .before .before .before .before .before .before .before .before .before .before .before .before .pre .room .few)
+put-requires : tie.Need-put-requires
+put-requires c κs = omega (arith, c .before .before .before .before .before .before .before .before .before .before .before .before .pre .room .within, c .before .before .before .before .before .before .before .before .before .before .before .before .pre .room .short, c .before .before .before .before .before .before .before .before .before .before .before .before .pre .room .few)
 
 returns-3 : tie.Need-returns-3
-returns-3 c = let l = rw (c .before .before .before .before .before .before .before .before .before .named .given .1) at (c .before .before .before .before .before .before .before .before .before .before .before .past-mark .ensures) in let d = rw (c .before .before .before .before .before .start .given .1) at (c .before .before .before .before .before .before .before .next-name .ensures) in λ depth. when-named (c .before .before .before .before .before .before .before .before .before .before .before .before .before .args .text .now) (c .before .before .before .before .before .before .before .before .before .before .before .before .before .args .at) (c .before .before .before .before .before .before .before .before .before .before .before .before .before .pre .stops) (c .before .before .before .before .before .before .before .before .before .before .before .before .before .args .sheet .now) (c .before .before .before .before .before .before .before .before .before .before .before .before .before .args .nodes) depth l d _ (c .before .before .note .ensures) _ (c .put-named .ensures .0) (c .put-named .ensures .1)
+returns-3 c = let l = rw (c .before .before .before .before .before .before .before .before .before .named .given .1) at (c .before .before .before .before .before .before .before .before .before .before .before .past-mark .ensures) in let d = rw (c .before .before .before .before .before .start .given .1) at (c .before .before .before .before .before .before .before .next-name .ensures) in λ depth. when-named (c .before .before .before .before .before .before .before .before .before .before .before .before .before .args .text .now) (c .before .before .before .before .before .before .before .before .before .before .before .before .before .args .at) (c .before .before .before .before .before .before .before .before .before .before .before .before .before .pre .stops) (c .before .before .before .before .before .before .before .before .before .before .before .before .before .args .sheet .now) (c .before .before .before .before .before .before .before .before .before .before .before .before .before .args .nodes) depth l d _ (c .before .before .note .ensures) _ (c .put .ensures .0) (c .put .ensures .1 (c .before .before .before .before .before .before .before .before .before .before .before .before .before .args .text .now))
 
 pub close-when-spec : {M : Type 1} → statement M
 close-when-spec =
@@ -51,5 +51,5 @@ close-when-spec =
     enum-told-2
     returns-2
     note-requires
-    put-named-requires
+    put-requires
     returns-3)

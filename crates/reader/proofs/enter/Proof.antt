@@ -27,10 +27,10 @@ enter-body-requires : tie.Need-enter-body-requires
 enter-body-requires c κs = search needs
 
 returns : tie.Need-returns
-returns c = (omega (arith, c .put .ensures .0), omega (arith, c .put .ensures .0), else-enters (c .before .before .before .before .before .before .before .args .text .now) (c .before .before .before .before .before .before .before .args .sheet .now) (c .before .before .before .before .before .before .before .args .nodes) (c .before .before .before .before .before .before .before .args .start) (c .before .before .before .before .before .before .before .args .stop) (c .before .before .before .before .enum-told .given .1) (c .before .before .note .ensures) (c .put .ensures .1 (c .before .before .before .before .before .before .before .args .text .now)))
+returns c = (omega (arith, c .put .ensures .0), omega (arith, c .put .ensures .0), else-enters (c .before .before .before .before .before .before .before .args .text .now) (c .before .before .before .before .before .before .before .args .sheet .now) (c .before .before .before .before .before .before .before .args .nodes) (c .before .before .before .before .before .before .before .args .start) (c .before .before .before .before .before .before .before .args .stop) (c .before .before .before .before .enum-told .given .1) (c .before .before .note .ensures .0) (c .put .ensures .1 (c .before .before .before .before .before .before .before .args .text .now)))
 
 returns-2 : tie.Need-returns-2
-returns-2 c = (omega arith, omega arith, then-enters (c .before .before .before .before .before .args .text .now) (c .before .before .before .before .before .args .sheet .now) (c .before .before .before .before .before .args .nodes) (c .before .before .before .before .before .args .start) (c .before .before .before .before .before .args .stop) (c .before .before .enum-told2 .given .1) (c .note2 .ensures))
+returns-2 c = (omega arith, omega arith, then-enters (c .before .before .before .before .before .args .text .now) (c .before .before .before .before .before .args .sheet .now) (c .before .before .before .before .before .args .nodes) (c .before .before .before .before .before .args .start) (c .before .before .before .before .before .args .stop) (c .before .before .enum-told2 .given .1) (c .note2 .ensures .0))
 
 returns-3 : tie.Need-returns-3
 returns-3 c = (omega arith, omega arith, body-enters (c .before .before .before .before .before .args .text .now) (c .before .before .before .before .before .args .sheet .now) (c .before .before .before .before .before .args .nodes) (c .before .before .before .before .before .args .start) (c .before .before .before .before .before .args .stop) (c .before .before .enum-told3 .given .1) (c .enter-body .ensures))

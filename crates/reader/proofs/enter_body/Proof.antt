@@ -8,7 +8,7 @@ note-requires : tie.Need-note-requires
 note-requires c κs = search needs
 
 returns : tie.Need-returns
-returns c = λ n. signal-enters (c .before .before .before .before .args .text .now) (c .before .before .before .before .args .sheet .now) n (c .before .before .before .before .args .start) (c .before .before .before .before .args .stop) (c .before .before .if1 .taken) (c .note .ensures n)
+returns c = λ n. signal-enters (c .before .before .before .before .args .text .now) (c .before .before .before .before .args .sheet .now) n (c .before .before .before .before .args .start) (c .before .before .before .before .args .stop) (c .before .before .if1 .taken) (c .note .ensures .0 n)
 
 enter-trap-requires : tie.Need-enter-trap-requires
 enter-trap-requires c κs = search needs

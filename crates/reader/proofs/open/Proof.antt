@@ -18,8 +18,14 @@ returns c = no-opening (c .before .before .before .args .text .now) (c .before .
 enum-told : tie.Need-enum-told
 enum-told c = search needs
 
+bare-requires : tie.Need-bare-requires
+bare-requires c κs = search needs
+
 enum-told-2 : tie.Need-enum-told-2
 enum-told-2 c = search needs
+
+bare-requires-2 : tie.Need-bare-requires-2
+bare-requires-2 c κs = search needs
 
 enum-told-3 : tie.Need-enum-told-3
 enum-told-3 c = search needs
@@ -48,6 +54,9 @@ open-body-requires-2 c κs = (begun (c .before .before .before .before .before .
 enum-told-7 : tie.Need-enum-told-7
 enum-told-7 c = search needs
 
+bare-inside-requires : tie.Need-bare-inside-requires
+bare-inside-requires c κs = search needs
+
 enum-told-8 : tie.Need-enum-told-8
 enum-told-8 c = search needs
 
@@ -57,14 +66,20 @@ open-present-requires c κs = (begun (c .before .before .before .before .before 
 enum-told-9 : tie.Need-enum-told-9
 enum-told-9 c = search needs
 
+bare-inside-requires-2 : tie.Need-bare-inside-requires-2
+bare-inside-requires-2 c κs = search needs
+
 enum-told-10 : tie.Need-enum-told-10
 enum-told-10 c = search needs
 
+bare-inside-requires-3 : tie.Need-bare-inside-requires-3
+bare-inside-requires-3 c κs = search needs
+
 returns-2 : tie.Need-returns-2
-returns-2 c = nothing-read (begun (c .before .before .before .before .before .before .before .args .text .now) (c .before .before .before .before .before .before .before .args .at) (c .before .before .before .before .before .next .result .start) (c .before .before .before .before .before .next .result .end) Nothing (c .before .before .before .token .given .1) (c .enum-told .given .1) (c .before .before .before .before .before .next .ensures))
+returns-2 c = rw (c .bare .ensures) (nothing-read (begun (c .before .before .before .before .before .before .before .before .args .text .now) (c .before .before .before .before .before .before .before .before .args .at) (c .before .before .before .before .before .before .next .result .start) (c .before .before .before .before .before .before .next .result .end) Nothing (c .before .before .before .before .token .given .1) (c .before .enum-told .given .1) (c .before .before .before .before .before .before .next .ensures)))
 
 returns-3 : tie.Need-returns-3
-returns-3 c = pause-read (begun (c .before .before .before .before .before .before .before .args .text .now) (c .before .before .before .before .before .before .before .args .at) (c .before .before .before .before .before .next .result .start) (c .before .before .before .before .before .next .result .end) Pause (c .before .before .before .token .given .1) (c .enum-told2 .given .1) (c .before .before .before .before .before .next .ensures))
+returns-3 c = rw (c .bare2 .ensures) (pause-read (begun (c .before .before .before .before .before .before .before .before .args .text .now) (c .before .before .before .before .before .before .before .before .args .at) (c .before .before .before .before .before .before .next .result .start) (c .before .before .before .before .before .before .next .result .end) Pause (c .before .before .before .before .token .given .1) (c .before .enum-told2 .given .1) (c .before .before .before .before .before .before .next .ensures)))
 
 returns-4 : tie.Need-returns-4
 returns-4 c = emit-begun (c .open-leaf .result) (begun (c .before .before .before .before .before .before .before .before .args .text .now) (c .before .before .before .before .before .before .before .before .args .at) (c .before .before .before .before .before .before .next .result .start) (c .before .before .before .before .before .before .next .result .end) Emit (c .before .before .before .before .token .given .1) (c .before .enum-told3 .given .1) (c .before .before .before .before .before .before .next .ensures)) (c .open-leaf .ensures .0 refl)
@@ -79,16 +94,16 @@ returns-7 : tie.Need-returns-7
 returns-7 c = trap-begun (c .open-body2 .result) (begun (c .before .before .before .before .before .before .before .before .args .text .now) (c .before .before .before .before .before .before .before .before .args .at) (c .before .before .before .before .before .before .next .result .start) (c .before .before .before .before .before .before .next .result .end) Trap (c .before .before .before .before .token .given .1) (c .before .enum-told6 .given .1) (c .before .before .before .before .before .before .next .ensures)) (c .open-body2 .ensures .1 refl)
 
 returns-8 : tie.Need-returns-8
-returns-8 c = loop-entered (begun (c .before .before .before .before .before .before .before .args .text .now) (c .before .before .before .before .before .before .before .args .at) (c .before .before .before .before .before .next .result .start) (c .before .before .before .before .before .next .result .end) Loop (c .before .before .before .token .given .1) (c .enum-told7 .given .1) (c .before .before .before .before .before .next .ensures))
+returns-8 c = rw (c .bare-inside .ensures) (loop-entered (begun (c .before .before .before .before .before .before .before .before .args .text .now) (c .before .before .before .before .before .before .before .before .args .at) (c .before .before .before .before .before .before .next .result .start) (c .before .before .before .before .before .before .next .result .end) Loop (c .before .before .before .before .token .given .1) (c .before .enum-told7 .given .1) (c .before .before .before .before .before .before .next .ensures)))
 
 returns-9 : tie.Need-returns-9
 returns-9 c = present-begun (c .open-present .result) (begun (c .before .before .before .before .before .before .before .before .args .text .now) (c .before .before .before .before .before .before .before .before .args .at) (c .before .before .before .before .before .before .next .result .start) (c .before .before .before .before .before .before .next .result .end) Present (c .before .before .before .before .token .given .1) (c .before .enum-told8 .given .1) (c .before .before .before .before .before .before .next .ensures)) (c .open-present .ensures)
 
 returns-10 : tie.Need-returns-10
-returns-10 c = suspend-entered (begun (c .before .before .before .before .before .before .before .args .text .now) (c .before .before .before .before .before .before .before .args .at) (c .before .before .before .before .before .next .result .start) (c .before .before .before .before .before .next .result .end) Suspend (c .before .before .before .token .given .1) (c .enum-told9 .given .1) (c .before .before .before .before .before .next .ensures))
+returns-10 c = rw (c .bare-inside2 .ensures) (suspend-entered (begun (c .before .before .before .before .before .before .before .before .args .text .now) (c .before .before .before .before .before .before .before .before .args .at) (c .before .before .before .before .before .before .next .result .start) (c .before .before .before .before .before .before .next .result .end) Suspend (c .before .before .before .before .token .given .1) (c .before .enum-told9 .given .1) (c .before .before .before .before .before .before .next .ensures)))
 
 returns-11 : tie.Need-returns-11
-returns-11 c = bracket-entered (begun (c .before .before .before .before .before .before .before .args .text .now) (c .before .before .before .before .before .before .before .args .at) (c .before .before .before .before .before .next .result .start) (c .before .before .before .before .before .next .result .end) Bracket (c .before .before .before .token .given .1) (c .enum-told10 .given .1) (c .before .before .before .before .before .next .ensures))
+returns-11 c = rw (c .bare-inside3 .ensures) (bracket-entered (begun (c .before .before .before .before .before .before .before .before .args .text .now) (c .before .before .before .before .before .before .before .before .args .at) (c .before .before .before .before .before .before .next .result .start) (c .before .before .before .before .before .before .next .result .end) Bracket (c .before .before .before .before .token .given .1) (c .before .enum-told10 .given .1) (c .before .before .before .before .before .before .next .ensures)))
 
 pub open-spec : {M : Type 1} → statement M
 open-spec =
@@ -98,7 +113,9 @@ open-spec =
     enum-known-token
     returns
     enum-told
+    bare-requires
     enum-told-2
+    bare-requires-2
     enum-told-3
     open-leaf-requires
     enum-told-4
@@ -108,10 +125,13 @@ open-spec =
     enum-told-6
     open-body-requires-2
     enum-told-7
+    bare-inside-requires
     enum-told-8
     open-present-requires
     enum-told-9
+    bare-inside-requires-2
     enum-told-10
+    bare-inside-requires-3
     returns-2
     returns-3
     returns-4

@@ -1,6 +1,7 @@
 -- `scan::bars_at` meets its contract: two bars, or one by what follows it.
 use native.Mathlib.Omega.{arith}
-use Rattle.scan.proofs.Laws.{two-bars, one-bar, bar-class, class-bar}
+use Rattle.grammar.proofs.Runs.{bar-class, class-bar}
+use Rattle.scan.proofs.Laws.{two-bars, one-bar}
 use borrow.Author.Needs.{needs}
 use Rattle.scan.proofs.bars_at.Statement.{statement}
 use Rattle.scan.proofs.bars_at.Tie as tie

@@ -3,7 +3,8 @@ use native.Mathlib.Omega.{arith}
 use mathlib.Core.Path.{sym, _∙_}
 use lib.ListN.{getD}
 use Rattle.grammar.specs.Tokens.{signOf}
-use Rattle.scan.proofs.Laws.{rest-past, after-blanks, word-scanned, word-class, bar-class, sign-scanned, sign-step, sign-class, no-name-sign}
+use Rattle.grammar.proofs.Runs.{word-class, bar-class, sign-class}
+use Rattle.scan.proofs.Laws.{rest-past, after-blanks, word-scanned, sign-scanned, sign-step, no-name-sign}
 use borrow.Author.Needs.{needs}
 use Rattle.scan.proofs.next.Statement.{statement}
 use Rattle.scan.proofs.next.Tie as tie

@@ -6,7 +6,8 @@ use Prim.Native.Nat.{_≤_, _-_}
 use lib.ListN.{length}
 use borrow.Author.Tests.{not-true, not-false}
 use Rattle.scan.specs.Scanning.{rest}
-use Rattle.scan.proofs.Laws.{blank-step, blank-class}
+use Rattle.grammar.proofs.Runs.{blank-class}
+use Rattle.scan.proofs.Laws.{blank-step}
 use Rattle.scan.proofs.skip.Statement.{statement}
 use Rattle.scan.proofs.skip.Tie as tie
 

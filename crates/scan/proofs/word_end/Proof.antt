@@ -7,7 +7,8 @@ use lib.ListN.{length, take, drop}
 use borrow.Author.Tests.{not-true, not-false}
 use Rattle.grammar.specs.Tokens.{tokensAfter, word}
 use Rattle.scan.specs.Scanning.{rest}
-use Rattle.scan.proofs.Laws.{word-start, word-stop, word-more, word-last, word-class, not-word}
+use Rattle.grammar.proofs.Runs.{word-class, not-word}
+use Rattle.scan.proofs.Laws.{word-start, word-stop, word-more, word-last}
 use Rattle.scan.proofs.word_end.Statement.{statement}
 use Rattle.scan.proofs.word_end.Tie as tie
 

@@ -1,4 +1,5 @@
 -- `sheet::is_same_part` meets its contract: parts that lie in the text are compared.
+use Prim.Native.Nat.{_-_}
 use native.Mathlib.Omega.{arith}
 use borrow.Author.Needs.{needs}
 use Rattle.sheet.proofs.is_same_part.Statement.{statement}

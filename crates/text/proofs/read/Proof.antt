@@ -1,49 +1,81 @@
 -- `text::read` meets its contract: the checks in their order.
 use mathlib.Core.Path.{refl}
-use native.Mathlib.Omega.{arith}
+use borrow.Author.Tests.{leb-true, leb-false}
 use Rattle.grammar.specs.Meaning.{overlong, underivable, derived}
 use Rattle.text.specs.Reading.{short, judged}
-use Rattle.text.proofs.Settling.{fresh}
+use Rattle.text.proofs.Settling.{fresh, test-fails, test-holds}
 use borrow.Author.Needs.{needs}
 use Rattle.text.proofs.read.Statement.{statement}
 use Rattle.text.proofs.read.Tie as tie
 
-returns : tie.Need-returns
-returns c = short (omega arith) (refl, refl)
-
-returns-2 : tie.Need-returns-2
-returns-2 c = judged _ _ (omega arith) (overlong (omega arith)) (refl, refl)
-
-parse-requires : tie.Need-parse-requires
-parse-requires c κs = omega arith
-
-enum-known-parsed : tie.Need-enum-known-parsed
-enum-known-parsed c = search needs
+pass-if-requires : tie.Need-pass-if-requires
+pass-if-requires c κs = search needs
 
 enum-told : tie.Need-enum-told
 enum-told c = search needs
 
+enum-told-2 : tie.Need-enum-told-2
+enum-told-2 c = search needs
+
+refused-requires : tie.Need-refused-requires
+refused-requires c κs = search needs
+
+returns : tie.Need-returns
+returns c = let q = test-fails 3 _ (c .before .before .before .pass-if .ensures) (c .before .before .match .keys2) (c .refused .ensures) in rw (q .1) (short (leb-false _ _ (q .0)) (refl, refl))
+
+pass-if-requires-2 : tie.Need-pass-if-requires-2
+pass-if-requires-2 c κs = search needs
+
+enum-told-3 : tie.Need-enum-told-3
+enum-told-3 c = search needs
+
+enum-told-4 : tie.Need-enum-told-4
+enum-told-4 c = search needs
+
+refused-requires-2 : tie.Need-refused-requires-2
+refused-requires-2 c κs = search needs
+
+returns-2 : tie.Need-returns-2
+returns-2 c = let q = test-fails 14 _ (c .before .before .before .pass-if2 .ensures) (c .before .before .match2 .keys2) (c .refused2 .ensures) in rw (q .1) (judged _ _ (leb-true _ _ (test-holds 3 _ (c .before .before .before .before .before .before .pass-if .ensures) (c .before .before .before .before .enum-told .given .1))) (overlong (leb-false _ _ (q .0))) (refl, refl))
+
+parse-requires : tie.Need-parse-requires
+parse-requires c κs = leb-true _ _ (test-holds 14 _ (c .before .before .before .pass-if2 .ensures) (c .before .enum-told3 .given .1))
+
+enum-known-parsed : tie.Need-enum-known-parsed
+enum-known-parsed c = search needs
+
+enum-told-5 : tie.Need-enum-told-5
+enum-told-5 c = search needs
+
 returns-3 : tie.Need-returns-3
-returns-3 c = let h = rw (c .enum-told .given .1) at (c .before .before .parse .ensures) in judged _ _ (omega arith) (underivable h) (refl, refl)
+returns-3 c = let h = rw (c .enum-told5 .given .1) at (c .before .before .parse .ensures) in judged _ _ (leb-true _ _ (test-holds 3 _ (c .before .before .before .before .before .before .before .before .before .pass-if .ensures) (c .before .before .before .before .before .before .before .enum-told .given .1))) (underivable h) (refl, refl)
 
 settle-requires : tie.Need-settle-requires
-settle-requires c κs = let d = rw (c .before .before .before .parsed .given .1) at (c .before .before .before .before .before .parse .ensures) in (record { text = (c .before .before .before .before .before .before .before .before .before .before .before .args .text .now); tree = d .tree; filled = d .wrote (fresh (c .before .before .before .before .before .before .before .before .before .before .before .args .text .now) (omega arith) _ (refl, refl, refl, refl)) }, omega arith)
+settle-requires c κs = let d = rw (c .before .before .before .parsed .given .1) at (c .before .before .before .before .before .parse .ensures) in (record { text = (c .before .before .before .before .before .before .before .before .before .before .before .before .before .before .before .args .text .now); tree = d .tree; filled = d .wrote (fresh (c .before .before .before .before .before .before .before .before .before .before .before .before .before .before .before .args .text .now) (leb-true _ _ (test-holds 14 _ (c .before .before .before .before .before .before .before .before .before .pass-if2 .ensures) (c .before .before .before .before .before .before .before .enum-told3 .given .1))) _ (refl, refl, refl, refl)) }, leb-true _ _ (test-holds 3 _ (c .before .before .before .before .before .before .before .before .before .before .before .before .pass-if .ensures) (c .before .before .before .before .before .before .before .before .before .before .enum-told .given .1)))
 
 same-length : tie.Need-same-length
 same-length c = search needs
 
 returns-4 : tie.Need-returns-4
-returns-4 c = let d = rw (c .before .before .before .before .before .before .parsed .given .1) at (c .before .before .before .before .before .before .before .before .parse .ensures) in judged _ _ (omega arith) (derived (d .tree) (omega arith) (d .derivation)) (c .before .before .settle .ensures (c .before .before .before .before .before .before .before .before .before .before .before .before .before .before .args .text .now) (d .tree) (d .wrote (fresh (c .before .before .before .before .before .before .before .before .before .before .before .before .before .before .args .text .now) (omega arith) _ (refl, refl, refl, refl))))
+returns-4 c = let d = rw (c .before .before .before .before .before .before .parsed .given .1) at (c .before .before .before .before .before .before .before .before .parse .ensures) in judged _ _ (leb-true _ _ (test-holds 3 _ (c .before .before .before .before .before .before .before .before .before .before .before .before .before .before .before .pass-if .ensures) (c .before .before .before .before .before .before .before .before .before .before .before .before .before .enum-told .given .1))) (derived (d .tree) (leb-true _ _ (test-holds 14 _ (c .before .before .before .before .before .before .before .before .before .before .before .before .pass-if2 .ensures) (c .before .before .before .before .before .before .before .before .before .before .enum-told3 .given .1))) (d .derivation)) (c .before .before .settle .ensures (c .before .before .before .before .before .before .before .before .before .before .before .before .before .before .before .before .before .before .args .text .now) (d .tree) (d .wrote (fresh (c .before .before .before .before .before .before .before .before .before .before .before .before .before .before .before .before .before .before .args .text .now) (leb-true _ _ (test-holds 14 _ (c .before .before .before .before .before .before .before .before .before .before .before .before .pass-if2 .ensures) (c .before .before .before .before .before .before .before .before .before .before .enum-told3 .given .1))) _ (refl, refl, refl, refl))))
 
 pub read-spec : {M : Type 1} → statement M
 read-spec =
     tie.close
     (tie.spec
+    pass-if-requires
+    enum-told
+    enum-told-2
+    refused-requires
     returns
+    pass-if-requires-2
+    enum-told-3
+    enum-told-4
+    refused-requires-2
     returns-2
     parse-requires
     enum-known-parsed
-    enum-told
+    enum-told-5
     returns-3
     settle-requires
     same-length

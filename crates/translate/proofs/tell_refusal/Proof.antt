@@ -1,10 +1,15 @@
 -- `translate::tell_refusal` meets its contract: the line lies within its buffer.
-use mathlib.Core.Path.{sym}
+use mathlib.Core.Path.{refl, sym}
 use lib.Seq.{length-take-le}
 use Rattle.translate.proofs.Whole.{line-within}
 use borrow.Author.Needs.{needs}
 use Rattle.translate.proofs.tell_refusal.Statement.{statement}
 use Rattle.translate.proofs.tell_refusal.Tie as tie
+use Rattle.translate.proofs.tell_refusal.Reads as reads
+use Rattle.translate.proofs.tell_refusal.Lts as lts
+use Rattle.io.proofs.write_all.Reads as write-all-reads
+use Rattle.listing.proofs.render_refusal.Reads as render-refusal-reads
+use Rattle.os.proofs.fail.Reads as fail-reads
 
 slice-aggregate-render-refusal : tie.Need-slice-aggregate-render-refusal
 slice-aggregate-render-refusal c = search needs
@@ -17,6 +22,12 @@ enum-known-rendered c = search needs
 
 enum-told : tie.Need-enum-told
 enum-told c = search needs
+
+slice-aggregate-fail : tie.Need-slice-aggregate-fail
+slice-aggregate-fail c = search needs
+
+fail-requires : tie.Need-fail-requires
+fail-requires c κs = search needs
 
 returns : tie.Need-returns
 returns c = search needs
@@ -41,6 +52,8 @@ tell-refusal-spec =
     render-refusal-requires
     enum-known-rendered
     enum-told
+    slice-aggregate-fail
+    fail-requires
     returns
     array-share-prefix-line
     slice-aggregate-write-all
