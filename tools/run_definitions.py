@@ -18,7 +18,7 @@ CRATES_TXT = "codes:\nesterel: codes\ngrammar: esterel\ncontrol: grammar esterel
 
 # ---- the theorems in antt
 
-# The calls of document 01, put together from the definitions. Check 3 stands between 2 and 4: `checkLength` makes 1 and 2,
+# The calls of document 01 and the reader of F-1, put together from the definitions. Check 3 stands between 2 and 4: `checkLength` makes 1 and 2,
 # and `verdict` makes them once more, with 4 to 11. The emission buffer is taken to be long enough.
 CALLS = """
 use Prim.Native.Nat.{ℕ, _/_}

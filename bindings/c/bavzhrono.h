@@ -113,9 +113,9 @@
 #define BAVZHRONO_MAX_NODES 1024
 /* The number of signals, and the length of the emissions. */
 #define BAVZHRONO_SIGNALS 256
-/* A text of so many bytes holds the listing of any table. */
+/* A text of so many bytes holds the listing of any table. It is no limit of bavzhrono_read. */
 #define BAVZHRONO_MAX_TEXT 67584
-/* The most bytes of a text that is read. */
+/* The most bytes of a text that bavzhrono_read takes. */
 #define BAVZHRONO_MAX_SOURCE 16384
 /* The entries of an answer that are needed. */
 #define BAVZHRONO_ANSWER 3

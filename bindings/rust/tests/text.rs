@@ -359,7 +359,7 @@ fn the_deepest_texts_of_the_grammar_do_not_exhaust_the_stack() {
     // A level of 16 bytes: just 1,024 nodes.
     let signals = nested("signal S in ", "pause", " end", 1023);
     assert_returns_in_a_thread(signals, 8);
-    // 2,047 levels: no text of the grammar has more.
+    // 2,047 levels, the most that were found in a text of the grammar.
     let loops_and_brackets = nested("loop[", "pause", "||pause]end", 1023);
     assert_returns_in_a_thread(format!("loop {loops_and_brackets} end"), 1);
 }
