@@ -31,7 +31,7 @@ use Rattle.esterel.specs.Table.{Verdict, passed, refused, checkLength, postfix}
 use Rattle.esterel.specs.Checks.{verdict, listing, Line, planned}
 use Rattle.esterel.specs.Instant.{Mode, started, resumed, start, resume, admitted}
 use Rattle.esterel.specs.Outcome.{Outcome, done, needsAnswer, noRule, outcome}
-use Rattle.grammar.specs.Limits.{maxText}
+use Rattle.grammar.specs.Limits.{maxSource}
 use Rattle.grammar.specs.Tokens.{tokens}
 use Rattle.grammar.specs.Meaning.{verdictOfTree}
 use Rattle.grammar.specs.Machine as M
@@ -78,7 +78,7 @@ table (passed p) = written (postfix p)
 table (refused number node) = refusal number node
 
 abbrev pub readText : List ℕ → Shown
-readText text = table (cond (ltb maxText (length text)) (refused 14 0) (told (M.parse (tokens text))))
+readText text = table (cond (ltb maxSource (length text)) (refused 14 0) (told (M.parse (tokens text))))
 """
 HEAD = """
 use mathlib.Core.Path.{_≡_, refl}

@@ -5,7 +5,7 @@ use mathlib.Core.List.{List, [], _∷_}
 use Prim.Native.Nat.{ℕ, suc, _+_, _≤_, _<_, max}
 use native.Mathlib.Omega.{arith}
 use lib.ListN.{length}
-use Rattle.grammar.specs.Limits.{maxText, maxLevels}
+use Rattle.grammar.specs.Limits.{maxSource, maxLevels}
 use Rattle.grammar.specs.Tokens.{Token, opening, mark, name, stray, Opening, Mark, nothing, pause, emit, exit, signal, trap, loop, present, suspend, bracket, semicolon, bars, close, in-mark, then, else, end, when, tokens}
 use Rattle.grammar.specs.Tree as T
 use Rattle.grammar.specs.Tree.{Tree, Name, leaf, one, two, levels}
@@ -219,5 +219,5 @@ pub open-levels : (ts : List Token) (b : Before) (k : Open) (p : Tree) → run (
 open-levels ts b k p e = omega (arith, rw e at (runs ts (expect b k)), counts k (levelsBefore b))
 
 -- and within the length at most `maxLevels`
-pub few-levels : (bytes : List ℕ) (p : Tree) → length bytes ≤ maxText → parse (tokens bytes) ≡ accepted p → levels p < maxLevels
+pub few-levels : (bytes : List ℕ) (p : Tree) → length bytes ≤ maxSource → parse (tokens bytes) ≡ accepted p → levels p < maxLevels
 few-levels bytes p h e = omega (arith, takes (sound p (tokens bytes) e), weighs bytes)

@@ -6,7 +6,7 @@ use native.Mathlib.Omega.{arith}
 use lib.ListN.{length}
 use Rattle.esterel.specs.Statement as S
 use Rattle.esterel.specs.Table.{passed, refused, postfix}
-use Rattle.grammar.specs.Limits.{maxText}
+use Rattle.grammar.specs.Limits.{maxSource}
 use Rattle.grammar.specs.Ascii.{ascii}
 use Rattle.grammar.specs.Tokens.{Token, tokens, classOf}
 use Rattle.grammar.specs.Tree as T
@@ -18,7 +18,7 @@ use Rattle.grammar.proofs.Soundness.{sound}
 use Rattle.grammar.proofs.Stops.{refuses}
 
 -- by the tree that the parser finds, or the tokens that it does not get past
-told : (x : List ℕ) (t : Tree) → length x ≤ maxText → parse (tokens x) ≡ accepted t → VerdictOf x (verdictOfTree t) (length (signals t))
+told : (x : List ℕ) (t : Tree) → length x ≤ maxSource → parse (tokens x) ≡ accepted t → VerdictOf x (verdictOfTree t) (length (signals t))
 told x t h e = derived t h (sound t (tokens x) e)
 
 unread : (x : List ℕ) (ts : List Token) → parse (tokens x) ≡ stuck ts → VerdictOf x (refused 14 0) 0

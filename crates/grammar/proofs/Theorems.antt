@@ -17,7 +17,7 @@ use Rattle.esterel.specs.Checks.{tooDeep, tooManyTraps, uncaught, endsAtOnce, f
 use Rattle.esterel.proofs.Reading.{length-postfix, reads-back}
 use Rattle.esterel.proofs.Accepted.{length-places}
 use Rattle.esterel.proofs.Refusals.{Below, first-below}
-use Rattle.grammar.specs.Limits.{maxText}
+use Rattle.grammar.specs.Limits.{maxSource}
 use Rattle.grammar.specs.Tokens.{Token, tokens}
 use Rattle.grammar.specs.Tree.{Tree, Name}
 use Rattle.grammar.specs.Grammar.{Program}
@@ -139,11 +139,11 @@ module _ (text : List ℕ) where
   unparsed ts e = underivable (λ t d. refuses t e (complete t (tokens text) d))
 
   judged : (v : Verdict) × (n : ℕ) × VerdictOf text v n
-  judged = go (ltb maxText (length text)) refl (parse (tokens text)) refl
+  judged = go (ltb maxSource (length text)) refl (parse (tokens text)) refl
     where
-      go : (b : Bool) → ltb maxText (length text) ≡ b → (o : Outcome) → parse (tokens text) ≡ o → (v : Verdict) × (n : ℕ) × VerdictOf text v n
-      go true e o f = (refused 14 0, 0, overlong (ltb-true maxText (length text) e))
-      go false e (accepted t) f = (verdictOfTree t, length (signals t), derived t (ltb-false maxText (length text) e) (sound t (tokens text) f))
+      go : (b : Bool) → ltb maxSource (length text) ≡ b → (o : Outcome) → parse (tokens text) ≡ o → (v : Verdict) × (n : ℕ) × VerdictOf text v n
+      go true e o f = (refused 14 0, 0, overlong (ltb-true maxSource (length text) e))
+      go false e (accepted t) f = (verdictOfTree t, length (signals t), derived t (ltb-false maxSource (length text) e) (sound t (tokens text) f))
       go false e (stuck ts) f = (refused 14 0, 0, unparsed ts f)
 
   one-verdict : (v w : Verdict) (n m : ℕ) → VerdictOf text v n → VerdictOf text w m → (v ≡ w) × (n ≡ m)
@@ -159,7 +159,7 @@ module _ (text : List ℕ) where
       let s : t ≡ u = one-tree t u (tokens text) d e in
       (ap verdictOfTree s, ap (λ (a : Tree). length (signals a)) s)
 
-  passes-derived : length text ≤ maxText → (t : Tree) → Program t (tokens text) → Passes14 text
+  passes-derived : length text ≤ maxSource → (t : Tree) → Program t (tokens text) → Passes14 text
   passes-derived h t d v n node (overlong a) e = omega arith
   passes-derived h t d v n node (underivable f) e = f t d
   passes-derived h t d v n node (derived u l g) e = tree-refused u 14 node e .not14 refl
@@ -223,7 +223,7 @@ module _ (p : Stmt) (h : Expressible p) (few : size p ≤ maxNodes) (low : metIn
       let c : read (postfix (statementOf tree)) ≡ passed p = ap (λ (q : Stmt). read (postfix q)) tree-statement ∙ reads-back p few in
       rw (a, b, c)
 
-  back : length (printed p) ≤ maxText → VerdictOf (printed p) (checkNesting (passed p)) (metIn 0 p)
+  back : length (printed p) ≤ maxSource → VerdictOf (printed p) (checkNesting (passed p)) (metIn 0 p)
   unfolding printed
   back l =
       let ts : List Token = print tree [] in

@@ -2,8 +2,8 @@
 use Prim.Native.Nat.{ℕ}
 
 -- bytes of a text
-abbrev pub maxText : ℕ
-maxText = 16384
+abbrev pub maxSource : ℕ
+maxSource = 16384
 
 -- characters of a name
 abbrev pub maxName : ℕ

@@ -10,7 +10,7 @@ use Rattle.esterel.specs.Statement.{Stmt}
 use Rattle.esterel.specs.Sets.{placesOf}
 use Rattle.esterel.specs.Table.{Verdict, passed, refused, read, postfix}
 use Rattle.esterel.specs.Checks.{tooDeep, tooManyTraps, firstNode, refuseAt}
-use Rattle.grammar.specs.Limits.{maxText}
+use Rattle.grammar.specs.Limits.{maxSource}
 use Rattle.grammar.specs.Tokens.{tokens}
 use Rattle.grammar.specs.Tree as T
 use Rattle.grammar.specs.Tree.{Tree, Name, leaf, one, two}
@@ -79,6 +79,6 @@ verdictOfTree t =
 -- The verdict of a text, and the number of its signals: 14 for one that is over the length or has no derivation, else what its derivation's tree
 -- is told.
 pub data VerdictOf (text : List ℕ) : Verdict → ℕ → Type 0 where
-  overlong : maxText < length text → VerdictOf text (refused 14 0) 0
+  overlong : maxSource < length text → VerdictOf text (refused 14 0) 0
   underivable : ((t : Tree) → Program t (tokens text) → ⊥) → VerdictOf text (refused 14 0) 0
-  derived : (t : Tree) → length text ≤ maxText → Program t (tokens text) → VerdictOf text (verdictOfTree t) (length (signals t))
+  derived : (t : Tree) → length text ≤ maxSource → Program t (tokens text) → VerdictOf text (verdictOfTree t) (length (signals t))

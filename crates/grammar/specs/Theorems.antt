@@ -10,7 +10,7 @@ use Rattle.esterel.specs.Limits.{maxNodes, signals as maxSignals}
 use Rattle.esterel.specs.Statement.{Stmt, size}
 use Rattle.esterel.specs.Table.{Verdict, passed, refused, postfix}
 use Rattle.esterel.specs.Checks.{verdict}
-use Rattle.grammar.specs.Limits.{maxText, maxLevels}
+use Rattle.grammar.specs.Limits.{maxSource, maxLevels}
 use Rattle.grammar.specs.Ascii.{ascii}
 use Rattle.grammar.specs.Tokens.{Token, opening, mark, name, stray, Opening, Mark, nothing, pause, emit, exit, signal, trap, loop, present, suspend, bracket, semicolon, bars as barsMark, close, in-mark, then, else, end, when, tokens, isInWord, isBlank, wordToken, signOf}
 use Rattle.grammar.specs.Tree.{Tree, Name, levels}
@@ -65,7 +65,7 @@ pub record OfTexts : Type 0 where
   pub decided : (text : List ℕ) → (v : Verdict) × (n : ℕ) × VerdictOf text v n
   pub oneVerdict : (text : List ℕ) (v w : Verdict) (n m : ℕ) → VerdictOf text v n → VerdictOf text w m → (v ≡ w) × (n ≡ m)
   -- a text within the length passes 14 exactly if the grammar has a derivation for it
-  pub fourteen : (text : List ℕ) → length text ≤ maxText → Passes14 text ↔ ((t : Tree) × Program t (tokens text))
+  pub fourteen : (text : List ℕ) → length text ≤ maxSource → Passes14 text ↔ ((t : Tree) × Program t (tokens text))
   pub refusals : (text : List ℕ) (number node n : ℕ) → VerdictOf text (refused number node) n → Refusal number node
   -- without a refusal the program is that of the derivation
   pub program : (text : List ℕ) (p : Stmt) (n : ℕ) → VerdictOf text (passed p) n → (t : Tree) × Program t (tokens text) × (p ≡ statementOf t) × (n ≡ length (signals t))
@@ -114,12 +114,12 @@ InOrder = (ts : List Token) (t : Tree) → Program t ts → signals t ≡ seeAll
 
 -- A text within the length has fewer than maxLevels levels, so that readers that go no deeper lose none.
 unfoldable pub Nesting : Type 0
-Nesting = (text : List ℕ) (t : Tree) → length text ≤ maxText → Program t (tokens text) → levels t < maxLevels
+Nesting = (text : List ℕ) (t : Tree) → length text ≤ maxSource → Program t (tokens text) → levels t < maxLevels
 
 -- Round trip: what is printed of a program that a text can say is read as that program, to which then only checks 8 and 9 are left.
 unfoldable pub RoundTrip : Type 0
 RoundTrip =
-    (p : Stmt) → Expressible p → size p ≤ maxNodes → metIn 0 p ≤ maxSignals → length (printed p) ≤ maxText →
+    (p : Stmt) → Expressible p → size p ≤ maxNodes → metIn 0 p ≤ maxSignals → length (printed p) ≤ maxSource →
     VerdictOf (printed p) (checkNesting (passed p)) (metIn 0 p)
 
 -- And only such programs are read from texts.

@@ -4,7 +4,7 @@ use Prim.Native.Nat.{ℕ, suc, _+_, _*_, _<_, _≤_}
 use mathlib.Core.Path.{_≡_}
 use mathlib.Core.List.{List}
 use lib.ListN.{length}
-use Rattle.grammar.specs.Limits.{maxText, maxLevels}
+use Rattle.grammar.specs.Limits.{maxSource, maxLevels}
 use Rattle.grammar.specs.Tokens as G
 use Rattle.grammar.specs.Tree as T
 use Rattle.grammar.specs.Tree.{Tree, Name, leaf, levels}
@@ -66,7 +66,7 @@ OpenedFrom s x at Unopened = NoWay s x at
 -- a place of a text within the length, where n nodes have been written
 pub record Room (x : List ℕ) (at n : ℕ) : Type 0 where
   pub within : at ≤ length x
-  pub short : length x ≤ maxText
+  pub short : length x ≤ maxSource
   pub few : n ≤ 2 * at
 
 -- and no semicolon comes next: the sequence before it is whole

@@ -152,7 +152,7 @@ fn open(text: &[u8], at: usize) -> Opened
     requires { ⌜ at ≤ length (now text) ⌝ }
     ensures { λ r. ⌜ OpenedFrom expect (now (text .entry)) at r ⌝ }
 {
-    let scanned = scan::next(text, at);
+    let scanned = scan::next_token(text, at);
     let token = scanned.token;
     let end = scanned.end;
     let Token::Opens(opening) = token else {

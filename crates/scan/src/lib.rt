@@ -238,7 +238,7 @@ fn bars_at(text: &[u8], start: usize) -> Scanned
 }
 
 // The next token from `at` on.
-pub fn next(text: &[u8], at: usize) -> Scanned
+pub fn next_token(text: &[u8], at: usize) -> Scanned
     requires { ⌜ at ≤ length (now text) ⌝ }
     ensures { λ r. ⌜ ScannedAs (now (text .entry)) at (r .start) (r .end) (r .token) ⌝ }
 {
@@ -290,7 +290,7 @@ pub fn past_mark(text: &[u8], at: usize, wanted: Mark) -> Past
     requires { ⌜ at ≤ length (now text) ⌝ }
     ensures { λ r. ⌜ PastMark (now (text .entry)) at wanted r ⌝ }
 {
-    let scanned = next(text, at);
+    let scanned = next_token(text, at);
     let token = scanned.token;
     let end = scanned.end;
     let Token::Marks(mark) = token else {
@@ -307,7 +307,7 @@ pub fn next_name(text: &[u8], at: usize) -> Called
     requires { ⌜ at ≤ length (now text) ⌝ }
     ensures { λ r. ⌜ CalledAs (now (text .entry)) at r ⌝ }
 {
-    let scanned = next(text, at);
+    let scanned = next_token(text, at);
     let token = scanned.token;
     let start = scanned.start;
     let stop = scanned.end;
@@ -322,7 +322,7 @@ pub fn is_finished(text: &[u8], at: usize) -> bool
     requires { ⌜ at ≤ length (now text) ⌝ }
     ensures { λ r. ⌜ r ≡ none (rest (now (text .entry)) at) ⌝ }
 {
-    let scanned = next(text, at);
+    let scanned = next_token(text, at);
     let token = scanned.token;
     match token {
         Token::Finished => true,

@@ -6,7 +6,7 @@ use mathlib.Core.Bool.{Bool, true, false}
 use mathlib.Core.List.{List, []}
 use lib.ListN.{length, getD, take, drop}
 use Rattle.esterel.specs.Limits.{maxNodes, signals as maxSignals}
-use Rattle.grammar.specs.Limits.{maxText, maxLevels}
+use Rattle.grammar.specs.Limits.{maxSource, maxLevels}
 use Rattle.grammar.specs.Tree.{Name}
 use Rattle.grammar.specs.Names.{place}
 use Rattle.grammar.specs.Progress.{Progress}
@@ -64,7 +64,7 @@ flag false = 0
 -- the text is refused 16
 pub record Filled (x w : List ℕ) (n : ℕ) (ts : List Name) (g : Progress) : Type 0 where
   pub room : length w ≡ sheetRoom
-  pub short : length x ≤ maxText
+  pub short : length x ≤ maxSource
   pub long : length (g .bytes) ≡ 2 * n
   pub holds : length (g .seen) ≤ maxSignals → (j : ℕ) → j < tableRoom → j < length (g .bytes) → getD w j 0 ≡ getD (g .bytes) j 0
   pub counted : length (g .seen) ≤ maxSignals → getD w signalCount 0 ≡ length (g .seen)

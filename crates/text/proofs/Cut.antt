@@ -6,12 +6,12 @@ use native.Mathlib.Omega.{arith}
 use lib.ListN.{length, take}
 use lib.Seq.{length-take-le, take-all}
 use Rattle.esterel.specs.Table.{Verdict}
-use Rattle.grammar.specs.Limits.{maxText}
+use Rattle.grammar.specs.Limits.{maxSource}
 use Rattle.grammar.specs.Meaning.{VerdictOf, overlong, underivable, derived}
 use Rattle.text.specs.declared.Reading.{Reading}
 use Rattle.text.specs.Reading.{ReadAs, short, judged}
 
-module _ (k : ℕ) (input : List ℕ) (more : maxText < k) where
+module _ (k : ℕ) (input : List ℕ) (more : maxSource < k) where
   cut-verdict : k < length input → (v : Verdict) (n : ℕ) → VerdictOf (take k input) v n → VerdictOf input v n
   cut-verdict h v n (overlong a) = overlong (omega arith)
   cut-verdict h v n (underivable d) = overlong (omega arith)

@@ -5,7 +5,7 @@ use mathlib.Core.List.{List, [], _∷_}
 use Prim.Native.Nat.{ℕ, _≤_}
 use native.Mathlib.Omega.{arith}
 use lib.ListN.{length}
-use Rattle.grammar.specs.Limits.{maxText, maxLevels}
+use Rattle.grammar.specs.Limits.{maxSource, maxLevels}
 use Rattle.grammar.specs.Tokens.{Token, tokens}
 use Rattle.grammar.specs.Tree.{Tree}
 use Rattle.grammar.specs.Grammar.{Program}
@@ -19,7 +19,7 @@ use Rattle.scan.specs.Scanning.{rest, none}
 use Rattle.reader.specs.Reading.{Deeper, SequenceIs}
 use Rattle.text.specs.Inner.{Parsing}
 
-module _ (x : List ℕ) (short : length x ≤ maxText) where
+module _ (x : List ℕ) (short : length x ≤ maxSource) where
   pub never-read : ((k : Open) → Deeper (expect alone k) k x 0 maxLevels) → (t : Tree) → Program t (tokens x) → ⊥
   unfolding rest
   never-read h t d = let e = complete t (tokens x) d in omega (arith, h top t e, few-levels x t short e)

@@ -9,7 +9,7 @@ use lib.Dec.{ltb}
 use lib.ListN.{length, getD, take, drop}
 use lib.Seq.{take-at}
 use borrow.Author.Tests.{lt-ltb, le-ltb, ltb-true, ltb-false}
-use Rattle.grammar.specs.Limits.{maxText}
+use Rattle.grammar.specs.Limits.{maxSource}
 use Rattle.grammar.specs.Tree.{Tree}
 use Rattle.esterel.specs.Limits.{maxNodes, signals as maxSignals}
 use Rattle.esterel.specs.Statement.{size}
@@ -183,7 +183,7 @@ test-holds number true e f = refl
 test-holds number false e f = let g : CheckRefused number 0 ≡ Passed = sym e ∙ f in let v : _≡_ {A = ℕ} 0 1 = cc in absurd (omega arith)
 
 -- a sheet of zeros
-pub fresh : (x : List ℕ) → length x ≤ maxText → (w : List ℕ) → (length w ≡ sheetRoom) × (getD w signalCount 0 ≡ 0) × (getD w untrappedAt 0 ≡ 0) × (getD w trapCount 0 ≡ 0) → Filled x w 0 [] blank
+pub fresh : (x : List ℕ) → length x ≤ maxSource → (w : List ℕ) → (length w ≡ sheetRoom) × (getD w signalCount 0 ≡ 0) × (getD w untrappedAt 0 ≡ 0) × (getD w trapCount 0 ≡ 0) → Filled x w 0 [] blank
 fresh x short w z = record {
   room = z .0;
   short = short;

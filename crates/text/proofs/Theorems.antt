@@ -11,7 +11,7 @@ use Rattle.esterel.specs.Statement.{Stmt, size}
 use Rattle.esterel.specs.Table.{Verdict, passed, refused, postfix}
 use Rattle.esterel.specs.Checks.{verdict}
 use Rattle.esterel.proofs.Reading.{length-postfix}
-use Rattle.grammar.specs.Limits.{maxText}
+use Rattle.grammar.specs.Limits.{maxSource}
 use Rattle.grammar.specs.Tokens.{tokens}
 use Rattle.grammar.specs.Tree.{Tree}
 use Rattle.grammar.specs.Grammar.{Program}
@@ -103,7 +103,7 @@ is-refused text old new number node (judged (refused k i) m h j a) =
     (a .1, ofText r, below r)
 
 -- check 14
-fourteen : (text old new : List ℕ) (r : Reading) → 2 * maxNodes ≤ length old → length text ≤ maxText → ReadAs text old new r → (r ≡ Refused 14 0) ↔ ((t : Tree) → Program t (tokens text) → ⊥)
+fourteen : (text old new : List ℕ) (r : Reading) → 2 * maxNodes ≤ length old → length text ≤ maxSource → ReadAs text old new r → (r ≡ Refused 14 0) ↔ ((t : Tree) → Program t (tokens text) → ⊥)
 fourteen text old new r room h c = (to r c, λ d. determined text old new old r (Refused 14 0) c (judged (refused 14 0) 0 room (underivable d) (refl, refl)) .1)
   where
     to : (q : Reading) → ReadAs text old new q → q ≡ Refused 14 0 → (t : Tree) → Program t (tokens text) → ⊥

@@ -8,7 +8,7 @@ use Rattle.esterel.specs.Limits.{maxNodes}
 use Rattle.esterel.specs.Statement.{size}
 use Rattle.esterel.specs.Table.{refused, postfix}
 use Rattle.esterel.specs.Checks.{verdict}
-use Rattle.grammar.specs.Limits.{maxText}
+use Rattle.grammar.specs.Limits.{maxSource}
 use Rattle.grammar.specs.Tokens.{tokens}
 use Rattle.grammar.specs.Tree.{Tree}
 use Rattle.grammar.specs.Grammar.{Program}
@@ -46,5 +46,5 @@ pub record OfRead : Type 0 where
   -- a text within the length is refused 14 exactly if the grammar has no derivation for it
   pub fourteen :
       (text old new : List ℕ) (r : Reading) →
-      2 * maxNodes ≤ length old → length text ≤ maxText → ReadAs text old new r →
+      2 * maxNodes ≤ length old → length text ≤ maxSource → ReadAs text old new r →
       (r ≡ Refused 14 0) ↔ ((t : Tree) → Program t (tokens text) → ⊥)

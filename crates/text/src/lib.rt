@@ -4,7 +4,7 @@ ghost use mathlib.Core.List.{List, [], _++_};
 ghost use Prim.Native.Nat.{ℕ, _*_, _≤_};
 ghost use lib.ListN.{length, take, drop};
 ghost use Rattle.esterel.specs.Sets.{placesOf};
-ghost use Rattle.grammar.specs.Limits.{maxText};
+ghost use Rattle.grammar.specs.Limits.{maxSource};
 ghost use Rattle.grammar.specs.Tree.{Tree};
 ghost use Rattle.grammar.specs.Meaning.{signals, statementOf, verdictOfTree};
 ghost use Rattle.grammar.specs.Progress.{past, blank};
@@ -41,7 +41,7 @@ fn pass_if(number: u8, test: bool) -> Check
 
 // Writes the text's program on a fresh sheet.
 fn parse(text: &[u8], sheet: &mut [u16; sheet::ROOM]) -> Parsed
-    requires { ⌜ length (now text) ≤ maxText ⌝ }
+    requires { ⌜ length (now text) ≤ maxSource ⌝ }
     ensures { λ r. ⌜ ParsedAs (now (text .entry)) (now (sheet .entry)) (now (sheet .exit)) r ⌝ }
 {
     let program = reader::read_sequence(text, 0, grammar::MAX_LEVELS, 0, sheet);
@@ -122,7 +122,7 @@ pub fn read(text: &[u8], table: &mut [u8]) -> Reading
     let Check::Passed = room else {
         return refused(room);
     };
-    let length = pass_if(14, text.len() <= grammar::MAX_TEXT);
+    let length = pass_if(14, text.len() <= grammar::MAX_SOURCE);
     let Check::Passed = length else {
         return refused(length);
     };

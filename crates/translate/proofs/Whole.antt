@@ -7,7 +7,7 @@ use mathlib.Core.List.{List, _++_}
 use lib.Dec.{leb}
 use lib.ListN.{length, take, drop, length-append}
 use lib.Seq.{length-take-le, take-all}
-use Rattle.grammar.specs.Limits.{maxText}
+use Rattle.grammar.specs.Limits.{maxSource}
 use Rattle.input.specs.Reads.{Reads}
 use Rattle.input.specs.declared.Input.the-variants.{Bytes}
 use Rattle.input.proofs.Reading.{same-size, within}
@@ -21,7 +21,7 @@ use Rattle.text.proofs.Cut.{read-of-front}
 use Rattle.translate.specs.Translates.{ReadsInput}
 
 module _ {b b′ t t′ : List ℕ} where
-  pub whole : {read : ℕ} (r : Reading) → maxText < length b → Reads 0 b b′ (Bytes read) → ReadAs (take read b′) t t′ r → ReadsInput b b′ t t′ r
+  pub whole : {read : ℕ} (r : Reading) → maxSource < length b → Reads 0 b b′ (Bytes read) → ReadAs (take read b′) t t′ r → ReadsInput b b′ t t′ r
   whole {read} r room reads o = record {
     read = read;
     reads = reads;

@@ -3,7 +3,7 @@
 // `input`'s, what it makes of it `text`'s; this file only moves bytes.
 ghost use Prim.Native.Nat.{_<_};
 ghost use lib.ListN.{length};
-ghost use Rattle.grammar.specs.Limits.{maxText};
+ghost use Rattle.grammar.specs.Limits.{maxSource};
 ghost use Rattle.translate.specs.Translates.{Translates};
 use input::Input;
 use listing::Rendered;
@@ -17,7 +17,7 @@ enum Translated {
 
 // Reads the input and translates all of it, also where it does not fit in the buffer: what fits is too long a text then, too.
 fn translate_input(buffer: &mut [u8], table: &mut [u8; 2 * esterel::MAX_NODES]) -> Translated
-    requires { ⌜ maxText < length (now buffer) ⌝ }
+    requires { ⌜ maxSource < length (now buffer) ⌝ }
     ensures { λ r. ⌜ Translates (now (buffer .entry)) (now (buffer .exit)) (now (table .entry)) (now (table .exit)) r ⌝ }
 {
     let input = input::read(buffer);
@@ -47,7 +47,7 @@ fn tell_refusal(number: u8, node: usize) {
 
 fn main() {
     // One byte more than a text may have decides refusal 14, so no more is read.
-    let mut buffer = [0u8; grammar::MAX_TEXT + 1];
+    let mut buffer = [0u8; grammar::MAX_SOURCE + 1];
     let mut table = [0u8; 2 * esterel::MAX_NODES];
     let translated = translate_input(&mut buffer, &mut table);
     if let Translated::Refused { number, node } = translated {

@@ -6,14 +6,14 @@ use borrow.Author.Needs.{needs}
 use Rattle.reader.proofs.open.Statement.{statement}
 use Rattle.reader.proofs.open.Tie as tie
 
-next-requires : tie.Need-next-requires
-next-requires c κs = search needs
+next-token-requires : tie.Need-next-token-requires
+next-token-requires c κs = search needs
 
 enum-known-token : tie.Need-enum-known-token
 enum-known-token c = search needs
 
 returns : tie.Need-returns
-returns c = no-opening (c .before .before .before .args .text .now) (c .before .before .before .args .at) (c .before .next .result .start) (c .before .next .result .end) (c .before .next .result .token) (c .match .keys2) (c .before .next .ensures)
+returns c = no-opening (c .before .before .before .args .text .now) (c .before .before .before .args .at) (c .before .next-token .result .start) (c .before .next-token .result .end) (c .before .next-token .result .token) (c .match .keys2) (c .before .next-token .ensures)
 
 enum-told : tie.Need-enum-told
 enum-told c = search needs
@@ -31,25 +31,25 @@ enum-told-3 : tie.Need-enum-told-3
 enum-told-3 c = search needs
 
 open-leaf-requires : tie.Need-open-leaf-requires
-open-leaf-requires c κs = (begun (c .before .before .before .before .before .before .before .args .text .now) (c .before .before .before .before .before .before .before .args .at) (c .before .before .before .before .before .next .result .start) (c .before .before .before .before .before .next .result .end) Emit (c .before .before .before .token .given .1) (c .enum-told3 .given .1) (c .before .before .before .before .before .next .ensures)) .to
+open-leaf-requires c κs = (begun (c .before .before .before .before .before .before .before .args .text .now) (c .before .before .before .before .before .before .before .args .at) (c .before .before .before .before .before .next-token .result .start) (c .before .before .before .before .before .next-token .result .end) Emit (c .before .before .before .token .given .1) (c .enum-told3 .given .1) (c .before .before .before .before .before .next-token .ensures)) .to
 
 enum-told-4 : tie.Need-enum-told-4
 enum-told-4 c = search needs
 
 open-leaf-requires-2 : tie.Need-open-leaf-requires-2
-open-leaf-requires-2 c κs = (begun (c .before .before .before .before .before .before .before .args .text .now) (c .before .before .before .before .before .before .before .args .at) (c .before .before .before .before .before .next .result .start) (c .before .before .before .before .before .next .result .end) Exit (c .before .before .before .token .given .1) (c .enum-told4 .given .1) (c .before .before .before .before .before .next .ensures)) .to
+open-leaf-requires-2 c κs = (begun (c .before .before .before .before .before .before .before .args .text .now) (c .before .before .before .before .before .before .before .args .at) (c .before .before .before .before .before .next-token .result .start) (c .before .before .before .before .before .next-token .result .end) Exit (c .before .before .before .token .given .1) (c .enum-told4 .given .1) (c .before .before .before .before .before .next-token .ensures)) .to
 
 enum-told-5 : tie.Need-enum-told-5
 enum-told-5 c = search needs
 
 open-body-requires : tie.Need-open-body-requires
-open-body-requires c κs = (begun (c .before .before .before .before .before .before .before .args .text .now) (c .before .before .before .before .before .before .before .args .at) (c .before .before .before .before .before .next .result .start) (c .before .before .before .before .before .next .result .end) Signal (c .before .before .before .token .given .1) (c .enum-told5 .given .1) (c .before .before .before .before .before .next .ensures)) .to
+open-body-requires c κs = (begun (c .before .before .before .before .before .before .before .args .text .now) (c .before .before .before .before .before .before .before .args .at) (c .before .before .before .before .before .next-token .result .start) (c .before .before .before .before .before .next-token .result .end) Signal (c .before .before .before .token .given .1) (c .enum-told5 .given .1) (c .before .before .before .before .before .next-token .ensures)) .to
 
 enum-told-6 : tie.Need-enum-told-6
 enum-told-6 c = search needs
 
 open-body-requires-2 : tie.Need-open-body-requires-2
-open-body-requires-2 c κs = (begun (c .before .before .before .before .before .before .before .args .text .now) (c .before .before .before .before .before .before .before .args .at) (c .before .before .before .before .before .next .result .start) (c .before .before .before .before .before .next .result .end) Trap (c .before .before .before .token .given .1) (c .enum-told6 .given .1) (c .before .before .before .before .before .next .ensures)) .to
+open-body-requires-2 c κs = (begun (c .before .before .before .before .before .before .before .args .text .now) (c .before .before .before .before .before .before .before .args .at) (c .before .before .before .before .before .next-token .result .start) (c .before .before .before .before .before .next-token .result .end) Trap (c .before .before .before .token .given .1) (c .enum-told6 .given .1) (c .before .before .before .before .before .next-token .ensures)) .to
 
 enum-told-7 : tie.Need-enum-told-7
 enum-told-7 c = search needs
@@ -61,7 +61,7 @@ enum-told-8 : tie.Need-enum-told-8
 enum-told-8 c = search needs
 
 open-present-requires : tie.Need-open-present-requires
-open-present-requires c κs = (begun (c .before .before .before .before .before .before .before .args .text .now) (c .before .before .before .before .before .before .before .args .at) (c .before .before .before .before .before .next .result .start) (c .before .before .before .before .before .next .result .end) Present (c .before .before .before .token .given .1) (c .enum-told8 .given .1) (c .before .before .before .before .before .next .ensures)) .to
+open-present-requires c κs = (begun (c .before .before .before .before .before .before .before .args .text .now) (c .before .before .before .before .before .before .before .args .at) (c .before .before .before .before .before .next-token .result .start) (c .before .before .before .before .before .next-token .result .end) Present (c .before .before .before .token .given .1) (c .enum-told8 .given .1) (c .before .before .before .before .before .next-token .ensures)) .to
 
 enum-told-9 : tie.Need-enum-told-9
 enum-told-9 c = search needs
@@ -76,40 +76,40 @@ bare-inside-requires-3 : tie.Need-bare-inside-requires-3
 bare-inside-requires-3 c κs = search needs
 
 returns-2 : tie.Need-returns-2
-returns-2 c = rw (c .bare .ensures) (nothing-read (begun (c .before .before .before .before .before .before .before .before .args .text .now) (c .before .before .before .before .before .before .before .before .args .at) (c .before .before .before .before .before .before .next .result .start) (c .before .before .before .before .before .before .next .result .end) Nothing (c .before .before .before .before .token .given .1) (c .before .enum-told .given .1) (c .before .before .before .before .before .before .next .ensures)))
+returns-2 c = rw (c .bare .ensures) (nothing-read (begun (c .before .before .before .before .before .before .before .before .args .text .now) (c .before .before .before .before .before .before .before .before .args .at) (c .before .before .before .before .before .before .next-token .result .start) (c .before .before .before .before .before .before .next-token .result .end) Nothing (c .before .before .before .before .token .given .1) (c .before .enum-told .given .1) (c .before .before .before .before .before .before .next-token .ensures)))
 
 returns-3 : tie.Need-returns-3
-returns-3 c = rw (c .bare2 .ensures) (pause-read (begun (c .before .before .before .before .before .before .before .before .args .text .now) (c .before .before .before .before .before .before .before .before .args .at) (c .before .before .before .before .before .before .next .result .start) (c .before .before .before .before .before .before .next .result .end) Pause (c .before .before .before .before .token .given .1) (c .before .enum-told2 .given .1) (c .before .before .before .before .before .before .next .ensures)))
+returns-3 c = rw (c .bare2 .ensures) (pause-read (begun (c .before .before .before .before .before .before .before .before .args .text .now) (c .before .before .before .before .before .before .before .before .args .at) (c .before .before .before .before .before .before .next-token .result .start) (c .before .before .before .before .before .before .next-token .result .end) Pause (c .before .before .before .before .token .given .1) (c .before .enum-told2 .given .1) (c .before .before .before .before .before .before .next-token .ensures)))
 
 returns-4 : tie.Need-returns-4
-returns-4 c = emit-begun (c .open-leaf .result) (begun (c .before .before .before .before .before .before .before .before .args .text .now) (c .before .before .before .before .before .before .before .before .args .at) (c .before .before .before .before .before .before .next .result .start) (c .before .before .before .before .before .before .next .result .end) Emit (c .before .before .before .before .token .given .1) (c .before .enum-told3 .given .1) (c .before .before .before .before .before .before .next .ensures)) (c .open-leaf .ensures .0 refl)
+returns-4 c = emit-begun (c .open-leaf .result) (begun (c .before .before .before .before .before .before .before .before .args .text .now) (c .before .before .before .before .before .before .before .before .args .at) (c .before .before .before .before .before .before .next-token .result .start) (c .before .before .before .before .before .before .next-token .result .end) Emit (c .before .before .before .before .token .given .1) (c .before .enum-told3 .given .1) (c .before .before .before .before .before .before .next-token .ensures)) (c .open-leaf .ensures .0 refl)
 
 returns-5 : tie.Need-returns-5
-returns-5 c = exit-begun (c .open-leaf2 .result) (begun (c .before .before .before .before .before .before .before .before .args .text .now) (c .before .before .before .before .before .before .before .before .args .at) (c .before .before .before .before .before .before .next .result .start) (c .before .before .before .before .before .before .next .result .end) Exit (c .before .before .before .before .token .given .1) (c .before .enum-told4 .given .1) (c .before .before .before .before .before .before .next .ensures)) (c .open-leaf2 .ensures .1 refl)
+returns-5 c = exit-begun (c .open-leaf2 .result) (begun (c .before .before .before .before .before .before .before .before .args .text .now) (c .before .before .before .before .before .before .before .before .args .at) (c .before .before .before .before .before .before .next-token .result .start) (c .before .before .before .before .before .before .next-token .result .end) Exit (c .before .before .before .before .token .given .1) (c .before .enum-told4 .given .1) (c .before .before .before .before .before .before .next-token .ensures)) (c .open-leaf2 .ensures .1 refl)
 
 returns-6 : tie.Need-returns-6
-returns-6 c = signal-begun (c .open-body .result) (begun (c .before .before .before .before .before .before .before .before .args .text .now) (c .before .before .before .before .before .before .before .before .args .at) (c .before .before .before .before .before .before .next .result .start) (c .before .before .before .before .before .before .next .result .end) Signal (c .before .before .before .before .token .given .1) (c .before .enum-told5 .given .1) (c .before .before .before .before .before .before .next .ensures)) (c .open-body .ensures .0 refl)
+returns-6 c = signal-begun (c .open-body .result) (begun (c .before .before .before .before .before .before .before .before .args .text .now) (c .before .before .before .before .before .before .before .before .args .at) (c .before .before .before .before .before .before .next-token .result .start) (c .before .before .before .before .before .before .next-token .result .end) Signal (c .before .before .before .before .token .given .1) (c .before .enum-told5 .given .1) (c .before .before .before .before .before .before .next-token .ensures)) (c .open-body .ensures .0 refl)
 
 returns-7 : tie.Need-returns-7
-returns-7 c = trap-begun (c .open-body2 .result) (begun (c .before .before .before .before .before .before .before .before .args .text .now) (c .before .before .before .before .before .before .before .before .args .at) (c .before .before .before .before .before .before .next .result .start) (c .before .before .before .before .before .before .next .result .end) Trap (c .before .before .before .before .token .given .1) (c .before .enum-told6 .given .1) (c .before .before .before .before .before .before .next .ensures)) (c .open-body2 .ensures .1 refl)
+returns-7 c = trap-begun (c .open-body2 .result) (begun (c .before .before .before .before .before .before .before .before .args .text .now) (c .before .before .before .before .before .before .before .before .args .at) (c .before .before .before .before .before .before .next-token .result .start) (c .before .before .before .before .before .before .next-token .result .end) Trap (c .before .before .before .before .token .given .1) (c .before .enum-told6 .given .1) (c .before .before .before .before .before .before .next-token .ensures)) (c .open-body2 .ensures .1 refl)
 
 returns-8 : tie.Need-returns-8
-returns-8 c = rw (c .bare-inside .ensures) (loop-entered (begun (c .before .before .before .before .before .before .before .before .args .text .now) (c .before .before .before .before .before .before .before .before .args .at) (c .before .before .before .before .before .before .next .result .start) (c .before .before .before .before .before .before .next .result .end) Loop (c .before .before .before .before .token .given .1) (c .before .enum-told7 .given .1) (c .before .before .before .before .before .before .next .ensures)))
+returns-8 c = rw (c .bare-inside .ensures) (loop-entered (begun (c .before .before .before .before .before .before .before .before .args .text .now) (c .before .before .before .before .before .before .before .before .args .at) (c .before .before .before .before .before .before .next-token .result .start) (c .before .before .before .before .before .before .next-token .result .end) Loop (c .before .before .before .before .token .given .1) (c .before .enum-told7 .given .1) (c .before .before .before .before .before .before .next-token .ensures)))
 
 returns-9 : tie.Need-returns-9
-returns-9 c = present-begun (c .open-present .result) (begun (c .before .before .before .before .before .before .before .before .args .text .now) (c .before .before .before .before .before .before .before .before .args .at) (c .before .before .before .before .before .before .next .result .start) (c .before .before .before .before .before .before .next .result .end) Present (c .before .before .before .before .token .given .1) (c .before .enum-told8 .given .1) (c .before .before .before .before .before .before .next .ensures)) (c .open-present .ensures)
+returns-9 c = present-begun (c .open-present .result) (begun (c .before .before .before .before .before .before .before .before .args .text .now) (c .before .before .before .before .before .before .before .before .args .at) (c .before .before .before .before .before .before .next-token .result .start) (c .before .before .before .before .before .before .next-token .result .end) Present (c .before .before .before .before .token .given .1) (c .before .enum-told8 .given .1) (c .before .before .before .before .before .before .next-token .ensures)) (c .open-present .ensures)
 
 returns-10 : tie.Need-returns-10
-returns-10 c = rw (c .bare-inside2 .ensures) (suspend-entered (begun (c .before .before .before .before .before .before .before .before .args .text .now) (c .before .before .before .before .before .before .before .before .args .at) (c .before .before .before .before .before .before .next .result .start) (c .before .before .before .before .before .before .next .result .end) Suspend (c .before .before .before .before .token .given .1) (c .before .enum-told9 .given .1) (c .before .before .before .before .before .before .next .ensures)))
+returns-10 c = rw (c .bare-inside2 .ensures) (suspend-entered (begun (c .before .before .before .before .before .before .before .before .args .text .now) (c .before .before .before .before .before .before .before .before .args .at) (c .before .before .before .before .before .before .next-token .result .start) (c .before .before .before .before .before .before .next-token .result .end) Suspend (c .before .before .before .before .token .given .1) (c .before .enum-told9 .given .1) (c .before .before .before .before .before .before .next-token .ensures)))
 
 returns-11 : tie.Need-returns-11
-returns-11 c = rw (c .bare-inside3 .ensures) (bracket-entered (begun (c .before .before .before .before .before .before .before .before .args .text .now) (c .before .before .before .before .before .before .before .before .args .at) (c .before .before .before .before .before .before .next .result .start) (c .before .before .before .before .before .before .next .result .end) Bracket (c .before .before .before .before .token .given .1) (c .before .enum-told10 .given .1) (c .before .before .before .before .before .before .next .ensures)))
+returns-11 c = rw (c .bare-inside3 .ensures) (bracket-entered (begun (c .before .before .before .before .before .before .before .before .args .text .now) (c .before .before .before .before .before .before .before .before .args .at) (c .before .before .before .before .before .before .next-token .result .start) (c .before .before .before .before .before .before .next-token .result .end) Bracket (c .before .before .before .before .token .given .1) (c .before .enum-told10 .given .1) (c .before .before .before .before .before .before .next-token .ensures)))
 
 pub open-spec : {M : Type 1} → statement M
 open-spec =
     tie.close
     (tie.spec
-    next-requires
+    next-token-requires
     enum-known-token
     returns
     enum-told

@@ -4,17 +4,17 @@ use borrow.Author.Needs.{needs}
 use Rattle.scan.proofs.is_finished.Statement.{statement}
 use Rattle.scan.proofs.is_finished.Tie as tie
 
-next-requires : tie.Need-next-requires
-next-requires c κs = search needs
+next-token-requires : tie.Need-next-token-requires
+next-token-requires c κs = search needs
 
 enum-told : tie.Need-enum-told
 enum-told c = search needs
 
 returns : tie.Need-returns
-returns c = finished (c .before .before .before .before .args .text .now) (c .before .before .before .before .args .at) (c .before .before .next .result .start) (c .before .before .next .result .end) (c .enum-told .given .1) (c .before .before .next .ensures)
+returns c = finished (c .before .before .before .before .args .text .now) (c .before .before .before .before .args .at) (c .before .before .next-token .result .start) (c .before .before .next-token .result .end) (c .enum-told .given .1) (c .before .before .next-token .ensures)
 
 returns-2 : tie.Need-returns-2
-returns-2 c = unfinished (c .before .before .before .args .text .now) (c .before .before .before .args .at) (c .before .next .result .start) (c .before .next .result .end) (c .before .next .result .token) (c .match .keys2) (c .before .next .ensures)
+returns-2 c = unfinished (c .before .before .before .args .text .now) (c .before .before .before .args .at) (c .before .next-token .result .start) (c .before .next-token .result .end) (c .before .next-token .result .token) (c .match .keys2) (c .before .next-token .ensures)
 
 pub is-finished-spec : {M : Type 1} → statement M
-is-finished-spec = tie.close (tie.spec next-requires enum-told returns returns-2)
+is-finished-spec = tie.close (tie.spec next-token-requires enum-told returns returns-2)

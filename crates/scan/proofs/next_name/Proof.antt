@@ -4,17 +4,17 @@ use borrow.Author.Needs.{needs}
 use Rattle.scan.proofs.next_name.Statement.{statement}
 use Rattle.scan.proofs.next_name.Tie as tie
 
-next-requires : tie.Need-next-requires
-next-requires c κs = search needs
+next-token-requires : tie.Need-next-token-requires
+next-token-requires c κs = search needs
 
 enum-told : tie.Need-enum-told
 enum-told c = search needs
 
 returns : tie.Need-returns
-returns c = no-name (c .before .before .before .args .text .now) (c .before .before .before .args .at) (c .before .next .result .start) (c .before .next .result .end) (c .before .next .result .token) (c .match .keys2) (c .before .next .ensures)
+returns c = no-name (c .before .before .before .args .text .now) (c .before .before .before .args .at) (c .before .next-token .result .start) (c .before .next-token .result .end) (c .before .next-token .result .token) (c .match .keys2) (c .before .next-token .ensures)
 
 returns-2 : tie.Need-returns-2
-returns-2 c = rw (c .enum-told .given .1) at (c .before .before .next .ensures)
+returns-2 c = rw (c .enum-told .given .1) at (c .before .before .next-token .ensures)
 
 pub next-name-spec : {M : Type 1} → statement M
-next-name-spec = tie.close (tie.spec next-requires enum-told returns returns-2)
+next-name-spec = tie.close (tie.spec next-token-requires enum-told returns returns-2)

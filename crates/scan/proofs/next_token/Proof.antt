@@ -1,4 +1,4 @@
--- `scan::next` meets its contract: blanks, then a word, a bar or a sign.
+-- `scan::next_token` meets its contract: blanks, then a word, a bar or a sign.
 use native.Mathlib.Omega.{arith}
 use mathlib.Core.Path.{sym, _∙_}
 use lib.ListN.{getD}
@@ -6,8 +6,8 @@ use Rattle.grammar.specs.Tokens.{signOf}
 use Rattle.grammar.proofs.Runs.{word-class, bar-class, sign-class}
 use Rattle.scan.proofs.Laws.{rest-past, after-blanks, word-scanned, sign-scanned, sign-step, no-name-sign}
 use borrow.Author.Needs.{needs}
-use Rattle.scan.proofs.next.Statement.{statement}
-use Rattle.scan.proofs.next.Tie as tie
+use Rattle.scan.proofs.next_token.Statement.{statement}
+use Rattle.scan.proofs.next_token.Tie as tie
 
 skip-requires : tie.Need-skip-requires
 skip-requires c κs = search needs
@@ -54,8 +54,8 @@ add-t6 c = search needs
 returns-4 : tie.Need-returns-4
 returns-4 c = let b = getD (c .before .before .before .before .before .before .before .before .args .text .now) (c .before .before .before .before .before .before .skip .result) 0 in after-blanks (c .before .before .before .before .before .before .before .before .args .text .now) _ _ _ _ (c .sign-of .result) (c .before .before .before .before .before .before .skip .ensures) (sign-scanned (c .before .before .before .before .before .before .before .before .args .text .now) _ (c .sign-of .result) (signOf b) (omega arith) (c .sign-of .ensures) (sign-step (c .before .before .before .before .before .before .before .before .args .text .now) _ _ (omega arith) (sign-class b (sym (c .before .before .before .is-in-word .ensures) ∙ c .before .before .if2 .left) (c .before .before .before .before .before .before .skip .ensures .solid (omega arith)) (c .before .if3 .left))) (no-name-sign b))
 
-pub next-spec : {M : Type 1} → statement M
-next-spec =
+pub next-token-spec : {M : Type 1} → statement M
+next-token-spec =
     tie.close
     (tie.spec
     skip-requires
