@@ -1,4 +1,4 @@
--- Only programs that a text can say are read from texts.
+-- Only programs that a text can express are read from texts.
 use mathlib.Core.Path.{_≡_, refl, sym, ap, subst, _∙_}
 use mathlib.Core.Bool.{Bool, true, false, _||_, not}
 use mathlib.Core.List.{List, [], _∷_, _++_}

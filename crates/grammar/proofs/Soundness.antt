@@ -1,4 +1,4 @@
--- Category the machine has read is a beginning of a derivation, so what it accepts has one.
+-- What the machine has read is a beginning of a derivation, so what it accepts has one.
 use mathlib.Core.Path.{_≡_, subst}
 use mathlib.Core.List.{List, [], _∷_}
 use Prim.Native.Nat.{ℕ}

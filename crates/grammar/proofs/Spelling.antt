@@ -1,4 +1,4 @@
--- Category is printed has the tokens that were meant, and they are a derivation's.
+-- What is printed has the tokens that were meant, and they are a derivation's.
 use mathlib.Core.Path.{_≡_, refl, ap, _∙_}
 use mathlib.Core.Bool.{true}
 use mathlib.Core.List.{List, [], _∷_, _++_}

@@ -1,4 +1,4 @@
--- Category a token weighs: the bytes that it takes at least.
+-- What a token weighs: the bytes that it takes at least.
 use Prim.Native.Nat.{ℕ, _+_}
 use mathlib.Core.List.{List, [], _∷_}
 use Rattle.grammar.specs.Tokens.{Token, opening, mark, name, stray, Opening, Mark, nothing, pause, emit, exit, signal, trap, loop, present, suspend, bracket, semicolon, bars, close, in-mark, then, else, end, when}

@@ -8,7 +8,7 @@
 --               | present NAME then sequence else sequence end | present NAME then sequence end | present NAME else sequence end
 --               | "[" branches "]"
 --
--- `Derives what p ts rest`: the tokens ts begin with a statement (a sequence, the branches of a bracket) whose tree is p, and rest are the tokens
+-- `Derives category p ts rest`: the tokens ts begin with a statement (a sequence, the branches of a bracket) whose tree is p, and rest are the tokens
 -- after it. Semicolons and double bars group to the left; a missing branch is nothing.
 use mathlib.Core.List.{List, [], _∷_}
 use Rattle.grammar.specs.Tokens.{Token, opening, mark, name, nothing, pause, emit, exit, signal, trap, loop, present, suspend, bracket, semicolon, bars, close, in-mark, then, else, end, when}

@@ -1,4 +1,4 @@
--- Category a tree with names means, and what a text is told (F-1).
+-- What a tree with names means, and what a text is told (F-1).
 use Prim.Native.Nat.{ℕ, _≤_, _<_}
 use mathlib.Core.Bool.{Bool, false, _||_, not, cond}
 use mathlib.Core.List.{List, [], _∷_}

@@ -1,4 +1,4 @@
--- Category has been written after a part of the text: the bytes of its nodes so far, the signals seen, and whether an exit had no trap.
+-- What has been written after a part of the text: the bytes of its nodes so far, the signals seen, and whether an exit had no trap.
 -- A node's field is told when the node is written, in text order. For the readers' contracts: that this comes to the table of the statement is proved
 -- (proofs/Writing).
 use Prim.Native.Nat.{ℕ}

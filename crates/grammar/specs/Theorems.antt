@@ -1,4 +1,4 @@
--- Category is proved of the grammar and of what texts mean (F-1): the statements alone. The proofs are in proofs/.
+-- What is proved of the grammar and of what texts mean (F-1): the statements, each after what it speaks of. The proofs are in proofs/.
 use Prim.Native.Nat.{ℕ, _≤_, _<_}
 use mathlib.Core.Path.{_≡_}
 use mathlib.Core.Logic.{_↔_}
@@ -116,7 +116,7 @@ InOrder = (ts : List Token) (t : Tree) → Program t ts → signals t ≡ seeAll
 unfoldable pub Nesting : Type 0
 Nesting = (text : List ℕ) (t : Tree) → length text ≤ maxSource → Program t (tokens text) → levels t < maxLevels
 
--- Round trip: what is printed of a program that a text can say is read as that program, to which then only checks 8 and 9 are left.
+-- Round trip: what is printed of a program that a text can express is read as that program, to which then only checks 8 and 9 are left.
 unfoldable pub RoundTrip : Type 0
 RoundTrip =
     (p : Stmt) → Expressible p → size p ≤ maxNodes → metIn 0 p ≤ maxSignals → length (printed p) ≤ maxSource →
