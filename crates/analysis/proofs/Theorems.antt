@@ -44,10 +44,10 @@ checked-passed true t p e = sym (checked-room t) ∙ e
 checked-passed false t p e = let z = length-passed t (refused 3 0) p e in cc
 
 -- a refusal of checks 1 to 11
-pub checked-told : (room : Bool) (t : List ℕ) → Told (checked room t)
+pub checked-told : (room : Bool) (t : List ℕ) → Told 11 (checked room t)
 unfolding checked
-checked-told true t = length-told t _ (program-told t)
-checked-told false t = length-told t _ (λ h. refuses 3 0 record { some = omega arith; known = omega arith; within = omega arith })
+checked-told true t = length-told t _ 11 (omega arith) (program-told t)
+checked-told false t = length-told t _ 11 (omega arith) (λ h. refuses 3 0 record { some = omega arith; known = omega arith; within = omega arith })
 
 -- an answer is of one verdict
 refused-of : (v : Verdict) (number node : ℕ) → Refused number node ≡ answerOf v → v ≡ refused number node
@@ -144,7 +144,7 @@ module _ {t k a s m k′ a′ s′ m′ : List ℕ} {number node : ℕ} (o : Ana
   unfolding column
   unchanged =
       let v = refused-of (verdictFor t k a s m) number node (o .answer) in
-      let told = told-numbered (subst Told v (checked-told _ t)) in
+      let told = told-numbered (subst (Told 11) v (checked-told _ t)) in
       record {
         some = told .some;
         known = told .known;

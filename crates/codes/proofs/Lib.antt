@@ -1,5 +1,6 @@
 pub mod Bools
 pub mod Members
+pub mod Catching
 pub mod Bits
 pub mod WordBits
 pub mod Ends

@@ -1,6 +1,7 @@
 // Sets of completion codes, each held in a u64: bit k is 1 where code k is in the set.
 ghost use mathlib.Core.Path.{_≡_};
 ghost use Prim.Native.Nat.{_+_, _<_};
+ghost use Rattle.codes.specs.Codes.{catchCode};
 ghost use Rattle.codes.specs.Words.{_∋_, singletonOf, unionOf, withoutEndedOf, meetsOf, lowestOf, highestOf, largerOf, parallelOf, caughtOf, underTrapOf, underParallelOf, spanOf};
 
 // A code of a set, or that the set has none.
@@ -29,6 +30,19 @@ pub fn union(a: u64, b: u64) -> u64
     ensures { λ r. ⌜ r ≡ unionOf a b ⌝ }
 {
     a | b
+}
+
+// What a trap makes of a code.
+pub fn catch_code(code: usize) -> usize
+    ensures { λ r. ⌜ r ≡ catchCode code ⌝ }
+{
+    if code < 2 {
+        return code;
+    }
+    if code == 2 {
+        return 0;
+    }
+    code - 1
 }
 
 // The set without code 0: what is left once the statement has ended.

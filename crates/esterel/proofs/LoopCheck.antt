@@ -4,7 +4,7 @@ use mathlib.Core.Logic.{_↔_}
 use mathlib.Core.Bool.{Bool, true, false, cond}
 use mathlib.Core.Option.{Option, none, some}
 use mathlib.Core.List.{List, [], _∷_}
-use Prim.Native.Nat.{ℕ, zero, suc, _+_, _-_, _<_}
+use Prim.Native.Nat.{ℕ, zero, suc, _+_, _<_}
 use native.Mathlib.Decide.{decLt}
 use native.Mathlib.Omega.{arith}
 use lib.ListN.{length, getD, List·getD-eq-default}
@@ -12,11 +12,12 @@ use Rattle.codes.proofs.Bools.{cannot-pass}
 use Rattle.esterel.specs.Statement.{nothing, signal, suspend, loop, trap, Stmt, leaf, one, two, nodes}
 use Rattle.esterel.specs.Codes.{empty}
 use Rattle.esterel.specs.Sets.{startSet, Place, at, stmtOf, placesOf, outside, placeAt}
-use Rattle.esterel.specs.Table.{passed, refused}
-use Rattle.esterel.specs.Checks.{endsAtOnce, firstNode, refuseAt, checkProgram, verdict}
+use Rattle.esterel.specs.Table.{Verdict, passed, refused, read}
+use Rattle.esterel.specs.Checks.{tooDeep, tooManyTraps, uncaught, endsAtOnce, firstNode, refuseAt, checkProgram, verdict}
 use Rattle.esterel.specs.Outcome.{statementAt}
 use Rattle.esterel.specs.Theorems.{WellFormed, EndedInK, LowestLoop, NoLoop}
 use Rattle.esterel.proofs.Accepted.{place-statement}
+use Rattle.esterel.proofs.Refusals.{Told, told-numbered, read-told}
 
 -- ---- the lowest node for which a test holds, of the places from n on
 
@@ -90,7 +91,7 @@ false-not-true : {b : Bool} → b ≡ false → b ≡ true → ⊥
 false-not-true e f = let z : _≡_ {A = ℕ} 0 1 = cc in omega arith
 
 -- a loop is one of the nodes
-loop-within : (p : Stmt) (i : ℕ) (q : Stmt) → statementAt (nodes p) i ≡ one loop q → i < length (placesOf p)
+pub loop-within : (p : Stmt) (i : ℕ) (q : Stmt) → statementAt (nodes p) i ≡ one loop q → i < length (placesOf p)
 loop-within p i q is = go (decLt i (length (placesOf p)))
   where
     go : Dec (i < length (placesOf p)) → i < length (placesOf p)
@@ -159,6 +160,26 @@ module _ {bytes : List ℕ} {p : Stmt} (w : WellFormed bytes p) where
     λ e. no-loop p (passed-none _ (sym decides ∙ e)),
     λ f. decides ∙ ap (λ o. refuseAt 11 o (passed p)) (loop-none p f),
   )
+
+-- ---- the checks before it: reading refuses by numbers up to 7, and 8 to 10 by theirs
+
+other-number : {a number n node : ℕ} → (a ≡ number → ⊥) → refused a n ≡ refused number node → ⊥
+other-number d e = d cc
+
+passed-by : (number n : ℕ) (o : Option ℕ) (next : Verdict) (node : ℕ) → (number ≡ n → ⊥) → refuseAt number o next ≡ refused n node → (o ≡ none) × (next ≡ refused n node)
+passed-by number n none next node d e = (refl, e)
+passed-by number n (some m) next node d e = absurd (other-number d e)
+
+pub well-formed : (bytes : List ℕ) (i : ℕ) → verdict bytes ≡ refused 11 i → (p : Stmt) × WellFormed bytes p
+well-formed bytes i e = go (read bytes) refl (read-told bytes) e
+  where
+    go : (v : Verdict) → read bytes ≡ v → Told 7 v → checkProgram v ≡ refused 11 i → (p : Stmt) × WellFormed bytes p
+    go (refused number node) r told z = absurd (other-number (λ y. omega (arith, told-numbered told .known)) z)
+    go (passed p) r told z =
+        let (depths, z) = passed-by 8 11 (firstNode tooDeep (placesOf p) 0) _ i (λ y. omega arith) z in
+        let (traps, z) = passed-by 9 11 (firstNode tooManyTraps (placesOf p) 0) _ i (λ y. omega arith) z in
+        let (exits, z) = passed-by 10 11 (firstNode uncaught (placesOf p) 0) _ i (λ y. omega arith) z in
+        (p, record { reads = r; depths = depths; traps = traps; exits = exits })
 
 -- ---- another way to say what is asked of the bodies
 

@@ -24,7 +24,7 @@ use Rattle.esterel.proofs.Answers.{reach, start-decides, resume-decides
 use Rattle.esterel.proofs.Admitted.{admitted-holds, admitted-fits, admits}
 use Rattle.esterel.proofs.Reading.{reads-only, reads-back}
 use Rattle.esterel.proofs.Accepted.{ends-not, exits-in}
-use Rattle.esterel.proofs.LoopCheck.{refuses-lowest, accepts-none, lowest-as, none-as}
+use Rattle.esterel.proofs.LoopCheck.{refuses-lowest, accepts-none, well-formed, lowest-as, none-as}
 use Rattle.esterel.proofs.Subtrees.{all-go-on}
 
 pub reading : Reading
@@ -70,6 +70,7 @@ loopCheck =
       acceptsExactly = λ bytes p w.
           (let (there, back) = accepts-none w in
           (λ e. none-as ended-ends ends-ended p (there e), λ f. back (none-as ends-ended ended-ends p f)));
+      wellFormed = well-formed;
     }
 
 pub leftOver : LeftOver

@@ -96,12 +96,13 @@ abbrev pub NoLoop : (p : Stmt) → (ℕ → Stmt → Type 0) → Type 0
 NoLoop p Such = (j : ℕ) (q : Stmt) → statementAt (nodes p) j ≡ one loop q → Such (j - size q) q → ⊥
 
 -- such a table is refused, at the lowest such loop, exactly if a body has 0 in K, hence exactly if a body can end at once; else it is
--- accepted
+-- accepted. No other table is refused by check 11.
 pub record LoopCheck : Type 0 where
   pub refuses : (bytes : List ℕ) (p : Stmt) → WellFormed bytes p → (i : ℕ) → (verdict bytes ≡ refused 11 i) ↔ LowestLoop p EndedInK i
   pub refusesExactly : (bytes : List ℕ) (p : Stmt) → WellFormed bytes p → (i : ℕ) → (verdict bytes ≡ refused 11 i) ↔ LowestLoop p EndsAtOnce i
   pub accepts : (bytes : List ℕ) (p : Stmt) → WellFormed bytes p → (verdict bytes ≡ passed p) ↔ NoLoop p EndedInK
   pub acceptsExactly : (bytes : List ℕ) (p : Stmt) → WellFormed bytes p → (verdict bytes ≡ passed p) ↔ NoLoop p EndsAtOnce
+  pub wellFormed : (bytes : List ℕ) (i : ℕ) → verdict bytes ≡ refused 11 i → (p : Stmt) × WellFormed bytes p
 
 -- A refusal of a table has a number from 1 to 11 and a node that a table can have.
 abbrev pub Refusals : Type 0

@@ -2,7 +2,6 @@ pub mod Sets
 pub mod Small
 pub mod Algebra
 pub mod Nodes
-pub mod Views
 pub mod Starts
 pub mod Returns
 pub mod Bytes

@@ -1,20 +1,20 @@
--- What is known at a node of an accepted table: its first node, what a start of it keeps, and the statements beneath it.
+-- What is known at a node of an accepted table: what a start or a resumption of it keeps.
 use mathlib.Core.Path.{_≡_, sym, ap, _∙_}
 use mathlib.Core.Bool.{Bool, true, false, cond, _||_}
 use mathlib.Core.List.{List, []}
-use Prim.Native.Nat.{ℕ, suc, zero, _+_, _-_, _*_, _%_, _<_, _≤_}
+use Prim.Native.Nat.{ℕ, suc, zero, _+_, _*_, _%_, _<_, _≤_}
 use native.Mathlib.Nat.{max-le, mul-le-mul}
 use native.Mathlib.Omega.{arith}
 use lib.Dec.{eqb, ltb}
-use lib.ListN.{length, getD}
+use lib.ListN.{length}
 use Rattle.esterel.specs.Limits.{maxNodes}
-use Rattle.esterel.specs.Statement.{nothing, pause, emit, exit, Unary, signal, suspend, loop, trap, Binary, Stmt, leaf, one, two, size, nodes, trapsUnder, loopsUnder, loopDepth}
+use Rattle.esterel.specs.Statement.{nothing, pause, emit, exit, Unary, signal, suspend, loop, trap, Stmt, leaf, one, two, size, nodes, trapsUnder, loopsUnder, loopDepth}
 use Rattle.esterel.specs.Sets.{startSet}
 use Rattle.esterel.specs.Table.{passed, refused, scan, read}
 use Rattle.esterel.specs.Checks.{checkProgram, planned}
 use Rattle.esterel.specs.Instant.{Result, start, resume, admitted}
 use Rattle.esterel.specs.Theorems.{Accepted}
-use Rattle.esterel.proofs.Sizes.{size-pos, load, load-planned}
+use Rattle.esterel.proofs.Sizes.{load, load-planned}
 use Rattle.esterel.proofs.Held.{Fits, fits-length}
 use Rattle.esterel.proofs.Nodes.{Sits, sits}
 use Rattle.esterel.proofs.Run.{Run, ran, asked, noRule}
@@ -23,7 +23,7 @@ use Rattle.esterel.proofs.Low.{Exits, Low}
 use Rattle.esterel.proofs.Resume.{resume-run}
 use Rattle.esterel.proofs.Admitted.{admitted-fits, admitted-holds}
 use Rattle.esterel.proofs.Accepted.{ends-not}
-use Rattle.esterel.proofs.Subtrees.{only-child, two-children, subtrees}
+use Rattle.esterel.proofs.Subtrees.{subtrees}
 use Rattle.table.specs.Program.{programOf}
 use Rattle.instant.specs.Run.{stmtAt, firstAt, Runnable}
 use Rattle.instant.proofs.Algebra.{Sized, Few, Quiet}
@@ -108,10 +108,6 @@ module _ {t sizes : List ℕ} (ok : Runnable t sizes) where
   accepted = sym (ap checkProgram (scans t (programOf t) (ok .measured .readable .reads))) ∙ ok .verdict
 
   module _ (j : ℕ) (h : j < size (programOf t)) where
-    -- a node ends its subtree
-    pub spans : firstAt t j + size (stmtAt t j) ≡ suc j
-    spans = let (pre, post, is, len) = subtrees .piece (programOf t) j h in omega arith
-
     sits-at : Sits (nodes (programOf t)) (firstAt t j) (stmtAt t j)
     sits-at =
         let (pre, post, is, len) = subtrees .piece (programOf t) j h in
@@ -140,50 +136,3 @@ module _ {t sizes : List ℕ} (ok : Runnable t sizes) where
 
       pub resume-quiet : Quiet (resume (firstAt t j) (stmtAt t j) bytes ans)
       resume-quiet = let (x, e) = exits-enough (stmtAt t j) in run-quiet (resumes x e)
-
--- one statement beneath a node; s is its size
-pub record Over (t : List ℕ) (i s : ℕ) (u : Unary) (p : Stmt) : Type 0 where
-  pub is : stmtAt t i ≡ one u p
-  pub child : stmtAt t (i - 1) ≡ p
-  pub first : firstAt t (i - 1) ≡ firstAt t i
-  pub ends : firstAt t i + size p ≡ i
-  pub sized : s ≡ size p
-  pub some : 0 < size p
-
--- two; s is the size of the second
-pub record Both (t : List ℕ) (i s : ℕ) (b : Binary) (p q : Stmt) : Type 0 where
-  pub is : stmtAt t i ≡ two b p q
-  pub left : stmtAt t (i - 1 - s) ≡ p
-  pub right : stmtAt t (i - 1) ≡ q
-  pub first : firstAt t (i - 1 - s) ≡ firstAt t i
-  pub second : firstAt t (i - 1) ≡ firstAt t i + size p
-  pub ends : firstAt t i + (size p + size q) ≡ i
-  pub sized : s ≡ size q
-  pub some-left : 0 < size p
-  pub some-right : 0 < size q
-
-module _ {t sizes : List ℕ} (ok : Runnable t sizes) (i : ℕ) (h : i < size (programOf t)) where
-  pub over : (s : ℕ) (u : Unary) (p : Stmt) → s ≡ getD sizes (i - 1) 0 → stmtAt t i ≡ one u p → Over t i s u p
-  over s u p es e =
-      let (le, c) = only-child (programOf t) i u p e in
-      let pos = size-pos p in
-      let here = spans ok i h in
-      let here-size = ap size e in
-      let there = spans ok (i - 1) (omega arith) in
-      let there-size = ap size c in
-      record { is = e; child = c; first = omega arith; ends = omega arith; sized = es ∙ ok .measured .sized (i - 1) (omega arith) ∙ there-size; some = pos }
-
-  pub both : (s : ℕ) (b : Binary) (p q : Stmt) → s ≡ getD sizes (i - 1) 0 → stmtAt t i ≡ two b p q → Both t i s b p q
-  both s b p q es e =
-      let (le, r, l) = two-children (programOf t) i b p q e in
-      let pos = size-pos p in
-      let pos′ = size-pos q in
-      let sz : s ≡ size q = es ∙ ok .measured .sized (i - 1) (omega arith) ∙ ap size r in
-      let l′ : stmtAt t (i - 1 - s) ≡ p = rw sz l in
-      let here = spans ok i h in
-      let here-size = ap size e in
-      let last = spans ok (i - 1) (omega arith) in
-      let last-size = ap size r in
-      let first = spans ok (i - 1 - s) (omega arith) in
-      let first-size = ap size l′ in
-      record { is = e; left = l′; right = r; first = omega arith; second = omega arith; ends = omega arith; sized = sz; some-left = pos; some-right = pos′ }

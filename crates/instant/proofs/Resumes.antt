@@ -25,8 +25,8 @@ use Rattle.instant.specs.declared.Ran.the-variants.{Closed, Starved}
 use Rattle.instant.proofs.Sets.{Zero}
 use Rattle.instant.proofs.Bytes.{part-at, sets-same, zero-part, own-one-at, own-two-at, holds-counted}
 use Rattle.instant.proofs.Algebra.{Sized, Quiet, entries-le, held-behind, drop-behind, ended-zero}
-use Rattle.instant.proofs.Nodes.{spans, load-le, start-sized, resume-sized, resume-few, resume-quiet, Over, Both}
-use Rattle.instant.proofs.Views.{kind-is, leaf-of, one-of, two-of}
+use Rattle.instant.proofs.Nodes.{load-le, start-sized, resume-sized, resume-few, resume-quiet}
+use Rattle.table.proofs.Views.{spans, Over, Both, kind-is, leaf-of, one-of, two-of}
 use Rattle.instant.proofs.Starts.{start-as, sized-as}
 use Rattle.instant.proofs.Returns.{closed-of, left-as, room-after}
 use Rattle.instant.proofs.Again.{around, Asking, asking, asked-le, goes-in, stays-out, one-left, loop-again, right-only, left-done, sequence-both, parallel-both}
@@ -79,7 +79,7 @@ ended-of b Starved e = absurd (false≢true (right b e))
 -- the entries of a resumption are few
 pub few-resumed : {t sizes counts answers h h′ e e′ : List ℕ} {r : Ran} (j k : ℕ) → Runnable t sizes → j < size (programOf t) → Holding t counts h j → Resumed t answers h h′ e e′ j k r → entriesOf r ≤ 1049600
 few-resumed {t = t} {answers = answers} {h = h} j k ok lt hd o =
-    omega (arith, entries-le (load (stmtAt t j)) (resume-few ok j lt (bytesAt t h j) (hd .state) (drop k answers)) o, load-le (stmtAt t j) 1024 (omega (arith, spans ok j lt, few-nodes t (ok .measured .readable))))
+    omega (arith, entries-le (load (stmtAt t j)) (resume-few ok j lt (bytesAt t h j) (hd .state) (drop k answers)) o, load-le (stmtAt t j) 1024 (omega (arith, spans t j lt, few-nodes t (ok .measured .readable))))
 
 module _ {t sizes counts answers held em : List ℕ} {node taken : ℕ} (ok : Runnable t sizes) (room : Room t answers held em node taken) (hd : Holding t counts held node) where
   -- the node's statement and its bytes
@@ -110,12 +110,12 @@ module _ {t sizes counts answers held em : List ℕ} {node taken : ℕ} (ok : Ru
   -- the counts at a node j beneath this one, and what they tell
   pub test-call : (j : ℕ) → j ≤ node → (j < length sizes) × (getD sizes j 0 ≤ j + 1) × (j + 1 < length counts)
   test-call j le =
-      (omega (arith, room .within, ok .measured .listed), omega (arith, ok .measured .sized j (omega (arith, room .within)), spans ok j (omega (arith, room .within))), omega (arith, room .within, hd .listed))
+      (omega (arith, room .within, ok .measured .listed), omega (arith, ok .measured .sized j (omega (arith, room .within)), spans t j (omega (arith, room .within))), omega (arith, room .within, hd .listed))
 
   test-is : {f : ℕ} {w : Stmt} (j : ℕ) → stmtAt t j ≡ w → firstAt t j ≡ f → firstAt t node ≤ f → j < node → holds (part f w held) ≡ holdsBeneath sizes counts j
   test-is {f} {w} j ew ef lo hi =
       let sized : getD sizes j 0 ≡ size w = ok .measured .sized j (omega (arith, room .within)) ∙ ap size ew in
-      let ends : f + size w ≡ j + 1 = omega (arith, spans ok j (omega (arith, room .within)), ap size ew) in
+      let ends : f + size w ≡ j + 1 = omega (arith, spans t j (omega (arith, room .within)), ap size ew) in
       let begins : f ≡ j + 1 - getD sizes j 0 = omega arith in
       holds-counted counts held f (size w) (omega (arith, room .within, room .places)) (λ a b c. hd .counted a (omega arith) (omega arith))
       ∙ ap₂ (λ a b. ltb (getD counts a 0) (getD counts b 0)) begins ends
@@ -124,7 +124,7 @@ module _ {t sizes counts answers held em : List ℕ} {node taken : ℕ} (ok : Ru
     -- a pause
     pub leaf-returns : {held′ : List ℕ} {r : Ran} → n ≡ 0 → held′ ≡ set held node 0 → r ≡ alone 0 taken → Resumed t answers held held′ em em node taken r
     leaf-returns {held′} z st er =
-        let (l, e) = leaf-of ok (room .within) ek en z in
+        let (l, e) = leaf-of (ok .measured) (room .within) ek en z in
         rw er (leaf-holds (here-fits e) (here-holds e) (λ is. go (e ∙ ap leaf is)))
       where
         go : stmtAt t node ≡ leaf pause → Resumed t answers held held′ em em node taken (alone 0 taken)
@@ -159,28 +159,28 @@ module _ {t sizes counts answers held em : List ℕ} {node taken : ℕ} (ok : Ru
 
         pub asked-returns : hasEnded w ≡ false → Resumed t answers held held em em node taken w
         asked-returns go =
-            let (u, p, v) = one-of ok (room .within) ek en es z in
+            let (u, p, v) = one-of (ok .measured) (room .within) ek en es z in
             let same = sets-same held (firstAt t node) (suc (size p)) (omega (arith, v .ends, room .within, room .places)) in
-            here-is (v .is) (stays-out (firstAt t node) u p (part (firstAt t node) (one u p) held) w (v .ends) (v .is) same (ap isSuspend (kind-is ok (room .within) ek en (v .is))) go asking-here)
+            here-is (v .is) (stays-out (firstAt t node) u p (part (firstAt t node) (one u p) held) w (v .ends) (v .is) same (ap isSuspend (kind-is (ok .measured) (room .within) ek en (v .is))) go asking-here)
 
         -- the child is resumed, with j answers taken
         module _ (go : hasEnded w ≡ true) {j : ℕ} (ej : j ≡ takenAfter w) where
           goes : {u : Unary} {p : Stmt} (v : Over t node s u p) → resume (firstAt t node) (one u p) (part (firstAt t node) (one u p) held) (drop taken answers) ≡ around u (firstAt t node) p (resume (firstAt t node) p (first p (part (firstAt t node) (one u p) held)) (drop j answers))
-          goes {u} {p} v = rw ej (goes-in (firstAt t node) u p (part (firstAt t node) (one u p) held) w (ap isSuspend (kind-is ok (room .within) ek en (v .is))) go asking-here)
+          goes {u} {p} v = rw ej (goes-in (firstAt t node) u p (part (firstAt t node) (one u p) held) w (ap isSuspend (kind-is (ok .measured) (room .within) ek en (v .is))) go asking-here)
 
           goes-sized : {u : Unary} {p : Stmt} (v : Over t node s u p) → Sized (suc (size p)) (around u (firstAt t node) p (resume (firstAt t node) p (first p (part (firstAt t node) (one u p) held)) (drop j answers)))
           goes-sized v = rw (goes v) at (here-sized (v .is) (drop taken answers))
 
           pub child-call : Runnable t sizes × Room t answers held em (node - 1) j × Holding t counts held (node - 1)
           child-call =
-              let (u, p, v) = one-of ok (room .within) ek en es z in
+              let (u, p, v) = one-of (ok .measured) (room .within) ek en es z in
               beneath (node - 1) j (v .first) (v .child) (state-in p (child-part v) (child-state v)) (omega arith) (omega (arith, v .ends, v .some)) (rw ej (asked-le w go (room .lent) asking-here))
 
           module _ {x : Ran} {mid emid : List ℕ} (o : Resumed t answers held mid em emid (node - 1) j x) where
             pub child-returns : {held′ : List ℕ} {r : Ran} → (isLoop k && hasEnded x) ≡ false → Left k x (node - s) node mid held′ r → Resumed t answers held held′ em emid node taken r
             child-returns lo l =
-                let (u, p, v) = one-of ok (room .within) ek en es z in
-                let e = kind-is ok (room .within) ek en (v .is) in
+                let (u, p, v) = one-of (ok .measured) (room .within) ek en es z in
+                let e = kind-is (ok .measured) (room .within) ek en (v .is) in
                 let (answer, state) = left-as v e l in
                 rw answer
                 (here-is (v .is)
@@ -191,7 +191,7 @@ module _ {t sizes counts answers held em : List ℕ} {node taken : ℕ} (ok : Ru
               pub body-call : Runnable t sizes × Room t answers mid emid (node - 1) i × Clear t mid (node - 1)
               unfolding Clear
               body-call =
-                  let (u, p, v) = one-of ok (room .within) ek en es z in
+                  let (u, p, v) = one-of (ok .measured) (room .within) ek en es z in
                   let (c, h, l, e, ended) = ended-of (isLoop k) x lo in
                   let d = child-is v j (rw e at o) in
                   let quiet = requiet (first p (part (firstAt t node) (one u p) held)) (v .first) (v .child) (drop j answers) (resume-quiet ok (node - 1) (omega (arith, v .ends, v .some, room .within)) _ (state-of (first p (part (firstAt t node) (one u p) held)) (sym (v .child)) (child-state v)) (drop j answers)) in
@@ -203,8 +203,8 @@ module _ {t sizes counts answers held em : List ℕ} {node taken : ℕ} (ok : Ru
 
               pub loop-returns : {held′ em′ : List ℕ} {r r′ : Ran} → Started t answers mid held′ emid em′ (node - 1) i r → r′ ≡ oneMore (both x r) → Resumed t answers held held′ em em′ node taken r′
               loop-returns d er =
-                  let (u, p, v) = one-of ok (room .within) ek en es z in
-                  let e = kind-is ok (room .within) ek en (v .is) in
+                  let (u, p, v) = one-of (ok .measured) (room .within) ek en es z in
+                  let e = kind-is (ok .measured) (room .within) ek en (v .is) in
                   let k = takenAfter x in
                   rw er
                   (here-is (v .is)
@@ -251,12 +251,12 @@ module _ {t sizes counts answers held em : List ℕ} {node taken : ℕ} (ok : Ru
 
           pub right-call : Runnable t sizes × Room t answers held em (node - 1) taken × Holding t counts held (node - 1)
           right-call =
-              let (b, p, q, v) = two-of ok (room .within) ek en es z y in
+              let (b, p, q, v) = two-of (ok .measured) (room .within) ek en es z y in
               beneath (node - 1) taken (v .second) (v .right) (state-in q (right-part v) (right-state v (holds-right v))) (omega arith) (omega (arith, v .ends, v .some-right)) (room .lent)
 
           pub right-returns : {held′ em′ : List ℕ} {r r′ : Ran} → Resumed t answers held held′ em em′ (node - 1) taken r → r′ ≡ oneMore r → Resumed t answers held held′ em em′ node taken r′
           right-returns o er =
-              let (b, p, q, v) = two-of ok (room .within) ek en es z y in
+              let (b, p, q, v) = two-of (ok .measured) (room .within) ek en es z y in
               rw er
               (here-is (v .is)
               (right-only (two-own v) (part (firstAt t node) (two b p q) held) taken (room .lent) p q (v .ends) b (v .is) (holds-left v ∙ h) (holds-right v) (left-zero v (holds-left v ∙ h)) (here-sized (v .is) (drop taken answers))
@@ -266,7 +266,7 @@ module _ {t sizes counts answers held em : List ℕ} {node taken : ℕ} (ok : Ru
         module _ (h : a ≡ true) where
           pub left-call : Runnable t sizes × Room t answers held em (node - 1 - s) taken × Holding t counts held (node - 1 - s)
           left-call =
-              let (b, p, q, v) = two-of ok (room .within) ek en es z y in
+              let (b, p, q, v) = two-of (ok .measured) (room .within) ek en es z y in
               beneath (node - 1 - s) taken (v .first) (v .left) (state-in p (left-part v) (left-state v (holds-left v ∙ h))) (omega arith) (omega (arith, v .ends, v .some-right)) (room .lent)
 
           module _ {x : Ran} {mid emid : List ℕ} (o : Resumed t answers held mid em emid (node - 1 - s) taken x) {d : Bool} (ed : d ≡ holdsBeneath sizes counts (node - 1)) where
@@ -277,14 +277,14 @@ module _ {t sizes counts answers held em : List ℕ} {node taken : ℕ} (ok : Ru
             second-test v = ap holds (right-part v) ∙ test-is (node - 1) (v .right) (v .second) (omega arith) (omega (arith, v .ends, v .some-right)) ∙ sym ed
 
             done-as : {b : Binary} {p q : Stmt} {f : Bool} (v : Both t node s b p q) → doneAfter k x d ≡ f → doneAfter (kindOf (kind (two b p q))) x (holds (second p q (part (firstAt t node) (two b p q) held))) ≡ f
-            done-as v e = ap₂ (λ i g. doneAfter i x g) (kind-is ok (room .within) ek en (v .is)) (second-test v) ∙ e
+            done-as v e = ap₂ (λ i g. doneAfter i x g) (kind-is (ok .measured) (room .within) ek en (v .is)) (second-test v) ∙ e
 
             apart-as : {b : Binary} {p q : Stmt} (v : Both t node s b p q) → apart b true (holds (second p q (part (firstAt t node) (two b p q) held))) ≡ true
             apart-as {b = b} {p = p} {q = q} v = ap (λ g. apart b g (holds (second p q (part (firstAt t node) (two b p q) held)))) (sym (holds-left v ∙ h)) ∙ apart-of (here-fits (v .is))
 
             pub done-returns : {r : Ran} → doneAfter k x d ≡ true → r ≡ oneMore x → Resumed t answers held mid em emid node taken r
             done-returns dn er =
-                let (b, p, q, v) = two-of ok (room .within) ek en es z y in
+                let (b, p, q, v) = two-of (ok .measured) (room .within) ek en es z y in
                 rw er
                 (here-is (v .is)
                 (left-done (two-own v) (part (firstAt t node) (two b p q) held) taken (room .lent) p q (v .ends) (holds-left v ∙ h) (left-fit v) b x (v .is) (here-sized (v .is) (drop taken answers)) (apart-as v) (done-as v dn) (right-zero v) (left-is v taken o)))
@@ -296,8 +296,8 @@ module _ {t sizes counts answers held em : List ℕ} {node taken : ℕ} (ok : Ru
                 pub start-call : Runnable t sizes × Room t answers mid emid (node - 1) j × Clear t mid (node - 1)
                 unfolding Clear
                 start-call =
-                    let (b, p, q, v) = two-of ok (room .within) ek en es z y in
-                    let none = sequence-none b p q (holds (second p q (part (firstAt t node) (two b p q) held))) (apart-as v) (ap isSequence (kind-is ok (room .within) ek en (v .is)) ∙ sq) in
+                    let (b, p, q, v) = two-of (ok .measured) (room .within) ek en es z y in
+                    let none = sequence-none b p q (holds (second p q (part (firstAt t node) (two b p q) held))) (apart-as v) (ap isSequence (kind-is (ok .measured) (room .within) ek en (v .is)) ∙ sq) in
                     let (c, g, l, e) = closed-of k d x dn in
                     let done = left-is v taken (rw e at o) in
                     rw (ej ∙ ap takenAfter e) (
@@ -308,10 +308,10 @@ module _ {t sizes counts answers held em : List ℕ} {node taken : ℕ} (ok : Ru
 
                 pub sequence-returns : {held′ em′ : List ℕ} {r r′ : Ran} → Started t answers mid held′ emid em′ (node - 1) j r → r′ ≡ oneMore (both x r) → Resumed t answers held held′ em em′ node taken r′
                 sequence-returns st er =
-                    let (b, p, q, v) = two-of ok (room .within) ek en es z y in
+                    let (b, p, q, v) = two-of (ok .measured) (room .within) ek en es z y in
                     rw er
                     (here-is (v .is)
-                    (sequence-both (two-own v) (part (firstAt t node) (two b p q) held) taken (room .lent) p q (v .ends) (holds-left v ∙ h) (left-fit v) b x (v .is) (here-sized (v .is) (drop taken answers)) (ap isSequence (kind-is ok (room .within) ek en (v .is)) ∙ sq) (done-as v dn) (left-is v taken o) (start-as (v .second) (v .right) (drop (takenAfter x) answers) (rw ej at st))))
+                    (sequence-both (two-own v) (part (firstAt t node) (two b p q) held) taken (room .lent) p q (v .ends) (holds-left v ∙ h) (left-fit v) b x (v .is) (here-sized (v .is) (drop taken answers)) (ap isSequence (kind-is (ok .measured) (room .within) ek en (v .is)) ∙ sq) (done-as v dn) (left-is v taken o) (start-as (v .second) (v .right) (drop (takenAfter x) answers) (rw ej at st))))
 
               -- a parallel resumes it, whose bytes are as they were
               module _ (sq : isSequence k ≡ false) where
@@ -322,7 +322,7 @@ module _ {t sizes counts answers held em : List ℕ} {node taken : ℕ} (ok : Ru
 
                 pub second-call : Runnable t sizes × Room t answers mid emid (node - 1) j × Holding t counts mid (node - 1)
                 second-call =
-                    let (b, p, q, v) = two-of ok (room .within) ek en es z y in
+                    let (b, p, q, v) = two-of (ok .measured) (room .within) ek en es z y in
                     let (c, g, l, e) = closed-of k d x dn in
                     let some = second-test v ∙ parallel-holds k c g l d sq (ap (λ i. doneAfter k i d) (sym e) ∙ dn) in
                     let done = left-is v taken (rw e at o) in
@@ -340,8 +340,8 @@ module _ {t sizes counts answers held em : List ℕ} {node taken : ℕ} (ok : Ru
 
                 pub parallel-returns : {held′ em′ : List ℕ} {r r′ : Ran} → Resumed t answers mid held′ emid em′ (node - 1) j r → r′ ≡ oneMore (both x r) → Resumed t answers held held′ em em′ node taken r′
                 parallel-returns st er =
-                    let (b, p, q, v) = two-of ok (room .within) ek en es z y in
+                    let (b, p, q, v) = two-of (ok .measured) (room .within) ek en es z y in
                     rw er
                     (here-is (v .is)
-                    (parallel-both (two-own v) (part (firstAt t node) (two b p q) held) taken (room .lent) p q (v .ends) (holds-left v ∙ h) (left-fit v) b x (v .is) (here-sized (v .is) (drop taken answers)) (ap isSequence (kind-is ok (room .within) ek en (v .is)) ∙ sq) (apart-as v) (done-as v dn) (left-is v taken o)
+                    (parallel-both (two-own v) (part (firstAt t node) (two b p q) held) taken (room .lent) p q (v .ends) (holds-left v ∙ h) (left-fit v) b x (v .is) (here-sized (v .is) (drop taken answers)) (ap isSequence (kind-is (ok .measured) (room .within) ek en (v .is)) ∙ sq) (apart-as v) (done-as v dn) (left-is v taken o)
                     (resume-as (v .second) (v .right) (bytes-as mid (v .second) (v .right) ∙ kept-part v) (drop (takenAfter x) answers) (rw ej at st))))

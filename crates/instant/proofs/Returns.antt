@@ -9,28 +9,21 @@ use lib.Dec.{eqb}
 use lib.ListN.{length, getD, drop, drop-of-length-le}
 use lib.Seq.{sets, drop-cons}
 use borrow.Author.Tests.{ne-eqb}
-use Rattle.esterel.specs.Statement.{Leaf, nothing, pause, emit, exit, Unary, Binary, present, sequence, parallel, Stmt, leaf, one, two, kind, field, size}
+use Rattle.esterel.specs.Statement.{Unary, Binary, present, sequence, parallel, Stmt, one, two, kind, field, size}
 use Rattle.esterel.specs.Instant.{Result, zeros, start}
-use Rattle.table.specs.Kinds.{kindOf, arityOf, isTrap, isPresent}
+use Rattle.table.specs.Kinds.{kindOf, arityOf, leafOf, isTrap, isPresent}
 use Rattle.table.specs.Program.{programOf}
 use Rattle.table.specs.declared.Kind.{Kind}
 use Rattle.table.proofs.Surveying.{few-nodes}
-use Rattle.table.proofs.Bytes.{field-byte}
-use Rattle.instant.specs.Steps.{entriesOf, takenAfter, oneMore, catchRan, catches, Left, both, doneAfter, leafOf, LeafRan}
+use Rattle.table.proofs.Bytes.{leaf-is, field-byte}
+use Rattle.instant.specs.Steps.{entriesOf, takenAfter, oneMore, catchRan, catches, Left, both, doneAfter, LeafRan}
 use Rattle.instant.specs.Run.{stmtAt, firstAt, Runnable, Room, Clear, RanIs, starves, Started}
 use Rattle.instant.specs.declared.Ran.{Ran}
 use Rattle.instant.specs.declared.Ran.the-variants.{Closed, Starved}
 use Rattle.instant.proofs.Algebra.{Sized, entries-le, taken-le, held-length, em-length, held-behind}
-use Rattle.instant.proofs.Nodes.{spans, start-sized, start-few, Over, Both}
-use Rattle.instant.proofs.Views.{kind-is, leaf-of, has-last, one-of, two-of}
+use Rattle.instant.proofs.Nodes.{start-sized, start-few}
+use Rattle.table.proofs.Views.{spans, Over, Both, kind-is, leaf-of, has-last, one-of, two-of}
 use Rattle.instant.proofs.Starts.{start-as, sized-as, leaf-start, one-start, then-start, else-start, done-start, joined-start}
-
-leaf-is : (l : Leaf) → leafOf (kindOf (kind (leaf l))) (field (leaf l)) ≡ l
-unfolding kindOf
-leaf-is nothing = refl
-leaf-is pause = refl
-leaf-is (emit s) = refl
-leaf-is (exit level) = refl
 
 present-is : (b : Binary) (p q : Stmt) → isPresent (kindOf (kind (two b p q))) ≡ true → (g : ℕ) × (b ≡ present g)
 unfolding kindOf
@@ -53,7 +46,7 @@ left-as {t} {mid} {held′} {node} {s} {u} {p} {k} {x} v e l =
 -- the entries of a start are few
 pub few-entries : {t sizes answers h h′ e e′ : List ℕ} {r : Ran} (j k : ℕ) → Runnable t sizes → j < size (programOf t) → Started t answers h h′ e e′ j k r → entriesOf r ≤ 1024
 few-entries {t = t} {answers = answers} j k ok h o =
-    omega (arith, entries-le (size (stmtAt t j)) (start-few ok j h (drop k answers)) o, spans ok j h, few-nodes t (ok .measured .readable))
+    omega (arith, entries-le (size (stmtAt t j)) (start-few ok j h (drop k answers)) o, spans t j h, few-nodes t (ok .measured .readable))
 
 -- the buffers after a part that closed
 pub room-after : {t answers held mid em emid : List ℕ} {f node taken c j l : ℕ} {x : Result} (i : ℕ) → i ≤ node → Room t answers held em node taken → RanIs t answers f held mid em emid x (Closed c j l) → Room t answers mid emid i j
@@ -76,22 +69,22 @@ module _ {t sizes answers held em : List ℕ} {node taken : ℕ} (ok : Runnable 
   module _ {k : Kind} {n : ℕ} (ek : k ≡ kindOf (getD t (2 * node) 0)) (en : n ≡ arityOf k) where
     pub leaf-returns : {held′ em′ : List ℕ} {r : Ran} → n ≡ 0 → LeafRan (leafOf k (getD t (2 * node + 1) 0)) node taken held held′ em em′ r → Started t answers held held′ em em′ node taken r
     leaf-returns z o =
-        let (l, e) = leaf-of ok (room .within) ek en z in
+        let (l, e) = leaf-of (ok .measured) (room .within) ek en z in
         let first : firstAt t node ≡ node = omega (arith, ap size e) in
-        let is = ap₂ leafOf (sym (kind-is ok (room .within) ek en e)) (field-byte t (ok .measured .readable) node (room .within) ∙ ap field e) ∙ leaf-is l in
+        let is = ap₂ leafOf (sym (kind-is (ok .measured) (room .within) ek en e)) (field-byte t (ok .measured .readable) node (room .within) ∙ ap field e) ∙ leaf-is l in
         start-as (sym first) (sym e) (drop taken answers) (leaf-start ok room free l e first (rw is at o))
 
     module _ {s : ℕ} (es : s ≡ getD sizes (node - 1) 0) where
       -- with one child
       pub child-call : n ≡ 1 → Runnable t sizes × Room t answers held em (node - 1) taken × Clear t held (node - 1)
       child-call z =
-          let (u, p, v) = one-of ok (room .within) ek en es z in
+          let (u, p, v) = one-of (ok .measured) (room .within) ek en es z in
           beneath (node - 1) taken (omega (arith, v .first)) (omega (arith, v .ends, v .some)) (room .lent)
 
       pub child-returns : {mid held′ em′ : List ℕ} {x r : Ran} → n ≡ 1 → Started t answers held mid em em′ (node - 1) taken x → Left k x (node - s) node mid held′ r → Started t answers held held′ em em′ node taken r
       child-returns z o l =
-          let (u, p, v) = one-of ok (room .within) ek en es z in
-          let (answer, state) = left-as v (kind-is ok (room .within) ek en (v .is)) l in
+          let (u, p, v) = one-of (ok .measured) (room .within) ek en es z in
+          let (answer, state) = left-as v (kind-is (ok .measured) (room .within) ek en (v .is)) l in
           let fits = sized-as (v .first) (v .child) (drop taken answers) (start-sized ok (node - 1) (omega (arith, v .ends, v .some, room .within)) (drop taken answers)) in
           rw answer (start-as refl (sym (v .is)) (drop taken answers) (one-start ok room free u v state fits (start-as (v .first) (v .child) (drop taken answers) o)))
 
@@ -99,7 +92,7 @@ module _ {t sizes answers held em : List ℕ} {node taken : ℕ} (ok : Runnable 
       module _ (z : n ≡ 0 → ⊥) (y : n ≡ 1 → ⊥) where
         pub first-call : Runnable t sizes × Room t answers held em (node - 1 - s) taken × Clear t held (node - 1 - s)
         first-call =
-            let (b, p, q, v) = two-of ok (room .within) ek en es z y in
+            let (b, p, q, v) = two-of (ok .measured) (room .within) ek en es z y in
             beneath (node - 1 - s) taken (omega (arith, v .first)) (omega (arith, v .ends, v .some-right)) (room .lent)
 
         first-fits : (b : Binary) (p q : Stmt) → Both t node s b p q → (ans : List ℕ) → Sized (size p) (start (firstAt t node) p ans)
@@ -108,11 +101,11 @@ module _ {t sizes answers held em : List ℕ} {node taken : ℕ} (ok : Runnable 
         -- a present: no answer is left, or one is taken
         module _ (pr : isPresent k ≡ true) where
           signal-of : (b : Binary) {p q : Stmt} → Both t node s b p q → (g : ℕ) × (b ≡ present g)
-          signal-of b {p} {q} v = present-is b p q (ap isPresent (kind-is ok (room .within) ek en (v .is)) ∙ pr)
+          signal-of b {p} {q} v = present-is b p q (ap isPresent (kind-is (ok .measured) (room .within) ek en (v .is)) ∙ pr)
 
           pub present-starves : length answers ≤ taken → Started t answers held held em em node taken Starved
           present-starves le =
-              let (b, p, q, v) = two-of ok (room .within) ek en es z y in
+              let (b, p, q, v) = two-of (ok .measured) (room .within) ek en es z y in
               let (g, e) = signal-of b v in
               let none : drop taken answers ≡ [] = drop-of-length-le answers le in
               start-as refl (sym (v .is)) (drop taken answers) (rw (none, e) starves)
@@ -122,23 +115,23 @@ module _ {t sizes answers held em : List ℕ} {node taken : ℕ} (ok : Runnable 
             branch-lt = go (eqb (getD answers taken 0) 0) eb
               where
                 go : (c : Bool) → b ≡ cond c (node - 1) (node - 1 - s) → b < node
-                go true e = omega (arith, has-last ok (room .within) ek en z)
-                go false e = omega (arith, has-last ok (room .within) ek en z)
+                go true e = omega (arith, has-last (ok .measured) (room .within) ek en z)
+                go false e = omega (arith, has-last (ok .measured) (room .within) ek en z)
 
             pub branch-call : Runnable t sizes × Room t answers held em b (taken + 1) × Clear t held b
             branch-call = go (eqb (getD answers taken 0) 0) eb
               where
                 go : (c : Bool) → b ≡ cond c (node - 1) (node - 1 - s) → Runnable t sizes × Room t answers held em b (taken + 1) × Clear t held b
                 go true e =
-                    let (c, p, q, v) = two-of ok (room .within) ek en es z y in
+                    let (c, p, q, v) = two-of (ok .measured) (room .within) ek en es z y in
                     rw e (beneath (node - 1) (taken + 1) (omega (arith, v .second)) (omega (arith, v .ends, v .some-right)) (omega arith))
                 go false e =
-                    let (c, p, q, v) = two-of ok (room .within) ek en es z y in
+                    let (c, p, q, v) = two-of (ok .measured) (room .within) ek en es z y in
                     rw e (beneath (node - 1 - s) (taken + 1) (omega (arith, v .first)) (omega (arith, v .ends, v .some-right)) (omega arith))
 
             pub present-returns : {held′ em′ : List ℕ} {r r′ : Ran} → Started t answers held held′ em em′ b (taken + 1) r → r′ ≡ oneMore r → Started t answers held held′ em em′ node taken r′
             present-returns {held′} {em′} {r} {r′} o l =
-                let (c, p, q, v) = two-of ok (room .within) ek en es z y in
+                let (c, p, q, v) = two-of (ok .measured) (room .within) ek en es z y in
                 let (g, e) = signal-of c v in
                 let here : Both t node s (present g) p q = rw e at v in
                 let next : drop taken answers ≡ getD answers taken 0 ∷ drop (taken + 1) answers = rw (add-one, drop-cons answers taken 0) in
@@ -154,8 +147,8 @@ module _ {t sizes answers held em : List ℕ} {node taken : ℕ} (ok : Runnable 
         module _ (np : isPresent k ≡ false) {x : Ran} {mid emid : List ℕ} (o : Started t answers held mid em emid (node - 1 - s) taken x) where
           pub done-returns : {r : Ran} → doneAfter k x true ≡ true → r ≡ oneMore x → Started t answers held mid em emid node taken r
           done-returns dn er =
-              let (b, p, q, v) = two-of ok (room .within) ek en es z y in
-              let e = kind-is ok (room .within) ek en (v .is) in
+              let (b, p, q, v) = two-of (ok .measured) (room .within) ek en es z y in
+              let e = kind-is (ok .measured) (room .within) ek en (v .is) in
               rw er
               (start-as refl (sym (v .is)) (drop taken answers)
               (done-start ok room free b x v (ap isPresent e ∙ np) (ap (λ i. doneAfter i x true) e ∙ dn) (first-fits b p q v (drop taken answers)) (start-as (v .first) (v .left) (drop taken answers) o)))
@@ -164,7 +157,7 @@ module _ {t sizes answers held em : List ℕ} {node taken : ℕ} (ok : Runnable 
             pub second-call : Runnable t sizes × Room t answers mid emid (node - 1) j × Clear t mid (node - 1)
             unfolding Clear
             second-call =
-                let (b, p, q, v) = two-of ok (room .within) ek en es z y in
+                let (b, p, q, v) = two-of (ok .measured) (room .within) ek en es z y in
                 let (c, i, l, e) = closed-of k true x dn in
                 let left = start-as (v .first) (v .left) (drop taken answers) (rw e at o) in
                 rw (ej ∙ ap takenAfter e) (
@@ -175,8 +168,8 @@ module _ {t sizes answers held em : List ℕ} {node taken : ℕ} (ok : Runnable 
 
             pub joined-returns : {held′ em′ : List ℕ} {r r′ : Ran} → Started t answers mid held′ emid em′ (node - 1) j r → r′ ≡ oneMore (both x r) → Started t answers held held′ em em′ node taken r′
             joined-returns d er =
-                let (b, p, q, v) = two-of ok (room .within) ek en es z y in
-                let e = kind-is ok (room .within) ek en (v .is) in
+                let (b, p, q, v) = two-of (ok .measured) (room .within) ek en es z y in
+                let e = kind-is (ok .measured) (room .within) ek en (v .is) in
                 rw er
                 (start-as refl (sym (v .is)) (drop taken answers)
                 (joined-start ok room free b x v (ap isPresent e ∙ np) (ap (λ i. doneAfter i x true) e ∙ dn) (first-fits b p q v (drop taken answers)) (start-as (v .first) (v .left) (drop taken answers) o) (start-as (v .second) (v .right) (drop (takenAfter x) answers) (rw ej at d))))

@@ -8,10 +8,7 @@ use native.Mathlib.Omega.{arith}
 use lib.ListN.{length, getD, set, drop, length-set, replicate-append-replicate, length-replicate}
 use lib.Seq.{sets, set-comm, set-set, set-getD, getD-set-same, getD-set-other, drop-set-lt}
 use Rattle.esterel.specs.Instant.{zeros, holds}
-
-pub sets-append : (l : List ℕ) (i : ℕ) (a b : List ℕ) → sets l i (a ++ b) ≡ sets (sets l i a) (i + length a) b
-sets-append l i [] b = ap (λ (j : ℕ). sets l j b) (omega arith)
-sets-append l i (x ∷ a) b = sets-append (set l i x) (suc i) a b ∙ ap (λ (j : ℕ). sets (sets (set l i x) (suc i) a) j b) (omega arith)
+use Rattle.table.proofs.Buffers.{sets-append}
 
 -- one zero more
 zeros-snoc : (l : List ℕ) (f n : ℕ) → set (sets l f (zeros n)) (f + n) 0 ≡ sets l f (zeros (n + 1))

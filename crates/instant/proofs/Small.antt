@@ -2,32 +2,20 @@
 use mathlib.Core.Path.{_≡_, refl}
 use mathlib.Core.Bool.{true, false}
 use mathlib.Core.List.{List, [], _∷_}
-use Prim.Native.Nat.{ℕ, zero, suc, _+_, _-_, _<_, _≤_}
-use native.Mathlib.Omega.{arith}
+use Prim.Native.Nat.{ℕ, zero, suc, _+_, _-_}
 use lib.Seq.{sets}
 use types.Run.{OneOf, miss}
 use denote.Enum.Declared.{tagOf}
 use Rattle.esterel.specs.Statement.{nothing}
 use Rattle.esterel.specs.Codes.{catchCode}
 use Rattle.esterel.specs.Instant.{zeros}
-use Rattle.table.specs.Kinds.{isTrap}
+use Rattle.table.specs.Kinds.{leafOf, isTrap}
 use Rattle.table.specs.declared.Kind.{Kind}
 use Rattle.table.specs.declared.Kind.the-variants.{Nothing, Pause, Emit, Exit, Signal, Present, Suspend, Loop, Sequence, Parallel, Trap, Unknown}
 use Rattle.table.proofs.Kind.{the-type}
-use Rattle.instant.specs.Steps.{alone, oneMore, catches, Left, kept, leafOf}
+use Rattle.instant.specs.Steps.{alone, oneMore, catches, Left, kept}
 use Rattle.instant.specs.declared.Ran.{Ran}
 use Rattle.instant.specs.declared.Ran.the-variants.{Closed, Starved}
-
-pub catch-low : (c : ℕ) → c < 2 → c ≡ catchCode c
-catch-low zero h = refl
-catch-low (suc zero) h = refl
-catch-low (suc (suc c)) h = absurd (omega arith)
-
-pub catch-high : (c : ℕ) → 2 ≤ c → (c ≡ 2 → ⊥) → c - 1 ≡ catchCode c
-catch-high zero h n = absurd (omega arith)
-catch-high (suc zero) h n = absurd (omega arith)
-catch-high (suc (suc zero)) h n = absurd (n refl)
-catch-high (suc (suc (suc c))) h n = omega arith
 
 pub catches-not : (c taken entries : ℕ) → (c ≡ 2 → ⊥) → catches (Closed c taken entries) ≡ false
 catches-not zero taken entries n = refl

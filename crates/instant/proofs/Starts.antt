@@ -19,7 +19,8 @@ use Rattle.instant.specs.declared.Ran.{Ran}
 use Rattle.instant.specs.declared.Ran.the-variants.{Closed, Starved}
 use Rattle.instant.proofs.Sets.{Zero, set-zero}
 use Rattle.instant.proofs.Algebra.{Sized, inside, is-starved, enter-is, body-is, then-zeros-is, zeros-then-is, stopped-is, beside-is, second-is, catch-is}
-use Rattle.instant.proofs.Nodes.{start-sized, Over, Both}
+use Rattle.table.proofs.Views.{Over, Both}
+use Rattle.instant.proofs.Nodes.{start-sized}
 
 -- the same start, by its statement and first node
 module _ {f f′ : ℕ} {w w′ : Stmt} (ef : f ≡ f′) (ew : w ≡ w′) (ans : List ℕ) where

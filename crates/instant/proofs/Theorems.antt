@@ -124,7 +124,7 @@ module _ (number node : ℕ) where
       (omega arith, omega arith, omega arith)
   closing-told p answers stuck sure e = absurd sure
 
-  refused-told : {a b : ℕ} → Numbered a b → refuses a b ≡ refuses number node → Numbers number node
+  refused-told : {a b : ℕ} → Numbered 11 a b → refuses a b ≡ refuses number node → Numbers number node
   refused-told {a} {b} o e =
       let x : a ≡ number = cc in
       let y : b ≡ node = cc in
@@ -139,7 +139,7 @@ module _ (t answers state emissions : List ℕ) (number node : ℕ) where
   unfolding startCall
   start-told = go (verdictFor t (length state) (length emissions)) refl (checked-told _ t)
     where
-      go : (v : Verdict) → verdictFor t (length state) (length emissions) ≡ v → Told v → startCall v answers ≡ refuses number node → Numbers number node
+      go : (v : Verdict) → verdictFor t (length state) (length emissions) ≡ v → Told 11 v → startCall v answers ≡ refuses number node → Numbers number node
       go (passed p) ev o e = closing-told number node p answers (start 0 p answers) (demand3 .starts p (sound-of ev) answers) e
       go (refused a b) ev o e = refused-told number node (told-numbered o) e
 
@@ -154,7 +154,7 @@ module _ (t answers state emissions : List ℕ) (number node : ℕ) where
           let y : 0 ≡ node = cc in
           (omega arith, omega arith, omega arith)
 
-      go : (v : Verdict) → verdictFor t (length state) (length emissions) ≡ v → Told v → resumeCall v state answers ≡ refuses number node → Numbers number node
+      go : (v : Verdict) → verdictFor t (length state) (length emissions) ≡ v → Told 11 v → resumeCall v state answers ≡ refuses number node → Numbers number node
       go (passed p) ev o e = by p (sound-of ev) (admitted p (take (size p) state)) refl e
       go (refused a b) ev o e = refused-told number node (told-numbered o) e
 

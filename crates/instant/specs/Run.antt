@@ -12,17 +12,11 @@ use Rattle.esterel.specs.Checks.{checkProgram}
 use Rattle.esterel.specs.Instant.{Entry, Result, closed, starved, start, resume, admitted}
 use Rattle.esterel.specs.Outcome.{statementAt, emitted}
 use Rattle.table.specs.Program.{programOf}
+pub use Rattle.table.specs.Columns.{stmtAt, firstAt}
 use Rattle.table.specs.Columns.{Measured}
 use Rattle.instant.specs.Steps.{marked}
 use Rattle.instant.specs.declared.Ran.{Ran}
 use Rattle.instant.specs.declared.Ran.the-variants.{Closed, Starved}
-
--- the statement at a node of a table's program, and its first node
-abbrev pub stmtAt : List ℕ → ℕ → Stmt
-stmtAt t node = statementAt (nodes (programOf t)) node
-
-abbrev pub firstAt : List ℕ → ℕ → ℕ
-firstAt t node = suc node - size (stmtAt t node)
 
 -- an accepted table with the sizes of its subtrees
 pub record Runnable (t sizes : List ℕ) : Type 0 where

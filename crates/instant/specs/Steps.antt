@@ -8,10 +8,9 @@ use lib.ListN.{length, getD, set}
 use lib.Seq.{sets}
 use Rattle.esterel.specs.Statement.{Leaf, nothing, pause, emit, exit, leaf}
 use Rattle.esterel.specs.Codes.{catchCode}
-use Rattle.esterel.specs.Table.{Node, takes0, takes1, takes2, faulty}
 use Rattle.esterel.specs.Instant.{zeros}
 use Rattle.esterel.specs.Outcome.{emission}
-use Rattle.table.specs.Kinds.{headOf, isTrap, isSequence}
+use Rattle.table.specs.Kinds.{leafCode, isTrap, isSequence}
 use Rattle.table.specs.declared.Kind.{Kind}
 use Rattle.instant.specs.declared.Ran.{Ran}
 use Rattle.instant.specs.declared.Ran.the-variants.{Closed, Starved}
@@ -90,22 +89,7 @@ abbrev pub doneAfter : Kind → Ran → (second : Bool) → Bool
 doneAfter k (Closed code taken entries) second = cond (isSequence k) (not (eqb code 0)) (not second)
 doneAfter k Starved second = true
 
--- the statement of a node without children
-abbrev pub leafIn : Node → Leaf
-leafIn (takes0 l) = l
-leafIn (takes1 u) = nothing
-leafIn (takes2 b) = nothing
-leafIn (faulty number) = nothing
-
-abbrev pub leafOf : Kind → ℕ → Leaf
-leafOf k field = leafIn (headOf k field)
-
-abbrev pub leafCode : Leaf → ℕ
-leafCode nothing = 0
-leafCode pause = 1
-leafCode (emit s) = 0
-leafCode (exit level) = 2 + level
-
+-- the byte of a node without children
 abbrev pub leafState : Leaf → ℕ → List ℕ → List ℕ
 leafState nothing node held = held
 leafState pause node held = set held node 1

@@ -5,10 +5,9 @@ ghost use Prim.Native.Nat.{_+_, _-_, _*_, _<_, _≤_};
 ghost use lib.Dec.{eqb};
 ghost use lib.ListN.{length, getD};
 ghost use lib.Seq.{sets};
-ghost use Rattle.esterel.specs.Codes.{catchCode};
 ghost use Rattle.esterel.specs.Instant.{zeros};
-ghost use Rattle.table.specs.Kinds.{isSuspend};
-ghost use Rattle.instant.specs.Steps.{alone, entriesOf, hasEnded, takenAfter, oneMore, Left, both, asked, holdsBeneath, doneAfter, leafOf, LeafRan};
+ghost use Rattle.table.specs.Kinds.{isSuspend, leafOf};
+ghost use Rattle.instant.specs.Steps.{alone, entriesOf, hasEnded, takenAfter, oneMore, Left, both, asked, holdsBeneath, doneAfter, LeafRan};
 use crate::Ran;
 use table::Kind;
 
@@ -17,19 +16,6 @@ pub fn branch(answer: u8, first: usize, last: usize) -> usize
     ensures { λ r. ⌜ r ≡ cond (eqb answer 0) last first ⌝ }
 {
     if answer == 0 { last } else { first }
-}
-
-// What a trap makes of a code.
-fn caught(code: usize) -> usize
-    ensures { λ r. ⌜ r ≡ catchCode code ⌝ }
-{
-    if code < 2 {
-        return code;
-    }
-    if code == 2 {
-        return 0;
-    }
-    code - 1
 }
 
 // The bytes of the nodes from `from` up to `to` become 0.
@@ -127,7 +113,7 @@ pub fn leave(kind: Kind, inner: Ran, held: &mut [u8], first: usize, node: usize)
         };
     }
     Ran::Closed {
-        code: caught(code),
+        code: codes::catch_code(code),
         taken,
         entries: entries + 1,
     }

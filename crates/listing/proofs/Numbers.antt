@@ -9,7 +9,8 @@ use lib.Seq.{sets}
 use Rattle.listing.specs.Text.{digit, digits}
 use Rattle.listing.specs.Written.{Written}
 use Rattle.listing.proofs.Digits.{few-digits, has-digits, digits-one, digits-more}
-use Rattle.listing.proofs.Writing.{sets-append, set-sets}
+use Rattle.table.proofs.Buffers.{sets-append}
+use Rattle.listing.proofs.Writing.{set-sets}
 
 -- so many digits are counted, and those of `rest` but one are not
 pub record Counting (base n rest count : ℕ) : Type 0 where
@@ -83,7 +84,7 @@ module _ {base n : ℕ} {old : List ℕ} {at : ℕ} {now : List ℕ} {i rest : �
           is =
               sym (set-sets now at (digits base (rest / base)) (i - 1) v (omega (arith, place)))
               ∙ ap (λ j. set (sets now at (digits base (rest / base))) j v) place
-              ∙ sets-append now at (digits base (rest / base)) (v ∷ [])
+              ∙ sym (sets-append now at (digits base (rest / base)) (v ∷ []))
               ∙ ap (sets now at) (sym split)
               ∙ o .is;
           here = place;

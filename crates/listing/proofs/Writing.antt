@@ -1,5 +1,5 @@
 -- A text while bytes are written into it: what is left to be written leads to what is wanted.
-use mathlib.Core.Path.{_≡_, refl, ap, _∙_}
+use mathlib.Core.Path.{_≡_, refl, sym, ap, _∙_}
 use mathlib.Core.List.{List, [], _∷_, _++_}
 use Prim.Native.Nat.{ℕ, suc, _+_, _≤_, _<_}
 use native.Mathlib.Nat.{add-zero}
@@ -7,13 +7,8 @@ use native.Mathlib.Numerals.{add-one}
 use native.Mathlib.Omega.{arith}
 use lib.ListN.{length, getD, set, drop, length-append, drop-of-length-le}
 use lib.Seq.{sets, length-sets, set-comm, drop-cons}
+use Rattle.table.proofs.Buffers.{sets-append}
 use Rattle.listing.specs.Written.{Written}
-
-pub sets-append : (l : List ℕ) (i : ℕ) (xs ys : List ℕ) → sets (sets l i xs) (i + length xs) ys ≡ sets l i (xs ++ ys)
-sets-append l i [] ys = rw add-zero refl
-sets-append l i (x ∷ xs) ys =
-    let e : i + suc (length xs) ≡ suc i + length xs = omega arith in
-    ap (λ j. sets (sets (set l i x) (suc i) xs) j ys) e ∙ sets-append (set l i x) (suc i) xs ys
 
 pub set-sets : (l : List ℕ) (i : ℕ) (xs : List ℕ) (j v : ℕ) → i + length xs ≤ j → set (sets l i xs) j v ≡ sets (set l j v) i xs
 set-sets l i [] j v h = refl
@@ -42,7 +37,7 @@ module _ {old : List ℕ} {at : ℕ} {bytes now : List ℕ} {pos : ℕ} where
         is =
             ap (λ l. sets l r ys) (w .is)
             ∙ ap (λ i. sets (sets now pos xs) i ys) (w .end)
-            ∙ sets-append now pos xs ys
+            ∙ sym (sets-append now pos xs ys)
             ∙ o .is;
         end = omega (arith, o .end, w .end, length-append xs ys);
         long = ap length (w .is) ∙ length-sets now pos xs ∙ o .long;

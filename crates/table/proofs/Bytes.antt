@@ -3,12 +3,12 @@ use mathlib.Core.Path.{_≡_, refl, ap, _∙_}
 use mathlib.Core.List.{List}
 use Prim.Native.Nat.{ℕ, _+_, _*_, _<_}
 use lib.ListN.{length, getD}
-use Rattle.esterel.specs.Statement.{nothing, pause, emit, exit, signal, suspend, loop, trap, present, sequence, parallel, Stmt, leaf, one, two, kind, field, size, nodes}
+use Rattle.esterel.specs.Statement.{Leaf, nothing, pause, emit, exit, signal, suspend, loop, trap, present, sequence, parallel, Stmt, leaf, one, two, kind, field, size, nodes}
 use Rattle.esterel.specs.Table.{postfix}
 use Rattle.esterel.specs.Outcome.{statementAt}
 use Rattle.esterel.proofs.Reading.{reads-only, length-postfix}
 use Rattle.esterel.proofs.Subtrees.{subtrees}
-use Rattle.table.specs.Kinds.{kindOf, arityOf}
+use Rattle.table.specs.Kinds.{kindOf, arityOf, leafOf}
 use Rattle.table.specs.Program.{programOf, Readable}
 
 -- how many children a statement has
@@ -30,6 +30,13 @@ arity-of (one trap q) = refl
 arity-of (two (present s) q r) = refl
 arity-of (two sequence q r) = refl
 arity-of (two parallel q r) = refl
+
+pub leaf-is : (l : Leaf) → leafOf (kindOf (kind (leaf l))) (field (leaf l)) ≡ l
+unfolding kindOf
+leaf-is nothing = refl
+leaf-is pause = refl
+leaf-is (emit s) = refl
+leaf-is (exit level) = refl
 
 -- the bytes of a readable table are those of its program
 module _ (t : List ℕ) (ok : Readable t) where

@@ -10,3 +10,4 @@ pub mod Found
 pub mod Descending
 pub mod Surveying
 pub mod Sizing
+pub mod Views

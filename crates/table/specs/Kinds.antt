@@ -1,10 +1,10 @@
 -- What a kind byte says (document 01, "The table").
-use Prim.Native.Nat.{ℕ}
+use Prim.Native.Nat.{ℕ, _+_}
 use mathlib.Core.Bool.{Bool, true, false}
 use mathlib.Core.List.{List, [], _∷_}
 use lib.ListN.{getD}
 use lib.Dec.{eqb}
-use Rattle.esterel.specs.Statement.{nothing, pause, emit, exit, signal, suspend, loop, trap, present, sequence, parallel}
+use Rattle.esterel.specs.Statement.{Leaf, nothing, pause, emit, exit, signal, suspend, loop, trap, present, sequence, parallel}
 use Rattle.esterel.specs.Table.{Node, takes0, takes1, takes2, faulty}
 use Rattle.table.specs.declared.Kind.{Kind}
 use Rattle.table.specs.declared.Kind.the-variants.{Nothing, Pause, Emit, Exit, Signal, Present, Suspend, Loop, Sequence, Parallel, Trap, Unknown}
@@ -40,6 +40,22 @@ takenBy (faulty number) = 0
 
 abbrev pub arityOf : Kind → ℕ
 arityOf k = takenBy (headOf k 0)
+
+-- the statement of a node without children
+abbrev pub leafIn : Node → Leaf
+leafIn (takes0 l) = l
+leafIn (takes1 u) = nothing
+leafIn (takes2 b) = nothing
+leafIn (faulty number) = nothing
+
+abbrev pub leafOf : Kind → ℕ → Leaf
+leafOf k field = leafIn (headOf k field)
+
+abbrev pub leafCode : Leaf → ℕ
+leafCode nothing = 0
+leafCode pause = 1
+leafCode (emit s) = 0
+leafCode (exit level) = 2 + level
 
 -- the kinds whose field must be 0 (check 5)
 abbrev pub plainOf : Kind → Bool

@@ -38,14 +38,14 @@ same-length c = search needs
 returns-3 : tie.Need-returns-3
 returns-3 c = trap-here (sym (c .before .before .before .before .before .before .before .before .before .is-trap .ensures) ∙ not-false (c .before .before .before .before .before .before .before .before .before .is-trap .result) (c .before .before .before .before .before .before .before .before .if1 .left)) (c .before .before .before .before .before .before .inner .given .1) (c .before .before .before .before .if2 .taken) (c .before .before .clear .ensures)
 
-caught-requires : tie.Need-caught-requires
-caught-requires c κs = search needs
+catch-code-requires : tie.Need-catch-code-requires
+catch-code-requires c κs = search needs
 
 add-t16 : tie.Need-add-t16
 add-t16 c = omega (arith, ap entriesOf (c .before .before .before .inner .given .1), c .before .before .before .before .before .before .before .before .pre .0)
 
 returns-4 : tie.Need-returns-4
-returns-4 c = trap-other (sym (c .before .before .before .before .before .before .is-trap .ensures) ∙ not-false (c .before .before .before .before .before .before .is-trap .result) (c .before .before .before .before .before .if1 .left)) (c .before .before .before .inner .given .1) (c .before .if2 .left) (c .caught .ensures)
+returns-4 c = trap-other (sym (c .before .before .before .before .before .before .is-trap .ensures) ∙ not-false (c .before .before .before .before .before .before .is-trap .result) (c .before .before .before .before .before .if1 .left)) (c .before .before .before .inner .given .1) (c .before .if2 .left) (c .catch-code .ensures)
 
 pub leave-spec : {M : Type 1} → statement M
 leave-spec =
@@ -61,6 +61,6 @@ leave-spec =
     add-t14
     same-length
     returns-3
-    caught-requires
+    catch-code-requires
     add-t16
     returns-4)
