@@ -1,0 +1,143 @@
+-- The loops over the codes.
+use mathlib.Core.Path.{_≡_, refl, ap, ap₂, _∙_}
+use mathlib.Core.Option.{Option, none, some}
+use mathlib.Core.List.{List}
+use Prim.Native.Nat.{ℕ, zero, suc, _+_, _-_, _*_, _≤_, _<_, min}
+use native.Mathlib.Numerals.{add-one}
+use native.Mathlib.Decide.{decLt}
+use native.Mathlib.Omega.{arith}
+use lib.ListN.{length, getD, set, length-set}
+use lib.Seq.{getD-set-same, getD-set-other}
+use Rattle.table.specs.declared.Kind.{Kind}
+use Rattle.starts.specs.Summary.{upTo, either, together, least}
+use Rattle.rows.specs.Rows.{valueOf, valuesOf, Lesser, Joins, LowRow, Found}
+use Rattle.rows.specs.Steps.{numberOf, IsNumber, rowOf, IsRow}
+
+-- the least below code k
+abbrev pub below : (ℕ → Option ℕ) → ℕ → Option ℕ
+below f zero = none
+below f (suc k) = least .choice (f k) (below f k)
+
+pub either-none : (pick : ℕ → ℕ → ℕ) (x : Option ℕ) → either pick x none ≡ x
+either-none pick none = refl
+either-none pick (some x) = refl
+
+pub below-upTo : (f : ℕ → Option ℕ) (k : ℕ) → below f (suc k) ≡ upTo least f k
+below-upTo f zero = either-none min (f 0)
+below-upTo f (suc k) = ap (least .choice (f (suc k))) (below-upTo f k)
+
+-- a list that is filled from the front: each place j below k has v j
+module _ (P : ℕ → ℕ → Type 0) where
+  pub set-next : (of : List ℕ) (k r : ℕ) → k < length of → ((j : ℕ) → j < k → P j (getD of j 0)) → P k r → (j : ℕ) → j < suc k → P j (getD (set of k r) j 0)
+  set-next of k r lt done here j h = go (decLt j k)
+    where
+      go : Dec (j < k) → P j (getD (set of k r) j 0)
+      go (yes n) = rw (getD-set-other of k j r 0 (λ e. omega arith)) (done j n)
+      go (no n) =
+          let z : j ≡ k = omega arith in
+          let g = getD-set-same of k r 0 lt in
+          rw (z, g) here
+
+-- ---- row_of
+
+pub record Running (kind : Kind) (n : ℕ) (a b of : List ℕ) (x y k : ℕ) : Type 0 where
+  pub low : k ≤ 64
+  pub long : length of ≡ 64
+  pub left : valueOf x ≡ below (valuesOf a) k
+  pub right : valueOf y ≡ below (valuesOf b) k
+  pub small-left : x ≤ 1025
+  pub small-right : y ≤ 1025
+  pub done : (j : ℕ) → j < k → valueOf (getD of j 0) ≡ rowOf kind n (valuesOf a) (valuesOf b) j
+
+pub begins : {kind : Kind} {n : ℕ} {a b of : List ℕ} → length of ≡ 64 → Running kind n a b of 0 0 0
+begins z =
+    record { low = omega arith; long = z; left = refl; right = refl; small-left = omega arith; small-right = omega arith; done = λ j h. absurd (omega arith) }
+
+pub ends : {kind : Kind} {n : ℕ} {a b of : List ℕ} {x y k : ℕ} → Running kind n a b of x y k → 64 ≤ k → IsRow kind n a b of
+ends o h = record { is = record { long = o .long; at = λ j l. o .done j (omega arith) } }
+
+-- the lesser is no larger than both
+pub lesser-low : {a b r m : ℕ} → Lesser a b r → a ≤ m → b ≤ m → r ≤ m
+lesser-low p h i = omega (arith, p .low)
+
+pub step : {kind : Kind} {n : ℕ} {a b of : List ℕ} {x y k x′ y′ r : ℕ} → LowRow 1025 a → LowRow 1025 b → Running kind n a b of x y k → k < 64 → Lesser (getD a k 0) x x′ → Lesser (getD b k 0) y y′ → IsNumber kind n a b x′ y′ k r → Running kind n a b (set of k r) x′ y′ (k + 1)
+step {kind} {n} {a} {b} {of} {x} {y} {k} {x′} {y′} {r} la lb o h p q g =
+    rw add-one
+    record {
+      low = omega (arith, o .low);
+      long = length-set of k r ∙ o .long;
+      left = left-up;
+      right = right-up;
+      small-left = lesser-low p (la .at k) (o .small-left);
+      small-right = lesser-low q (lb .at k) (o .small-right);
+      done = set-next (λ i v. valueOf v ≡ rowOf kind n (valuesOf a) (valuesOf b) i) of k r (omega (arith, o .long)) (o .done) here;
+    }
+  where
+    left-up : valueOf x′ ≡ below (valuesOf a) (suc k)
+    left-up = p .is ∙ ap (least .choice (valuesOf a k)) (o .left)
+
+    right-up : valueOf y′ ≡ below (valuesOf b) (suc k)
+    right-up = q .is ∙ ap (least .choice (valuesOf b k)) (o .right)
+
+    here : valueOf r ≡ rowOf kind n (valuesOf a) (valuesOf b) k
+    here = g .gets .is ∙ ap₂ (λ z w. numberOf kind n (valuesOf a) (valuesOf b) z w k) (left-up ∙ below-upTo (valuesOf a) k) (right-up ∙ below-upTo (valuesOf b) k)
+
+-- ---- least_sum
+
+pub record Finding (a b : List ℕ) (x k : ℕ) : Type 0 where
+  pub low : k ≤ 64
+  pub is : valueOf x ≡ below (λ j. together _+_ (valuesOf a j) (valuesOf b j)) k
+  pub small : (m n : ℕ) → LowRow m a → LowRow n b → x ≤ m + n - 1
+
+pub finds : {a b : List ℕ} {x k v r : ℕ} → Finding a b x k → k < 64 → Joins (getD a k 0) (getD b k 0) v → Lesser v x r → Finding a b r (k + 1)
+finds {a} {b} {x} {k} o h j p =
+    rw add-one
+    record {
+      low = omega arith;
+      is = p .is ∙ ap₂ (least .choice) (j .is) (o .is);
+      small = λ m n la lb. omega (arith, p .low, o .small m n la lb, j .low, la .at k, lb .at k);
+    }
+
+pub found : {a b : List ℕ} {x k : ℕ} → LowRow 1025 a → LowRow 1025 b → Finding a b x k → 64 ≤ k → Found a b x
+found {a} {b} {x} {k} la lb o h =
+    let z : k ≡ suc 63 = omega (arith, o .low) in
+    record { low = o .small; gets = record { is = o .is ∙ ap (below (λ j. together _+_ (valuesOf a j) (valuesOf b j))) z ∙ below-upTo (λ j. together _+_ (valuesOf a j) (valuesOf b j)) 63; low = omega (arith, o .small 1025 1025 la lb) } }
+
+-- ---- load and store
+
+pub record Loading (rows : List ℕ) (j : ℕ) (of : List ℕ) (k : ℕ) : Type 0 where
+  pub low : k ≤ 64
+  pub long : length of ≡ 64
+  pub done : (i : ℕ) → i < k → getD of i 0 ≡ getD rows (64 * j + i) 0
+
+pub loads : {rows of : List ℕ} {j k r : ℕ} → Loading rows j of k → k < 64 → r ≡ getD rows (64 * j + k) 0 → Loading rows j (set of k r) (k + 1)
+loads {rows} {of} {j} {k} {r} o h e =
+    rw add-one
+    record {
+      low = omega arith;
+      long = length-set of k r ∙ o .long;
+      done = set-next (λ i v. v ≡ getD rows (64 * j + i) 0) of k r (omega (arith, o .long)) (o .done) e;
+    }
+
+pub record Storing (rows : List ℕ) (j : ℕ) (of rows′ : List ℕ) (k : ℕ) : Type 0 where
+  pub low : k ≤ 64
+  pub long : length rows′ ≡ length rows
+  pub done : (i : ℕ) → i < k → getD rows′ (64 * j + i) 0 ≡ getD of i 0
+  pub kept : (m : ℕ) → m < 64 * j → getD rows′ m 0 ≡ getD rows m 0
+
+pub stores : {rows of rows′ : List ℕ} {j k r : ℕ} → Storing rows j of rows′ k → k < 64 → 64 * j + 64 ≤ length rows → r ≡ getD of k 0 → Storing rows j of (set rows′ (64 * j + k) r) (k + 1)
+stores {rows} {of} {rows′} {j} {k} {r} o h room e =
+    rw add-one
+    record {
+      low = omega arith;
+      long = length-set rows′ (64 * j + k) r ∙ o .long;
+      done = λ i l. at i l (decLt i k);
+      kept = λ m l. getD-set-other rows′ (64 * j + k) m r 0 (λ z. omega arith) ∙ o .kept m l;
+    }
+  where
+    at : (i : ℕ) → i < suc k → Dec (i < k) → getD (set rows′ (64 * j + k) r) (64 * j + i) 0 ≡ getD of i 0
+    at i l (yes n) = getD-set-other rows′ (64 * j + k) (64 * j + i) r 0 (λ z. omega arith) ∙ o .done i n
+    at i l (no n) =
+        let z : i ≡ k = omega arith in
+        let g = getD-set-same rows′ (64 * j + k) r 0 (omega (arith, o .long)) in
+        rw z (g ∙ e)

@@ -1,0 +1,47 @@
+-- Rows of 64 numbers, one for each code: 0 where no start gives the code, else one more than the least number of answers.
+use Prim.Native.Nat.{ℕ, zero, suc, _+_, _-_, _≤_, _<_, max}
+use mathlib.Core.Path.{_≡_}
+use mathlib.Core.Option.{Option, none, some}
+use mathlib.Core.List.{List}
+use lib.ListN.{length, getD}
+use Rattle.starts.specs.Summary.{upTo, together, least}
+
+-- what a number says
+abbrev pub valueOf : ℕ → Option ℕ
+valueOf zero = none
+valueOf (suc n) = some n
+
+abbrev pub valuesOf : List ℕ → ℕ → Option ℕ
+valuesOf row k = valueOf (getD row k 0)
+
+-- r says x, and is small
+pub record Gets (x : Option ℕ) (r : ℕ) : Type 0 where
+  pub is : valueOf r ≡ x
+  pub low : r ≤ 4096
+
+-- r says the less of what a and b say, where `none` is more than every number
+pub record Lesser (a b r : ℕ) : Type 0 where
+  pub is : valueOf r ≡ least .choice (valueOf a) (valueOf b)
+  pub low : r ≤ max a b
+
+-- r says the sum of what a and b say
+pub record Joins (a b r : ℕ) : Type 0 where
+  pub is : valueOf r ≡ least .both (valueOf a) (valueOf b)
+  pub low : r ≤ a + b - 1
+
+-- no number of a row is above m
+pub record LowRow (m : ℕ) (row : List ℕ) : Type 0 where
+  pub at : (k : ℕ) → getD row k 0 ≤ m
+
+-- a row that says f of each code
+pub record Holds (f : ℕ → Option ℕ) (row : List ℕ) : Type 0 where
+  pub long : length row ≡ 64
+  pub at : (k : ℕ) → k < 64 → valuesOf row k ≡ f k
+
+-- the least of the sums of two rows
+abbrev pub leastSum : List ℕ → List ℕ → Option ℕ
+leastSum row need = upTo least (λ k. together _+_ (valuesOf row k) (valuesOf need k)) 63
+
+pub record Found (row need : List ℕ) (r : ℕ) : Type 0 where
+  pub gets : Gets (leastSum row need) r
+  pub low : (m n : ℕ) → LowRow m row → LowRow n need → r ≤ m + n - 1

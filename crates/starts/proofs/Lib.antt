@@ -1,0 +1,13 @@
+pub mod Related
+pub mod Sound
+pub mod Complete
+pub mod Exact
+pub mod Triples
+pub mod Order
+pub mod Bind
+pub mod Cost
+pub mod Walk
+pub mod Agree
+pub mod Short
+pub mod Examples
+pub mod Theorems

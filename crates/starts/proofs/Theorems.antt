@@ -1,0 +1,231 @@
+-- The theorems of specs/Theorems.antt.
+use mathlib.Core.Path.{_≡_, refl, sym, subst}
+use mathlib.Core.Bool.{Bool, true, false, cond}
+use mathlib.Core.Logic.{_⊎_, inl, inr}
+use mathlib.Core.Option.{none, some}
+use mathlib.Core.List.{List, []}
+use Prim.Native.Nat.{ℕ, suc, _+_, _-_, _*_, _≤_, _<_, max}
+use native.Mathlib.Decide.{decLt}
+use native.Mathlib.Omega.{arith}
+use lib.Dec.{eqb}
+use lib.ListN.{length}
+use Rattle.codes.proofs.Members.{only-in, only-out, only-most, given-most, without-ended-most, union-most, larger-most, caught-most}
+use Rattle.esterel.specs.Statement.{Leaf, nothing, pause, emit, exit, Unary, signal, suspend, loop, trap, Binary, present, sequence, parallel, Stmt, leaf, one, two, size, nodes}
+use Rattle.esterel.specs.Codes.{only, withoutEnded, given}
+use Rattle.esterel.specs.Sets.{startSet, placesOf}
+use Rattle.esterel.specs.Checks.{tooManyTraps, uncaught}
+use Rattle.esterel.specs.Outcome.{statementAt}
+use Rattle.esterel.specs.Theorems.{WellFormed}
+use Rattle.esterel.proofs.Accepted.{first-passes}
+use Rattle.esterel.proofs.Caught.{codes-few}
+use Rattle.esterel.proofs.Low.{start-pause}
+use Rattle.esterel.proofs.Refusals.{refusals}
+use Rattle.esterel.proofs.Subtrees.{only-child, two-children}
+use Rattle.esterel.proofs.Theorems.{exactness, loopCheck}
+use Rattle.starts.specs.Ticks.{Leads, Sooner, Before, IsShown}
+use Rattle.starts.specs.Summary.{Gives, leastAnswers, presents}
+use Rattle.starts.specs.Walk.{goal, answersOf, codeOf, walk, Low, Below}
+use Rattle.starts.specs.Theorems.{Triples, TakesFew, Shown, Faults, Walking, WalksRight}
+use Rattle.starts.proofs.Exact.{least-weighs}
+use Rattle.starts.proofs.Triples.{ran, gives, taken, starved-few, few-answers, in-gives, exact, reached, there}
+use Rattle.starts.proofs.Order.{before-once}
+use Rattle.starts.proofs.Bind.{Least, Walks}
+use Rattle.starts.proofs.Cost.{Says, below-low}
+use Rattle.starts.proofs.Walk.{walks}
+
+pub triples : Triples
+triples p first k u n = (ran p first k u n, gives p first k u n)
+
+-- ---- a list that leads to a code is one that the recursion gives
+
+pub leads-gives : (p : Stmt) (first k : ℕ) (u : List ℕ) → Leads first p k u → (n : ℕ) × Gives p k u n
+leads-gives p first k u (t, h, e) = (length t, gives p first k u (length t) (t, h, e, refl))
+
+pub gives-leads : (p : Stmt) (first k : ℕ) (u : List ℕ) (n : ℕ) → Gives p k u n → Leads first p k u
+gives-leads p first k u n x = let (t, h, e, l) = ran p first k u n x in (t, h, e)
+
+short : (p : Stmt) (first k : ℕ) (u : List ℕ) → Leads first p k u → length u ≤ presents p
+short p first k u o = let (n, x) = leads-gives p first k u o in few-answers p k u n x
+
+pub few-tests : (p : Stmt) → 2 * presents p < size p
+few-tests (leaf l) = omega arith
+few-tests (one u p) = omega (arith, few-tests p)
+few-tests (two (present s) p q) = omega (arith, few-tests p, few-tests q)
+few-tests (two sequence p q) = omega (arith, few-tests p, few-tests q)
+few-tests (two parallel p q) = omega (arith, few-tests p, few-tests q)
+
+-- the least number of answers is one of some start
+pub few-least : (p : Stmt) (k n : ℕ) → leastAnswers p k ≡ some n → n ≤ presents p
+few-least p k n e =
+    let o = reached least-weighs (leastAnswers p k) n e (exact least-weighs p k) in
+    omega (arith, o .weight, few-answers p k (o .used) (o .many) (o .is))
+
+pub takesFew : TakesFew
+takesFew =
+    record {
+      taken = λ p first ans k t h r e.
+          let (used, z, b, x) = taken p first ans k t h r e in
+          (used, z, b, gives-leads p first k used (length t) x);
+      starves = starved-few;
+      tests = few-tests;
+    }
+
+-- ---- the walk
+
+goal-own : (k : ℕ) → goal k k ≡ some 0
+goal-own k = rw (only-in k)
+
+goal-other : (k j r : ℕ) → goal k j ≡ some r → (k ≡ j) × (r ≡ 0)
+goal-other k j r e = go (eqb k j) refl e
+  where
+    go : (t : Bool) → eqb k j ≡ t → cond t (some 0) none ≡ some r → (k ≡ j) × (r ≡ 0)
+    go true f g = (only-out k j f, cc)
+    go false f g = let z : _≡_ {A = ℕ} 0 1 = cc in absurd (omega arith)
+
+module _ (B : ℕ) (p : Stmt) (b : Below B p) (k : ℕ) (e : startSet p k ≡ true) where
+  -- the least number of answers, with nothing needed after code k
+  found : (m : ℕ) × Least (Says (Gives p)) (goal k) m
+  found =
+      let (u, n, x) = in-gives p k e in
+      let (m, z) = there least-weighs (Gives p k) (leastAnswers p k) u n x (exact least-weighs p k) in
+      let o = reached least-weighs (leastAnswers p k) m z (exact least-weighs p k) in (
+        m,
+        record {
+          code = k;
+          used = o .used;
+          left = 0;
+          is = (o .many, o .is);
+          needs = goal-own k;
+          total = omega (arith, o .weight);
+          least = λ j v r (n, s) f.
+              let (same, zero-left) = goal-other k j r f in
+              omega (arith, o .first v n (subst (λ i. Gives p i v n) (sym same) s));
+        },
+      )
+
+  -- a list that the walk takes comes before every other
+  firsts : (u : List ℕ) (i m : ℕ) → Least (Says (Gives p)) (goal k) m → Walks (Says (Gives p)) (goal k) m u i → (v : List ℕ) (n : ℕ) → Gives p k v n → (u ≡ v) ⊎ Before u v
+  firsts u i m l x v n y = go (decLt (length u) (length v))
+    where
+      left : x .left ≡ 0
+      left = goal-other k i (x .left) (x .needs) .1
+
+      more : m ≤ length v + 0
+      more = l .least k v 0 (n, y) (goal-own k)
+
+      at-one : length u ≡ length v → ((v ≡ u) × (k ≡ i)) ⊎ Sooner u v → (u ≡ v) ⊎ Before u v
+      at-one z (inl (a, b)) = inl (sym a)
+      at-one z (inr q) = inr (inr (z, q))
+
+      go : Dec (length u < length v) → (u ≡ v) ⊎ Before u v
+      go (yes h) = inr (inl h)
+      go (no h) = at-one (omega (arith, x .total, left, more)) (x .first k v 0 (n, y) (goal-own k) (omega (arith, x .total, left, more)))
+
+  shows : (u : List ℕ) (i m : ℕ) → Least (Says (Gives p)) (goal k) m → Walks (Says (Gives p)) (goal k) m u i → (first : ℕ) → IsShown first p k u
+  shows u i m c x first =
+      let same = goal-other k i (x .left) (x .needs) .0 in
+      record {
+        bits = x .bits;
+        leads = gives-leads p first k u (x .is .0) (subst (λ j. Gives p j u (x .is .0)) (sym same) (x .is .1));
+        first = λ v o. let (n, y) = leads-gives p first k v o in firsts u i m c x v n y;
+      }
+
+  walking : Walking B p k
+  walking =
+      let (m, c) = found in
+      let x = walks B p b (goal k) m c in
+      record {
+        code = sym (goal-other k (codeOf (walk B p (goal k))) (x .left) (x .needs) .0);
+        shown = shows (answersOf (walk B p (goal k))) (codeOf (walk B p (goal k))) m c x;
+      }
+
+pub walksRight : WalksRight
+walksRight B p b k e = walking B p b k e
+
+-- ---- some bound is above all codes of a statement and of those in it
+
+below-more : (p : Stmt) (B C : ℕ) → B ≤ C → Below B p → Below C p
+below-more (leaf l) B C h b = λ k e. omega (arith, b k e)
+below-more (one u p) B C h b = (λ k e. omega (arith, b .0 k e), below-more p B C h (b .1))
+below-more (two c p q) B C h b = (λ k e. omega (arith, b .0 k e), below-more p B C h (b .1), below-more q B C h (b .2))
+
+-- what is above those of the children is above those of the statement
+one-low : (u : Unary) (p : Stmt) (B : ℕ) → Low B p → Low (suc B) (one u p)
+one-low (signal s) p B l = λ k e. omega (arith, l k e)
+one-low (suspend s) p B l = λ k e. omega (arith, l k e)
+one-low loop p B l = λ k e. omega (arith, without-ended-most B (startSet p) l k e)
+one-low trap p B l = caught-most B (startSet p) (λ k e. omega (arith, l k e))
+
+two-low : (c : Binary) (p q : Stmt) (B : ℕ) → Low B p → Low B q → Low B (two c p q)
+two-low sequence p q B l m =
+    union-most B (withoutEnded (startSet p)) (given (startSet p 0) (startSet q)) (without-ended-most B (startSet p) l) (given-most B (startSet p 0) (startSet q) m)
+two-low (present s) p q B l m = union-most B (startSet p) (startSet q) l m
+two-low parallel p q B l m = larger-most B (startSet p) (startSet q) l m
+
+leaf-low : (l : Leaf) → (B : ℕ) × Low B (leaf l)
+leaf-low nothing = (0, only-most 0 0 (omega arith))
+leaf-low pause = (1, only-most 1 1 (omega arith))
+leaf-low (exit level) = (2 + level, only-most (2 + level) (2 + level) (omega arith))
+leaf-low (emit s) = (0, only-most 0 0 (omega arith))
+
+bounded : (p : Stmt) → (B : ℕ) × Below B p
+bounded (leaf l) = leaf-low l
+bounded (one u p) = let (B, b) = bounded p in (suc B, (one-low u p B (below-low B p b), below-more p B (suc B) (omega arith) b))
+bounded (two c p q) =
+    let (B, b) = bounded p in
+    let (C, d) = bounded q in
+    let x : Below (max B C) p = below-more p B (max B C) (omega arith) b in
+    let y : Below (max B C) q = below-more q C (max B C) (omega arith) d in
+    (max B C, (two-low c p q (max B C) (below-low (max B C) p x) (below-low (max B C) q y), x, y))
+
+-- ---- the list that is shown
+
+exists : (p : Stmt) (first k : ℕ) → startSet p k ≡ true → (answers : List ℕ) × IsShown first p k answers
+exists p first k e = let (B, b) = bounded p in (answersOf (walk B p (goal k)), walksRight B p b k e .shown first)
+
+only-one : (u v : List ℕ) → (u ≡ v) ⊎ Before u v → (v ≡ u) ⊎ Before v u → u ≡ v
+only-one u v (inl e) d = e
+only-one u v (inr q) (inl f) = sym f
+only-one u v (inr q) (inr r) = absurd (before-once u v q r)
+
+pub shown : Shown
+shown =
+    record {
+      exists = λ p first k. (exists p first k, λ (u, o). let (t, h, e) = o .leads in exactness p first k .1 (u, t, h, [], e));
+      unique = λ p first k u v o d. only-one u v (o .first v (d .leads)) (d .first u (o .leads));
+      short = short;
+    }
+
+-- ---- check 11
+
+-- where every node's codes are low, so are those of the statements at and in a node
+below-at : (p : Stmt) (B : ℕ) → ((i : ℕ) → Low B (statementAt (nodes p) i)) → (q : Stmt) (i : ℕ) → statementAt (nodes p) i ≡ q → Below B q
+below-at p B low (leaf l) i e = λ k f. low i k (rw e f)
+below-at p B low (one u q) i e = (λ k f. low i k (rw e f), below-at p B low q (i - 1) (only-child p i u q e .1))
+below-at p B low (two b q r) i e =
+    let c = two-children p i b q r e in
+    (λ k f. low i k (rw e f), below-at p B low q (i - 1 - size r) (c .2), below-at p B low r (i - 1) (c .1))
+
+-- no code of a program that passes checks 1 to 10 is above 63
+pub codes-below : {bytes : List ℕ} {p : Stmt} → WellFormed bytes p → (i : ℕ) → Below 63 (statementAt (nodes p) i)
+codes-below {p = p} w i = below-at p 63 low (statementAt (nodes p) i) i refl
+  where
+    low : (i : ℕ) → Low 63 (statementAt (nodes p) i)
+    low i k e =
+        let h = codes-few p (first-passes tooManyTraps (placesOf p) 0 (w .traps)) (first-passes uncaught (placesOf p) 0 (w .exits)) (only 1) start-pause i k e in
+        omega arith
+
+pub faults : Faults
+faults bytes node e =
+    let (p, w) = loopCheck .wellFormed bytes node e in
+    let l = loopCheck .refuses bytes p w node .0 e in
+    let (answers, o) = exists (l .body) (node - size (l .body)) 0 (l .such) in
+    record {
+      program = p;
+      reads = w .reads;
+      body = l .body;
+      isLoop = l .isLoop;
+      answers = answers;
+      shown = o;
+      short = λ other d. omega (arith, short (l .body) (node - size (l .body)) 0 other d, few-tests (l .body), only-child p node loop (l .body) (l .isLoop) .0, refusals bytes 11 node e .2);
+    }

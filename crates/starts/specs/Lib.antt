@@ -1,0 +1,5 @@
+pub mod Ticks
+pub mod Summary
+pub mod Walk
+pub mod Theorems
+pub mod Examples

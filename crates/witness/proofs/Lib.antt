@@ -1,0 +1,5 @@
+pub mod Small
+pub mod Needs
+pub mod Walks
+pub mod Ticks
+pub mod Theorems

@@ -1,0 +1,21 @@
+-- `witness::refused` meets its contract.
+use mathlib.Core.Path.{sym, ap}
+use Rattle.witness.specs.Ticks.{refusalOf}
+use borrow.Author.Needs.{needs}
+use Rattle.witness.proofs.refused.Statement.{statement}
+use Rattle.witness.proofs.refused.Tie as tie
+
+enum-told : tie.Need-enum-told
+enum-told c = search needs
+
+enum-known-check : tie.Need-enum-known-check
+enum-known-check c = search needs
+
+returns : tie.Need-returns
+returns c = search needs
+
+returns-2 : tie.Need-returns-2
+returns-2 c = sym (ap refusalOf (c .before .check .given .1))
+
+pub refused-spec : {M : Type 1} → statement M
+refused-spec = tie.close (tie.spec enum-told enum-known-check returns returns-2)

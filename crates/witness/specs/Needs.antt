@@ -1,0 +1,49 @@
+-- What is still needed after each code, as rows: from what is needed after a node, what is needed after its children.
+use Prim.Native.Nat.{ℕ, suc, _+_, _<_, max}
+use mathlib.Core.Path.{_≡_}
+use mathlib.Core.Bool.{Bool, true, false, cond, _&&_}
+use mathlib.Core.Option.{Option}
+use mathlib.Core.List.{List}
+use lib.Dec.{eqb}
+use lib.ListN.{length, getD}
+use Rattle.esterel.specs.Codes.{catchCode}
+use Rattle.table.specs.Kinds.{isTrap, isLoop}
+use Rattle.table.specs.declared.Kind.{Kind}
+use Rattle.starts.specs.Summary.{upTo, together, least}
+use Rattle.starts.specs.Walk.{noMore, needFirst}
+use Rattle.rows.specs.Rows.{valuesOf, leastSum, LowRow, Holds}
+use Rattle.rows.specs.Filled.{RowAt}
+
+-- after the only child, or after the second of two whose first gave a code
+abbrev pub underAt : Kind → (code : ℕ) (need : List ℕ) → ℕ → ℕ
+underAt k code need j = cond (isTrap k) (getD need (catchCode j) 0) (cond (isLoop k && eqb j 0) 0 (getD need (max code j) 0))
+
+pub record Under (k : Kind) (code : ℕ) (need r : List ℕ) : Type 0 where
+  pub long : length r ≡ 64
+  pub at : (j : ℕ) → j < 64 → getD r j 0 ≡ underAt k code need j
+
+-- the least up to each code
+pub record UpRow (row r : List ℕ) : Type 0 where
+  pub holds : Holds (upTo least (valuesOf row)) r
+  pub low : (m : ℕ) → LowRow m row → LowRow m r
+
+-- after the first of two, where `row` is of the second: of a sequence, or of a parallel
+abbrev pub firstNeed : Bool → (row need : List ℕ) → ℕ → Option ℕ
+firstNeed true row need = needFirst (leastSum row need) (valuesOf need)
+firstNeed false row need = λ i. upTo least (λ j. together _+_ (valuesOf row j) (valuesOf need (max i j))) 63
+
+pub record First (ordered : Bool) (row need r : List ℕ) : Type 0 where
+  pub holds : Holds (firstNeed ordered row need) r
+  pub low : (m n : ℕ) → LowRow (suc m) row → LowRow (suc n) need → LowRow (suc (m + n)) r
+
+-- no number of node j's row is above 1,025
+pub record RowLow (rows : List ℕ) (j : ℕ) : Type 0 where
+  pub at : (row : List ℕ) → RowAt rows j row → LowRow 1025 row
+
+-- a test, with the rows of the then branch and of the else branch: whether the second, with what is needed after it, needs no more
+pub record Absent (rows : List ℕ) (first last : ℕ) (need : List ℕ) (r : Bool) : Type 0 where
+  pub then : List ℕ
+  pub other : List ℕ
+  pub of-first : RowAt rows first then
+  pub of-last : RowAt rows last other
+  pub is : r ≡ noMore (leastSum other need) (leastSum then need)
