@@ -1,9 +1,9 @@
 //! Statement tables of pure Esterel, read from documents 01 and 02 alone: all of
-//! document 01, as F-5 and F-7 of document 02 amend it, and the programs as text of
-//! F-1.
+//! document 01, as F-5 and F-7 of document 02 amend it, the programs as text of F-1,
+//! and the ticks of F-2.
 //!
 //! The specification is in `table`, `checks`, `sets`, `analysis`, `listing`,
-//! `instant` and `text`. `support` serves the tests and the generators.
+//! `instant`, `text` and `tick`. `support` serves the tests and the generators.
 
 pub mod analysis;
 pub mod checks;
@@ -13,11 +13,13 @@ pub mod sets;
 pub mod support;
 pub mod table;
 pub mod text;
+pub mod tick;
 
 pub use analysis::{analyse, Sets};
 pub use instant::{resume, resume_with_trail, start, start_with_trail, Closed, Entry, How};
 pub use listing::listing;
 pub use text::read;
+pub use tick::{find_tick, tick_line, Tick};
 
 /// The number of a failed check and the lowest node that it fits.
 #[derive(Clone, Copy, Debug, PartialEq, Eq)]

@@ -13,6 +13,8 @@ pub type Instant = fn(&[u8], &[u8], &mut [u8], &mut [u8], &mut [u64]) -> u32;
 pub type Render = fn(&[u8], &mut [u8], &mut [u64]) -> u32;
 /// Text, table, answer.
 pub type Read = fn(&[u8], &mut [u8], &mut [u64]) -> u32;
+/// Table, answers, answer.
+pub type Tick = fn(&[u8], &mut [u8], &mut [u64]) -> u32;
 
 #[derive(Clone, Copy)]
 pub struct Calls {
@@ -98,6 +100,19 @@ fn read(text: &[u8], table: &mut [u8], answer: &mut [u64]) -> u32 {
         let front = front(answer)?;
         let (nodes, signals) = crate::read(text, table)?;
         *front = [nodes as u64, signals as u64, 0];
+        Ok(())
+    })
+}
+
+/// The figures are 1, node and length for a loop whose body ends, else 0, nodes and loop
+/// depth.
+pub fn tick(table: &[u8], answers: &mut [u8], answer: &mut [u64]) -> u32 {
+    returned(|| {
+        let front = front_after_length(table, answer)?;
+        *front = match crate::find_tick(table, answers)? {
+            crate::Tick::Ends { node, length } => [1, node as u64, length as u64],
+            crate::Tick::Accepted { nodes, loops } => [0, nodes as u64, loops as u64],
+        };
         Ok(())
     })
 }

@@ -122,7 +122,7 @@ fn set_random_levels(random: &mut Random, bytes: &mut [u8]) {
 }
 
 /// Lets some loop bodies end at once.
-fn pauses_to_nothing(random: &mut Random, bytes: &mut [u8]) {
+pub fn pauses_to_nothing(random: &mut Random, bytes: &mut [u8]) {
     for node in bytes.chunks_exact_mut(2) {
         if node[0] == 2 && random.one_in(2) {
             node[0] = 1;

@@ -246,12 +246,12 @@ pub fn exits_through_all_traps() -> [Vec<u8>; 4] {
     ]
 }
 
-fn after(first: &[u8], second: &[u8]) -> Vec<u8> {
+pub(super) fn after(first: &[u8], second: &[u8]) -> Vec<u8> {
     [first, second].concat()
 }
 
 /// The leaf with the given nodes after it so many times.
-fn around(leaf: &[u8], nodes: &[u8], times: usize) -> Vec<u8> {
+pub(super) fn around(leaf: &[u8], nodes: &[u8], times: usize) -> Vec<u8> {
     after(leaf, &nodes.repeat(times))
 }
 

@@ -2,6 +2,7 @@
 //! random numbers, vector files, tables and instants to try.
 
 pub mod arguments;
+pub mod bodies;
 pub mod calls;
 pub mod cases;
 pub mod damage;
@@ -15,6 +16,8 @@ pub mod random;
 pub mod states;
 pub mod text_edges;
 pub mod texts;
+pub mod tick_edges;
+pub mod ticks;
 pub mod vectors;
 
 /// The seed of every generated table and instant.

@@ -68,28 +68,64 @@ pub const SHAPES: [Shape; 9] = [
     },
 ];
 
+/// Shapes of many presents, so that much depends on the answers. Not many of their
+/// statements can end.
+pub const SHAPES_OF_PRESENTS: [Shape; 5] = [
+    Shape {
+        name: "presents",
+        weights: [0, 2, 6, 1, 3, 1, 12, 1, 1, 5, 4, 3],
+        split: Split::Even,
+    },
+    Shape {
+        name: "presents to the right",
+        weights: [0, 1, 9, 0, 3, 0, 12, 0, 1, 3, 3, 2],
+        split: Split::Right,
+    },
+    Shape {
+        name: "presents to the left",
+        weights: [0, 1, 9, 0, 3, 0, 12, 0, 1, 3, 3, 2],
+        split: Split::Left,
+    },
+    Shape {
+        name: "choices in parallel",
+        weights: [0, 2, 3, 0, 9, 0, 8, 0, 1, 2, 8, 5],
+        split: Split::Even,
+    },
+    Shape {
+        name: "choices of exits",
+        weights: [0, 1, 2, 0, 12, 0, 14, 0, 0, 2, 2, 4],
+        split: Split::Even,
+    },
+];
+
 /// Draws an accepted program of at most so many nodes.
 pub fn accepted(random: &mut Random, shape: &Shape, nodes: usize) -> Vec<u8> {
+    let room = Room {
+        nodes,
+        depth: MOST_DEPTH,
+        traps: 0,
+    };
+    statement(random, shape, room)
+}
+
+/// Draws a statement whose loops are sound, for a place where there is this room.
+pub fn statement(random: &mut Random, shape: &Shape, room: Room) -> Vec<u8> {
     let mut draft = Draft {
         random,
         shape,
         table: Vec::new(),
     };
-    draft.statement(Room {
-        nodes,
-        depth: MOST_DEPTH,
-        traps: 0,
-    });
+    draft.statement(room);
     draft.table
 }
 
 /// What may still be put at a place of the program.
 #[derive(Clone, Copy)]
-struct Room {
-    nodes: usize,
-    depth: usize,
+pub struct Room {
+    pub nodes: usize,
+    pub depth: usize,
     /// Traps around the place.
-    traps: usize,
+    pub traps: usize,
 }
 
 impl Room {

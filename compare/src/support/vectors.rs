@@ -44,6 +44,11 @@ pub struct TextVector {
     pub outcome: Result<(Vec<u8>, usize), Refusal>,
 }
 
+pub struct TickVector {
+    pub table: Vec<u8>,
+    pub line: String,
+}
+
 /// Where the vector files are: BAVZHRONO_VECTORS, else beside the repository.
 pub fn directory() -> PathBuf {
     match std::env::var_os("BAVZHRONO_VECTORS") {
@@ -85,6 +90,16 @@ pub fn read_texts(file: &Path) -> Vec<TextVector> {
         .map(|object| TextVector {
             text: bytes(object, "text"),
             outcome: or_refusal(object, table_and_signals),
+        })
+        .collect()
+}
+
+pub fn read_ticks(file: &Path) -> Vec<TickVector> {
+    read_objects(file)
+        .iter()
+        .map(|object| TickVector {
+            table: bytes(object, "table"),
+            line: text(object, "line").to_string(),
         })
         .collect()
 }

@@ -1,0 +1,150 @@
+//! Writes tables, and the lines that the program `tick` is expected to print for them.
+//!
+//! Usage: `ticks [--tick-vectors FILE].. INPUT EXPECTED`
+//!
+//! INPUT holds the tables one after the other, each as its length in bytes (2 bytes,
+//! little-endian) followed by that many bytes. EXPECTED has one line a table: the node
+//! of the refused loop and the answers with which its body ends, or else the first line
+//! of the listing.
+//!
+//! ```text
+//! NODE ANSWER ANSWER ..
+//! ok NODES LOOPS BOUND
+//! refused NUMBER NODE
+//! ```
+//!
+//! First come the tables of the vectors, with the lines of that file. Then come the
+//! edges and random tables; lines that are known beforehand are compared with those of
+//! this implementation.
+
+use std::path::Path;
+use std::process::ExitCode;
+
+use compare::support::random::Random;
+use compare::support::ticks::{even_trees, one_list, table, NUMBERS};
+use compare::support::vectors::read_ticks;
+use compare::support::{arguments, edges, hex, tick_edges, SEED};
+use compare::tick_line;
+
+/// How many of each size: of few nodes, of some, and about as many as are allowed.
+const SIZES: [(usize, [usize; 2]); 3] = [
+    (8 * NUMBERS, [2, 30]),
+    (4 * NUMBERS, [31, 100]),
+    (NUMBERS, [700, 1024]),
+];
+const EVEN_TREES: usize = 300;
+const ONE_LIST: usize = 80;
+
+fn main() -> ExitCode {
+    match write_files() {
+        Ok(()) => ExitCode::SUCCESS,
+        Err(message) => {
+            eprintln!("ticks: {message}");
+            ExitCode::FAILURE
+        }
+    }
+}
+
+/// The two files as they grow.
+#[derive(Default)]
+struct Files {
+    tables: usize,
+    input: Vec<u8>,
+    expected: String,
+}
+
+impl Files {
+    fn add(&mut self, table: &[u8], line: &str) {
+        let length = u16::try_from(table.len()).expect("a length of two bytes");
+        self.tables += 1;
+        self.input.extend(length.to_le_bytes());
+        self.input.extend(table);
+        self.expected.push_str(line);
+    }
+
+    /// Adds a table whose line is known.
+    fn add_known(&mut self, name: &str, table: &[u8], line: &str) -> Result<(), String> {
+        let ours = tick_line(table);
+        if ours != line {
+            let table = hex::encode(table);
+            return Err(format!(
+                "{name} disagrees\ntable {table}\nexpected: {line}ours:     {ours}"
+            ));
+        }
+        self.add(table, line);
+        Ok(())
+    }
+}
+
+fn write_files() -> Result<(), String> {
+    let arguments = arguments::read(["--tick-vectors"])?;
+    let [vectors] = &arguments.options;
+    println!("seed {SEED:#x}");
+    let mut files = Files::default();
+    for file in vectors {
+        add_vectors(&mut files, file)?;
+    }
+    add_edges(&mut files)?;
+    add_random(&mut files)?;
+    println!(
+        "tables {}, input bytes {}, expected bytes {}",
+        files.tables,
+        files.input.len(),
+        files.expected.len()
+    );
+    arguments.write(&files.input, files.expected.as_bytes())
+}
+
+fn add_vectors(files: &mut Files, file: &Path) -> Result<(), String> {
+    let vectors = read_ticks(file);
+    for (at, vector) in vectors.iter().enumerate() {
+        let name = format!("vector line {}", at + 1);
+        files.add_known(&name, &vector.table, &vector.line)?;
+    }
+    println!("vectors {}, all agree", vectors.len());
+    Ok(())
+}
+
+/// The edges of F-2, then those of document 01.
+fn add_edges(files: &mut Files) -> Result<(), String> {
+    let before = files.tables;
+    for edge in tick_edges::edges() {
+        files.add_known(&format!("edge {}", edge.name), &edge.table, &edge.line)?;
+    }
+    for edge in edges::edges() {
+        files.add(&edge.table, &tick_line(&edge.table));
+    }
+    println!("edges {}", files.tables - before);
+    Ok(())
+}
+
+fn add_random(files: &mut Files) -> Result<(), String> {
+    let random = &mut Random::new(SEED);
+    for (count, [least, most]) in SIZES {
+        for number in 0..count {
+            let nodes = random.between(least, most);
+            let table = table(random, number, nodes);
+            files.add(&table, &tick_line(&table));
+        }
+        println!("tables of {least} to {most} nodes {count}");
+    }
+    for _ in 0..EVEN_TREES {
+        let table = even_trees(random);
+        files.add(&table, &tick_line(&table));
+    }
+    println!("trees of presents {EVEN_TREES}");
+    for _ in 0..ONE_LIST {
+        let most = *random.pick(&[20, 60, 200, 1024]);
+        let nodes = random.between(2, most);
+        let (table, list) = one_list(random, nodes);
+        files.add_known("one list", &table, &line(&table, &list))?;
+    }
+    println!("bodies that end with one list {ONE_LIST}");
+    Ok(())
+}
+
+/// The line of a loop that is the whole table.
+fn line(table: &[u8], list: &[u8]) -> String {
+    let answers: String = list.iter().map(|answer| format!(" {answer}")).collect();
+    format!("{}{answers}\n", table.len() / 2 - 1)
+}
