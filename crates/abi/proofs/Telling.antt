@@ -1,13 +1,9 @@
 -- Three stores at the front of an answer, what fits in 32 bits, and the two ways in which an exported function returns.
 use mathlib.Core.Path.{_≡_, refl, subst}
-use mathlib.Core.Bool.{Bool, true, false, _||_, cond}
 use mathlib.Core.List.{List, [], _∷_, _++_}
-use Prim.Native.Nat.{ℕ, _*_, _%_, _≤_, _<_}
+use Prim.Native.Nat.{ℕ, _≤_, _<_}
 use native.Mathlib.Omega.{arith}
-use lib.Dec.{eqb, ltb}
 use lib.ListN.{length, drop, set}
-use Rattle.esterel.specs.Limits.{maxNodes}
-use Rattle.table.specs.Check.{lengthCheck}
 use Rattle.table.specs.declared.Check.{Check}
 use Rattle.table.specs.declared.Check.the-variants.{Passed, Refused}
 use Rattle.analysis.specs.Analysis.{Analysis}
@@ -27,7 +23,12 @@ use Rattle.text.specs.declared.Reading.{Reading}
 use Rattle.text.specs.declared.Reading.the-variants.{Done as DoneText}
 use Rattle.text.specs.declared.Reading.the-variants.{Refused as RefusedText}
 use Rattle.text.proofs.Theorems.{of-read}
-use Rattle.abi.specs.Exported.{returned, answerAfter, Small, Tells, tellAnalysed, tellReaction, tellRendered, tellReading, shortAnswer, Exported}
+use Rattle.witness.specs.Ticks.{Tells as TellsTick}
+use Rattle.witness.specs.declared.Tick.{Tick}
+use Rattle.witness.specs.declared.Tick.the-variants.{Ends, Accepted}
+use Rattle.witness.specs.declared.Tick.the-variants.{Refused as RefusedTick}
+use Rattle.witness.proofs.Theorems.{ticksTold}
+use Rattle.abi.specs.Exported.{returned, answerAfter, Small, Tells, tellAnalysed, tellReaction, tellRendered, tellReading, tellTick, shortAnswer, Exported}
 use Rattle.abi.specs.declared.Told.{Told}
 
 pub three : (l : List ℕ) (a b c : ℕ) → 3 ≤ length l → set (set (set l 0 a) 1 b) 2 c ≡ (a ∷ b ∷ c ∷ []) ++ drop 3 l
@@ -35,16 +36,6 @@ three [] a b c h = absurd (omega arith)
 three (x ∷ []) a b c h = absurd (omega arith)
 three (x ∷ (y ∷ [])) a b c h = absurd (omega arith)
 three (x ∷ (y ∷ (z ∷ l))) a b c h = refl
-
--- checks 1 and 2 name no node
-pub length-refusal : (t : List ℕ) (number node : ℕ) → lengthCheck t ≡ Refused number node → (1 ≤ number) × (number ≤ 2) × (0 ≡ node)
-unfolding lengthCheck
-length-refusal t number node = go (ltb (2 * maxNodes) (length t)) (eqb (length t) 0 || eqb (length t % 2) 1)
-  where
-    go : (a b : Bool) → cond a (Refused 1 0) (cond b (Refused 2 0) Passed) ≡ Refused number node → (1 ≤ number) × (number ≤ 2) × (0 ≡ node)
-    go true b e = let z : 1 ≡ number = cc in (omega arith, omega arith, cc)
-    go false true e = let z : 2 ≡ number = cc in (omega arith, omega arith, cc)
-    go false false e = let z : _≡_ {A = ℕ} 0 1 = cc in absurd (omega arith)
 
 -- the node of a refusal is one of a table's
 pub small-analysed : {t k a s m k′ a′ s′ m′ : List ℕ} (r : Analysed) → Analysis t k a s m k′ a′ s′ m′ r → Small (tellAnalysed r)
@@ -70,6 +61,11 @@ small-rendered TooShort = omega arith
 pub small-read : (text old new : List ℕ) (r : Reading) → ReadAs text old new r → Small (tellReading r)
 small-read text old new (DoneText nodes n) o = tt
 small-read text old new (RefusedText number node) o = omega (arith, of-read .refused text old new number node o .2)
+
+pub small-tick : (t old new : List ℕ) (r : Tick) → TellsTick t old new r → Small (tellTick r)
+small-tick t old new (Ends node n) o = tt
+small-tick t old new (Accepted nodes loops) o = tt
+small-tick t old new (RefusedTick number node) o = omega (arith, ticksTold .refuses t old new number node o .2)
 
 -- it changes no answer
 short-same : (before : Check) (answer : List ℕ) → answer ≡ answerAfter (shortAnswer before) answer

@@ -1,8 +1,9 @@
 -- Demand 1 of the exported functions: each contract by what was told.
 use mathlib.Core.Path.{_≡_, refl, sym, ap, _∙_}
+use mathlib.Core.Logic.{_⊎_, inl, inr}
 use mathlib.Core.Bool.{Bool, true, false, cond}
 use mathlib.Core.List.{List, [], _∷_, _++_}
-use Prim.Native.Nat.{ℕ, _+_, _≤_, _<_}
+use Prim.Native.Nat.{ℕ, _≤_, _<_}
 use native.Mathlib.Decide.{decLt}
 use native.Mathlib.Omega.{arith}
 use lib.Dec.{leb}
@@ -10,6 +11,7 @@ use lib.ListN.{length, drop}
 use Rattle.esterel.specs.Limits.{maxNodes}
 use Rattle.esterel.specs.Checks.{verdict}
 use Rattle.table.specs.Check.{lengthCheck}
+use Rattle.table.proofs.Found.{length-refusal}
 use Rattle.table.specs.declared.Check.{Check}
 use Rattle.table.specs.declared.Check.the-variants.{Passed, Refused}
 use Rattle.analysis.specs.Passes.{onto}
@@ -33,11 +35,15 @@ use Rattle.text.specs.declared.Reading.{Reading}
 use Rattle.text.specs.declared.Reading.the-variants.{Done as DoneText}
 use Rattle.text.specs.declared.Reading.the-variants.{Refused as RefusedText}
 use Rattle.text.proofs.Theorems.{of-read, number-known}
-use Rattle.abi.specs.Exported.{returned, answerAfter, Tells, tellAnalysed, tellReaction, tellRendered, tellReading, shortAnswer, Exported}
-use Rattle.abi.specs.Theorems.{Ran, IsRefused, Demand1OfExports}
+use Rattle.witness.specs.Ticks.{Tells as TellsTick}
+use Rattle.witness.specs.declared.Tick.{Tick}
+use Rattle.witness.specs.declared.Tick.the-variants.{Ends, Accepted}
+use Rattle.witness.specs.declared.Tick.the-variants.{Refused as RefusedTick}
+use Rattle.witness.proofs.Theorems.{ticksTold}
+use Rattle.abi.specs.Exported.{returned, answerAfter, Tells, tellAnalysed, tellReaction, tellRendered, tellReading, tellTick, shortAnswer, Exported}
+use Rattle.abi.specs.Theorems.{Ran, Shown, NoTick, IsRefused, Demand1OfExports}
 use Rattle.abi.specs.declared.Told.{Told}
 use Rattle.abi.specs.declared.Told.the-variants.{Refusal}
-use Rattle.abi.proofs.Telling.{length-refusal}
 
 -- ---- what is told by the number returned
 
@@ -102,6 +108,9 @@ module _ {A : Type 0} (before : Check) (Same : Type 0) (Call : A → Type 0) (te
 
 length-known : (t : List ℕ) → Known 13 (shortAnswer (lengthCheck t))
 length-known t = short-known 13 (omega arith) (lengthCheck t) (length-refusal t)
+
+tick-known : (t : List ℕ) → Known 10 (shortAnswer (lengthCheck t))
+tick-known t = short-known 10 (omega arith) (lengthCheck t) (length-refusal t)
 
 none-known : (most : ℕ) → 3 ≤ most → Known most (shortAnswer Passed)
 none-known most m = short-known most m Passed (λ number node e. (let z : _≡_ {A = ℕ} 0 1 = cc in absurd (omega arith)))
@@ -189,6 +198,23 @@ module _ (text old new answer answer′ : List ℕ) where
   read-done (DoneText nodes n) o z e = (nodes, n, o, e)
   read-done (RefusedText number node) o z e = absurd (omega (arith, number-known (of-read .refused text old new number node o .1) .0))
 
+module _ (t old new answer answer′ : List ℕ) where
+  tick-own : (x : Tick) → TellsTick t old new x → 0 < returned (tellTick x) → Own (lengthCheck t) (new ≡ old) (TellsTick t old new) tellTick (λ number node. TellsTick t old new (RefusedTick number node)) answer answer′ 10 (tick-known t) x
+  tick-own (Ends node n) o h = absurd (omega arith)
+  tick-own (Accepted nodes loops) o h = absurd (omega arith)
+  tick-own (RefusedTick number node) o h =
+      let (some, known, below, same) = ticksTold .refuses t old new number node o in
+      record {
+        known = record { number = number; node = node; is = refl; some = some; known = known; within = below };
+        refuses = o;
+        same = same;
+      }
+
+  tick-done : (x : Tick) → TellsTick t old new x → returned (tellTick x) ≡ 0 → answer′ ≡ answerAfter (tellTick x) answer → Shown t old new answer answer′ ⊎ NoTick t old new answer answer′
+  tick-done (Ends node n) o z e = inl (node, n, o, e)
+  tick-done (Accepted nodes loops) o z e = let (p, v, n, d, same) = ticksTold .accepts t old new nodes loops o in inr (nodes, loops, o, same, e)
+  tick-done (RefusedTick number node) o z e = absurd (omega (arith, ticksTold .refuses t old new number node o .0))
+
 pub demand1OfExports : Demand1OfExports
 demand1OfExports =
     record {
@@ -216,4 +242,9 @@ demand1OfExports =
       readDone = λ text table answer table′ answer′ o.
           (let (x, call, z, e) = done-told Passed _ _ tellReading (λ number node. Unit {0}) answer answer′ 16 read-known o in
           read-done text table table′ answer answer′ x call z e);
+      tickRefused = λ t answers answer answers′ answer′ r o h.
+          refused-is (lengthCheck t) _ _ tellTick _ answer answer′ 10 (tick-known t) (tick-own t answers answers′ answer answer′) r o h;
+      tickDone = λ t answers answer answers′ answer′ o.
+          (let (x, call, z, e) = done-told (lengthCheck t) _ _ tellTick (λ number node. Unit {0}) answer answer′ 10 (tick-known t) o in
+          tick-done t answers answers′ answer answer′ x call z e);
     }

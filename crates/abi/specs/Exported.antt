@@ -25,6 +25,10 @@ use Rattle.text.specs.Reading.{ReadAs}
 use Rattle.text.specs.declared.Reading.{Reading}
 use Rattle.text.specs.declared.Reading.the-variants.{Done as DoneText}
 use Rattle.text.specs.declared.Reading.the-variants.{Refused as RefusedText}
+use Rattle.witness.specs.Ticks.{Tells as TellsTick}
+use Rattle.witness.specs.declared.Tick.{Tick}
+use Rattle.witness.specs.declared.Tick.the-variants.{Ends, Accepted}
+use Rattle.witness.specs.declared.Tick.the-variants.{Refused as RefusedTick}
 use Rattle.abi.specs.declared.Told.{Told}
 use Rattle.abi.specs.declared.Told.the-variants.{Figures, Refusal}
 
@@ -68,6 +72,12 @@ abbrev pub tellReading : Reading → Told
 tellReading (DoneText nodes signals) = Figures nodes signals 0
 tellReading (RefusedText number node) = Refusal number node
 
+-- 1 and the tick's node and length, or 0 and an accepted table's nodes and loop depth
+abbrev pub tellTick : Tick → Told
+tellTick (Ends node length) = Figures 1 node length
+tellTick (Accepted nodes loops) = Figures 0 nodes loops
+tellTick (RefusedTick number node) = Refusal number node
+
 -- an answer of fewer than three entries fails check 3, which comes after the call's checks before it
 abbrev pub shortAnswer : (before : Check) → Told
 shortAnswer Passed = Refusal 3 0
@@ -98,3 +108,6 @@ RenderingC t text answer text′ answer′ r = Exported Passed (text′ ≡ text
 -- check 3 comes first (F-1)
 abbrev pub ReadingC : (text table answer table′ answer′ : List ℕ) → ℕ → Type 0
 ReadingC text table answer table′ answer′ r = Exported Passed (table′ ≡ table) (ReadAs text table table′) tellReading answer answer′ r
+
+abbrev pub TickingC : (t answers answer answers′ answer′ : List ℕ) → ℕ → Type 0
+TickingC t answers answer answers′ answer′ r = Exported (lengthCheck t) (answers′ ≡ answers) (TellsTick t answers answers′) tellTick answer answer′ r

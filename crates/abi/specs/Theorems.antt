@@ -1,6 +1,7 @@
 -- Demand 1 of the exported functions: what follows from their contracts. The statements alone; the proofs are in proofs/Theorems.antt.
 use Prim.Native.Nat.{ℕ, _/_, _%_, _≤_, _<_}
 use mathlib.Core.Path.{_≡_}
+use mathlib.Core.Logic.{_⊎_}
 use mathlib.Core.List.{List, [], _∷_}
 use lib.ListN.{length}
 use Rattle.esterel.specs.Limits.{maxNodes}
@@ -22,12 +23,24 @@ use Rattle.listing.specs.declared.Rendered.the-variants.{Whole, TooShort}
 use Rattle.text.specs.Reading.{ReadAs}
 use Rattle.text.specs.declared.Reading.the-variants.{Done as DoneText}
 use Rattle.text.specs.declared.Reading.the-variants.{Refused as RefusedText}
-use Rattle.abi.specs.Exported.{returned, shortAnswer, Analysing, StartingC, ResumingC, RenderingC, ReadingC}
+use Rattle.witness.specs.Ticks.{Tells as TellsTick}
+use Rattle.witness.specs.declared.Tick.the-variants.{Ends, Accepted}
+use Rattle.witness.specs.declared.Tick.the-variants.{Refused as RefusedTick}
+use Rattle.abi.specs.Exported.{returned, shortAnswer, Analysing, StartingC, ResumingC, RenderingC, ReadingC, TickingC}
 use Rattle.abi.specs.declared.Told.the-variants.{Refusal}
 
 -- after 0 the call has closed with these figures
 abbrev pub Ran : (Reaction → Type 0) → (answer answer′ : List ℕ) → Type 0
 Ran Call answer answer′ = (code taken entries : ℕ) × Call (Closed code taken entries) × (answer′ ≡ onto (code ∷ taken ∷ entries ∷ []) answer)
+
+-- after 0 a tick is told, or that the table is accepted, and then no byte of the answers has changed
+abbrev pub Shown : (t answers answers′ answer answer′ : List ℕ) → Type 0
+Shown t answers answers′ answer answer′ =
+    (node n : ℕ) × TellsTick t answers answers′ (Ends node n) × (answer′ ≡ onto (1 ∷ node ∷ n ∷ []) answer)
+
+abbrev pub NoTick : (t answers answers′ answer answer′ : List ℕ) → Type 0
+NoTick t answers answers′ answer answer′ =
+    (nodes loops : ℕ) × TellsTick t answers answers′ (Accepted nodes loops) × (answers′ ≡ answers) × (answer′ ≡ onto (0 ∷ nodes ∷ loops ∷ []) answer)
 
 -- a function that returned r, and not 0, was refused: r is number + 256 * node of the call's own refusal or, where the answer is too
 -- short, of the first that fails of the checks up to 3, and no number is above `most`. The answer has not changed
@@ -69,6 +82,10 @@ pub record Demand1OfExports : Type 0 where
       (text table answer table′ answer′ : List ℕ) (r : ℕ) →
       ReadingC text table answer table′ answer′ r → 0 < r →
       (table′ ≡ table) × IsRefused 16 Passed (λ number node. ReadAs text table table′ (RefusedText number node)) answer answer′ r
+  pub tickRefused :
+      (t answers answer answers′ answer′ : List ℕ) (r : ℕ) →
+      TickingC t answers answer answers′ answer′ r → 0 < r →
+      (answers′ ≡ answers) × IsRefused 10 (lengthCheck t) (λ number node. TellsTick t answers answers′ (RefusedTick number node)) answer answer′ r
   -- where 0 is returned, the call was not refused, and its figures stand in the answer
   pub analyseDone :
       (t k a s m answer k′ a′ s′ m′ answer′ : List ℕ) →
@@ -88,3 +105,6 @@ pub record Demand1OfExports : Type 0 where
       (text table answer table′ answer′ : List ℕ) →
       ReadingC text table answer table′ answer′ 0 →
       (nodes signals : ℕ) × ReadAs text table table′ (DoneText nodes signals) × (answer′ ≡ onto (nodes ∷ signals ∷ 0 ∷ []) answer)
+  pub tickDone :
+      (t answers answer answers′ answer′ : List ℕ) →
+      TickingC t answers answer answers′ answer′ 0 → Shown t answers answers′ answer answer′ ⊎ NoTick t answers answers′ answer answer′

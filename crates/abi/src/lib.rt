@@ -6,12 +6,13 @@ ghost use Prim.Native.Nat.{_≤_, _<_};
 ghost use lib.ListN.{length};
 ghost use Rattle.table.specs.Check.{lengthCheck};
 ghost use Rattle.analysis.specs.Passes.{onto};
-ghost use Rattle.abi.specs.Exported.{maxNode, returned, Small, Tells, tellAnalysed, tellReaction, tellRendered, tellReading, shortAnswer, Analysing, StartingC, ResumingC, RenderingC, ReadingC};
+ghost use Rattle.abi.specs.Exported.{maxNode, returned, Small, Tells, tellAnalysed, tellReaction, tellRendered, tellReading, tellTick, shortAnswer, Analysing, StartingC, ResumingC, RenderingC, ReadingC, TickingC};
 use analysis::Analysed;
 use instant::Reaction;
 use listing::Rendered;
 use table::Check;
 use text::Reading;
+use witness::Tick;
 
 // What a call tells: three figures, or the number and the node of a refusal.
 enum Told {
@@ -138,6 +139,24 @@ fn tell_reading(reading: Reading) -> Told
     }
 }
 
+fn tell_tick(tick: Tick) -> Told
+    ensures { λ r. ⌜ r ≡ tellTick tick ⌝ }
+{
+    match tick {
+        Tick::Ends { node, length } => Told::Figures {
+            first: 1,
+            second: node,
+            third: length,
+        },
+        Tick::Accepted { nodes, loops } => Told::Figures {
+            first: 0,
+            second: nodes,
+            third: loops,
+        },
+        Tick::Refused { number, node } => Told::Refusal { number, node },
+    }
+}
+
 #[no_mangle]
 pub extern "C" fn bavzhrono_analyse(
     table: &[u8],
@@ -212,4 +231,16 @@ pub extern "C" fn bavzhrono_read(text: &[u8], table: &mut [u8], answer: &mut [u6
     }
     let reading = text::read(text, table);
     tell(tell_reading(reading), answer)
+}
+
+// Where the table is refused by check 11, the tick: the answers with which the loop's body begins and ends at once.
+#[no_mangle]
+pub extern "C" fn bavzhrono_tick(table: &[u8], answers: &mut [u8], answer: &mut [u64]) -> u32
+    ensures { λ r. ⌜ TickingC (now (table .entry)) (now (answers .entry)) (now (answer .entry)) (now (answers .exit)) (now (answer .exit)) r ⌝ }
+{
+    if answer.len() < FIGURES {
+        return short_answer(table);
+    }
+    let tick = witness::find_tick(table, answers);
+    tell(tell_tick(tick), answer)
 }

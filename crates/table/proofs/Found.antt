@@ -1,16 +1,18 @@
--- The answers of checks 8, 9 and 10 over the places from a node on.
+-- The answers of checks 1, 2 and 3, and of 8, 9 and 10 over the places from a node on.
 use mathlib.Core.Path.{_≡_, refl, ap, _∙_}
-use mathlib.Core.Bool.{Bool, true, false, cond}
+use mathlib.Core.Bool.{Bool, true, false, _||_, cond}
 use mathlib.Core.Option.{Option, none, some}
 use mathlib.Core.List.{List, _∷_}
-use Prim.Native.Nat.{ℕ, suc, _+_, _≤_, _<_}
+use Prim.Native.Nat.{ℕ, suc, _+_, _*_, _%_, _≤_, _<_}
+use native.Mathlib.Omega.{arith}
 use borrow.Author.Tests.{lt-ltb, le-ltb}
+use lib.Dec.{eqb, ltb}
 use lib.ListN.{length}
 use Rattle.esterel.specs.Limits.{maxNodes}
 use Rattle.esterel.specs.Sets.{Place}
 use Rattle.esterel.specs.Checks.{tooDeep, tooManyTraps, uncaught, firstNode}
 use Rattle.esterel.proofs.Refusals.{Below, first-below}
-use Rattle.table.specs.Check.{passIf, refuseFound, lowest, refuseBelow, placesCheck}
+use Rattle.table.specs.Check.{passIf, lengthCheck, refuseFound, lowest, refuseBelow, placesCheck}
 use Rattle.table.specs.declared.Check.{Check}
 use Rattle.table.specs.declared.Check.the-variants.{Passed, Refused}
 use Rattle.table.specs.declared.Faults.{Faults}
@@ -23,6 +25,16 @@ pass-true number false e = cc
 pub pass-false : (number : ℕ) (b : Bool) (i j : ℕ) → passIf number b ≡ Refused i j → b ≡ false
 pass-false number true i j e = cc
 pass-false number false i j e = refl
+
+-- checks 1 and 2 name no node
+pub length-refusal : (t : List ℕ) (number node : ℕ) → lengthCheck t ≡ Refused number node → (1 ≤ number) × (number ≤ 2) × (0 ≡ node)
+unfolding lengthCheck
+length-refusal t number node = go (ltb (2 * maxNodes) (length t)) (eqb (length t) 0 || eqb (length t % 2) 1)
+  where
+    go : (a b : Bool) → cond a (Refused 1 0) (cond b (Refused 2 0) Passed) ≡ Refused number node → (1 ≤ number) × (number ≤ 2) × (0 ≡ node)
+    go true b e = let z : 1 ≡ number = cc in (omega arith, omega arith, cc)
+    go false true e = let z : 2 ≡ number = cc in (omega arith, omega arith, cc)
+    go false false e = let z : _≡_ {A = ℕ} 0 1 = cc in absurd (omega arith)
 
 -- the lowest node at which a check fails
 abbrev pub Answer : (Place → Bool) → List Place → ℕ → ℕ → Type 0

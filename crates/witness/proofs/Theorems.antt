@@ -115,8 +115,8 @@ ends-short {t} {old} node n (Tells.shows m u v s z w) e =
     let same : n ≡ length u = cc in
     omega (arith, list-short (eleven (leb maxAnswers (length old)) t m v) s)
 
-accepted-is : {t old new : List ℕ} {r : Tick} (n d : ℕ) → Tells t old new r → r ≡ Accepted n d → (p : Stmt) × (verdict t ≡ passed p) × (n ≡ size p) × (d ≡ loopDepth p)
-accepted-is {t} {old} n d (Tells.accepts p v z w) e = (p, checked-passed (leb maxAnswers (length old)) t p v, cc, cc)
+accepted-is : {t old new : List ℕ} {r : Tick} (n d : ℕ) → Tells t old new r → r ≡ Accepted n d → (p : Stmt) × (verdict t ≡ passed p) × (n ≡ size p) × (d ≡ loopDepth p) × (new ≡ old)
+accepted-is {t} {old} n d (Tells.accepts p v z w) e = (p, checked-passed (leb maxAnswers (length old)) t p v, cc, cc, w)
 accepted-is n d (Tells.refuses a m v c z w) e = let y : _≡_ {A = ℕ} 0 1 = cc in absurd (omega arith)
 accepted-is n d (Tells.shows m u v s z w) e = let y : _≡_ {A = ℕ} 0 1 = cc in absurd (omega arith)
 

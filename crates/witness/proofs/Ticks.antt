@@ -1,13 +1,13 @@
 -- One lemma for each return of `goal`, `show` and `find_tick`.
 use mathlib.Core.Path.{_≡_, refl, sym, ap, ap₂, subst, _∙_}
-use mathlib.Core.Bool.{Bool, true, false, cond, _||_}
+use mathlib.Core.Bool.{Bool, true, false, cond}
 use mathlib.Core.Option.{some}
 use mathlib.Core.Option.{none as nowhere}
 use mathlib.Core.List.{List, [], _++_}
-use Prim.Native.Nat.{ℕ, zero, suc, _+_, _-_, _*_, _/_, _%_, _≤_, _<_}
+use Prim.Native.Nat.{ℕ, zero, suc, _+_, _-_, _/_, _≤_, _<_}
 use native.Mathlib.Omega.{arith}
 use borrow.Author.Tests.{ne-eqb, leb-true}
-use lib.Dec.{eqb, leb, ltb}
+use lib.Dec.{leb}
 use lib.ListN.{length, getD, set, drop, replicate, getD-replicate}
 use lib.Seq.{sets, sets-eq, getD-set-other}
 use Rattle.esterel.specs.Limits.{maxNodes}
@@ -28,7 +28,7 @@ use Rattle.table.specs.Check.{passIf, lengthCheck}
 use Rattle.table.specs.declared.Check.{Check}
 use Rattle.table.specs.declared.Check.the-variants.{Passed}
 use Rattle.table.specs.declared.Check.the-variants.{Refused as RefusedCheck}
-use Rattle.table.proofs.Found.{pass-true}
+use Rattle.table.proofs.Found.{pass-true, length-refusal}
 use Rattle.table.proofs.Surveying.{few-nodes}
 use Rattle.table.proofs.Sizing.{measured}
 use Rattle.analysis.specs.Passes.{Accepting}
@@ -156,19 +156,7 @@ module _ {t : List ℕ} {node : ℕ} (o : Faulty t node) where
 
 -- ---- find_tick
 
--- checks 1, 2 and 3 refuse by other numbers
-length-low : (t : List ℕ) (number node : ℕ) → lengthCheck t ≡ RefusedCheck number node → number ≤ 2
-unfolding lengthCheck
-length-low t number node e = go (ltb (2 * maxNodes) (length t)) (eqb (length t) 0 || eqb (length t % 2) 1) e
-  where
-    same : {a : ℕ} → RefusedCheck a 0 ≡ RefusedCheck number node → number ≡ a
-    same z = cc
-
-    go : (a b : Bool) → cond a (RefusedCheck 1 0) (cond b (RefusedCheck 2 0) Passed) ≡ RefusedCheck number node → number ≤ 2
-    go true b z = omega (arith, same z)
-    go false true z = omega (arith, same z)
-    go false false z = let y : _≡_ {A = ℕ} 0 1 = cc in absurd (omega arith)
-
+-- check 3 refuses by another number
 room-low : (b : Bool) (number node : ℕ) → passIf 3 b ≡ RefusedCheck number node → number ≡ 3
 room-low true number node e = cc
 room-low false number node e = cc
@@ -176,7 +164,7 @@ room-low false number node e = cc
 module _ (old : List ℕ) {t : List ℕ} {c : Check} (e : c ≡ lengthCheck t) where
   pub length-tells : {r : Tick} (number node : ℕ) → c ≡ RefusedCheck number node → r ≡ refusalOf c → Tells t old old r
   length-tells number node z er =
-      Tells.refuses number node (length-refused t _ c number node e z) (λ y. omega (arith, length-low t number node (sym e ∙ z))) (er ∙ ap refusalOf z) refl
+      Tells.refuses number node (length-refused t _ c number node e z) (λ y. omega (arith, length-refusal t number node (sym e ∙ z) .1)) (er ∙ ap refusalOf z) refl
 
   module _ (z : c ≡ Passed) {b : Check} (eb : b ≡ passIf 3 (leb maxAnswers (length old))) where
     pub room-tells : {r : Tick} (number node : ℕ) → b ≡ RefusedCheck number node → r ≡ refusalOf b → Tells t old old r

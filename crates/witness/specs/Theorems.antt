@@ -28,7 +28,7 @@ pub record TicksTold : Type 0 where
   pub short : (t old new : List ℕ) (node n : ℕ) → Tells t old new (Ends node n) → n < maxAnswers
   pub accepts :
       (t old new : List ℕ) (n d : ℕ) → Tells t old new (Accepted n d) →
-      (p : Stmt) × (verdict t ≡ passed p) × (n ≡ size p) × (d ≡ loopDepth p)
+      (p : Stmt) × (verdict t ≡ passed p) × (n ≡ size p) × (d ≡ loopDepth p) × (new ≡ old)
   -- a refusal has a number from 1 to 10 and a node that a table can have, and changes nothing
   pub refuses :
       (t old new : List ℕ) (number node : ℕ) → Tells t old new (Refused number node) →

@@ -4,7 +4,7 @@ use native.Mathlib.Omega.{arith}
 use mathlib.Core.Path.{sym, ap, _∙_}
 use denote.Ref.{now}
 use Rattle.abi.specs.Exported.{returned, shortAnswer}
-use Rattle.abi.proofs.Telling.{length-refusal}
+use Rattle.table.proofs.Found.{length-refusal}
 use Rattle.abi.proofs.short_answer.Statement.{statement}
 use Rattle.abi.proofs.short_answer.Tie as tie
 
