@@ -1,16 +1,17 @@
 # Thin, over the toolchain's rt and cargo. Each target does its own set-up.
 .PHONY: run test soak bench archive definitions vectors
 
-# builds the programs and lists a worked example; TABLE=FILE lists a table of your own, TEXT=FILE a program that is given as text. Each crate is
-# shown as it is proved, on standard error, and all that rt said if one is not
+# builds the programs and lists a worked example; TABLE=FILE lists a table of your own, TEXT=FILE a program that is given as text, and
+# PROGRAM=tick shows the tick of either. Each crate is shown as it is proved, on standard error, and all that rt said if one is not
 TABLE = examples/w1.table
 TEXT =
+PROGRAM = list
 run:
 	@echo "Proving and building the programs; the first time this takes some minutes" >&2
-	@rt check list translate 2>&1 | tee target-run.log | sed -un '/^rt: /p' >&2
+	@rt check list tick translate 2>&1 | tee target-run.log | sed -un '/^rt: /p' >&2
 	@tail -n 1 target-run.log | grep -q '^rt: ok' || { cat target-run.log >&2; rm -f target-run.log; exit 1; }
 	@rm -f target-run.log
-	@if [ -n "$(TEXT)" ]; then tools/list_text.sh $(TEXT); else target/bin/list < $(TABLE); fi
+	@if [ -n "$(TEXT)" ]; then tools/run_text.sh $(PROGRAM) $(TEXT); else target/bin/$(PROGRAM) < $(TABLE); fi
 
 # the gate: everything proved from nothing, every must-fail edit refused, every program's output compared, all formatted
 test:
@@ -41,6 +42,7 @@ vectors:
 	@compare/target/release/tables --listing-vectors $(VECTORS)/listing7_open.jsonl --tables-of $(VECTORS)/listing5_open.jsonl --tables-of $(VECTORS)/listing_open.jsonl crates/tables/stdin crates/tables/stdout
 	@compare/target/release/instants --instant-vectors $(VECTORS)/instants7_open.jsonl --instants-of $(VECTORS)/instants_open.jsonl crates/instants/stdin crates/instants/stdout
 	@compare/target/release/texts --text-vectors $(VECTORS)/text_open.jsonl crates/texts/stdin crates/texts/stdout
-	@for t in examples/*.table; do compare/target/release/list < $$t > $${t%.table}.listing; done
-	@for t in examples/*.strl; do compare/target/release/translate < $$t | compare/target/release/list > $$t.listing; done
+	@compare/target/release/ticks --tick-vectors $(VECTORS)/tick_open.jsonl crates/ticks/stdin crates/ticks/stdout
+	@for t in examples/*.table; do compare/target/release/list < $$t > $${t%.table}.listing; compare/target/release/tick < $$t > $${t%.table}.tick; done
+	@for t in examples/*.strl; do compare/target/release/translate < $$t | tee $$t.table | compare/target/release/list > $$t.listing; compare/target/release/tick < $$t.table > $$t.tick; rm $$t.table; done
 	@git diff --stat -- crates examples

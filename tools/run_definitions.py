@@ -1,13 +1,14 @@
 #!/usr/bin/env python3
 """Runs the theory's definitions on outside vectors and on edges of documents 01 and 02, and reports each difference.
 
-    python3 tools/run_definitions.py [--vectors DIR] [--listings N] [--instants N] [--texts N] [--seed S]
+    python3 tools/run_definitions.py [--vectors DIR] [--listings N] [--instants N] [--texts N] [--ticks N] [--seed S]
 
 Each vector becomes a theorem `what the definitions give ≡ what is expected`, proved by refl, so that the checker has to
 compute the definitions. All is written to a temporary repository, which has copies of crates/codes, crates/esterel and
 crates/grammar. The theorem listing17 is the vector in line 17 of the listings; edges are numbered as they stand below.
 A text's derivation cannot be computed: its tree is the one that the machine of crates/grammar finds, of which it is proved
-that it finds exactly the derivations.
+that it finds exactly the derivations. Of a tick that is shown, the rules are run with its list (tick17); where body and list are
+small, all lists that come before it are run too, in their order, until one leads there (first17).
 """
 import argparse, collections, json, os, random, re, shutil, subprocess, sys, tempfile, time
 from pathlib import Path
@@ -21,16 +22,17 @@ CRATES_TXT = "codes:\nesterel: codes\ngrammar: esterel\ncontrol: grammar esterel
 # The calls of document 01 and the reader of F-1, put together from the definitions. Check 3 stands between 2 and 4: `checkLength` makes 1 and 2,
 # and `verdict` makes them once more, with 4 to 11. The emission buffer is taken to be long enough.
 CALLS = """
-use Prim.Native.Nat.{ℕ, _/_}
+use Prim.Native.Nat.{ℕ, zero, suc, _-_, _/_}
 use mathlib.Core.Bool.{Bool, true, false, cond}
 use mathlib.Core.List.{List, [], _∷_, _++_}
+use mathlib.Core.Option.{Option, none, some}
 use lib.ListN.{length, take, drop}
-use lib.Dec.{ltb}
-use Rattle.esterel.specs.Statement.{Stmt, size, loopDepth}
-use Rattle.esterel.specs.Table.{Verdict, passed, refused, checkLength, postfix}
+use lib.Dec.{eqb, ltb}
+use Rattle.esterel.specs.Statement.{Stmt, size, nodes, loopDepth}
+use Rattle.esterel.specs.Table.{Verdict, passed, refused, read, checkLength, postfix}
 use Rattle.esterel.specs.Checks.{verdict, listing, Line, planned}
-use Rattle.esterel.specs.Instant.{Mode, started, resumed, start, resume, admitted}
-use Rattle.esterel.specs.Outcome.{Outcome, done, needsAnswer, noRule, outcome}
+use Rattle.esterel.specs.Instant.{Mode, started, resumed, Result, closed, starved, stuck, start, resume, admitted}
+use Rattle.esterel.specs.Outcome.{Outcome, done, needsAnswer, noRule, outcome, statementAt}
 use Rattle.grammar.specs.Limits.{maxSource}
 use Rattle.grammar.specs.Tokens.{tokens}
 use Rattle.grammar.specs.Meaning.{verdictOfTree}
@@ -40,6 +42,7 @@ pub data Shown : Type 0 where
   ok : (n d planned : ℕ) (lines : List Line) → Shown
   ran : (code taken entries : ℕ) (state emissions : List ℕ) → Shown
   written : (table : List ℕ) → Shown
+  tick : (node : ℕ) (answers : List ℕ) → Shown
   refusal : (number node : ℕ) → Shown
   withoutRule : Shown
 
@@ -79,6 +82,54 @@ table (refused number node) = refusal number node
 
 abbrev pub readText : List ℕ → Shown
 readText text = table (cond (ltb maxSource (length text)) (refused 14 0) (told (M.parse (tokens text))))
+
+-- F-2: whether a run took all answers and gave code 0 (`Leads` of crates/starts)
+abbrev pub leads : Result → Bool
+leads (closed zero trail held []) = true
+leads (closed zero trail held (a ∷ rest)) = false
+leads (closed (suc k) trail held rest) = false
+leads starved = false
+leads stuck = false
+
+-- of the lists of m answers the first that leads there, absent before present; and of those from m answers on, so many lengths
+abbrev pub orElse : Option (List ℕ) → Option (List ℕ) → Option (List ℕ)
+orElse none y = y
+orElse (some x) y = some x
+
+abbrev pub behind : ℕ → Option (List ℕ) → Option (List ℕ)
+behind a none = none
+behind a (some l) = some (a ∷ l)
+
+abbrev pub firstOf : ℕ → (List ℕ → Bool) → Option (List ℕ)
+firstOf zero test = cond (test []) (some []) none
+firstOf (suc m) test = orElse (behind 0 (firstOf m (λ l. test (0 ∷ l)))) (behind 1 (firstOf m (λ l. test (1 ∷ l))))
+
+abbrev pub shortest : (lengths m : ℕ) → (List ℕ → Bool) → Option (List ℕ)
+shortest zero m test = none
+shortest (suc lengths) m test = orElse (firstOf m test) (shortest lengths (suc m) test)
+
+-- the body of the loop at a node, whose first node is numbered 0
+abbrev pub bodyAt : Verdict → ℕ → List ℕ → Result
+bodyAt (passed p) node = start 0 (statementAt (nodes p) (node - 1))
+bodyAt (refused number other) node = λ answers. stuck
+
+abbrev pub listed : ℕ → Option (List ℕ) → Shown
+listed node none = withoutRule
+listed node (some answers) = tick node answers
+
+-- where check 11 refuses: by a list that is given, or by trying all of up to so many lengths
+abbrev pub given : List ℕ → (List ℕ → Result) → Option (List ℕ)
+given answers run = cond (leads (run answers)) (some answers) none
+
+abbrev pub shownBy : ((List ℕ → Result) → Option (List ℕ)) → Verdict → Verdict → Shown
+shownBy find p (passed q) = figures (passed q)
+shownBy find p (refused number node) = cond (eqb number 11) (listed node (find (bodyAt p node))) (refusal number node)
+
+abbrev pub tickWith : (bytes answers : List ℕ) → Shown
+tickWith bytes answers = shownBy (given answers) (read bytes) (verdict bytes)
+
+abbrev pub firstTick : (bytes : List ℕ) (lengths : ℕ) → Shown
+firstTick bytes lengths = shownBy (λ run. shortest lengths 0 (λ l. leads (run l))) (read bytes) (verdict bytes)
 """
 HEAD = """
 use mathlib.Core.Path.{_≡_, refl}
@@ -87,7 +138,7 @@ use Rattle.esterel.specs.Codes.{word}
 use Rattle.esterel.specs.Checks.{verdict, line}
 use Rattle.esterel.specs.Instant.{started, resumed}
 use Rattle.grammar.specs.Tokens.{tokens, classOf}
-use Rattle.CRATE.proofs.Calls.{shown, figures, call, readText, ok, ran, written, refusal}
+use Rattle.CRATE.proofs.Calls.{shown, figures, call, readText, tickWith, firstTick, ok, ran, written, tick, refusal}
 """
 Theorem = collections.namedtuple("Theorem", "name left right")  # left: a call of the definitions; right: what is expected
 
@@ -133,6 +184,19 @@ def instant_theorem(at, vector):
 def text_theorem(at, vector):
     right = refused(vector["refused"], vector["node"]) if "refused" in vector else "written " + a_list(bytes.fromhex(vector["table"]))
     return Theorem(f"text{at}", f"readText {a_list(bytes.fromhex(vector['text']))}", right)
+
+# the lists of a body so small, and up to so long, are all tried
+SMALL, SHORT = 40, 6
+
+def tick_theorems(at, vector):
+    table, (word, *numbers) = bytes.fromhex(vector["table"]), vector["line"].split()
+    if word in ("ok", "refused"):
+        yield Theorem(f"tick{at}", verdict(table, "figures"), (ok if word == "ok" else refused)(*numbers))
+        return
+    right = f"tick {word} {a_list(numbers)}"
+    yield Theorem(f"tick{at}", f"tickWith {a_list(table)} {a_list(numbers)}", right)
+    if len(table) <= 2 * SMALL and len(numbers) <= SHORT:
+        yield Theorem(f"first{at}", f"firstTick {a_list(table)} {len(numbers) + 1}", right)
 
 def vectors(file, wanted, chance, theorem):
     numbered = list(enumerate(file.read_text().splitlines(), 1))
@@ -205,6 +269,14 @@ LISTINGS = [  # a line: kind, field, K, A, S, mark
                      (9, 0, 2, 1 << 63 | 2, up_to(63), 1), (10, 0, 2, 1 << 63 | 2, up_to(63) - 2, 1)]
         + [(11, 0, 2, 2 << t | 2, up_to(1 + t) - 2, 1) for t in range(61, 0, -1)] + [(11, 0, 2, 3, 1, 1), (8, 0, 2, 2, 0, 0)])),
 ]
+TICKS = {  # the line's numbers, and tables; ties of length under a parallel, and the lowest of two such loops
+    (1,): [[1, 0, 8, 0]], (2,): [[2, 0, 1, 0, 8, 0, 9, 0, 8, 0]], (3, 1): [[1, 0, 2, 0, 6, 5, 8, 0]],
+    (7, 0, 1): [[2, 0, 1, 0, 6, 5, 1, 0, 2, 0, 6, 5, 9, 0, 8, 0]],
+    # a test of which both branches end, and one whose else branch needs a further test
+    (3, 0): [[1, 0, 1, 0, 6, 5, 8, 0]], (5, 1): [[1, 0, 1, 0, 1, 0, 6, 1, 6, 0, 8, 0]],
+    # two branches, of which one at least must exit: the first by present, or the second by present
+    (8, 0, 1): [[4, 0, 1, 0, 6, 0, 4, 0, 2, 0, 6, 1, 10, 0, 11, 0, 8, 0]],
+}
 INSTANTS = [  # mode, table, state, answers
     # 1 and 2, then 3, then 4; a start's state is measured too, and its old bytes are not looked at
     ("started", branches(513), [], [], refused(1, 0)), ("resumed", [12], [], [], refused(2, 0)),
@@ -236,6 +308,7 @@ def edge_theorems():
     edges = [(verdict(table, "figures"), refused(*key)) for key, tables in REFUSED.items() for table in tables]
     edges += [(verdict(table, "figures"), ok(*key)) for key, tables in ACCEPTED.items() for table in tables]
     edges += [(verdict(table), right) for table, right in LISTINGS] + [(call(*lent), right) for *lent, right in INSTANTS] + list(text_edges())
+    edges += [(f"firstTick {a_list(table)} {len(key)}", f"tick {key[0]} {a_list(key[1:])}") for key, tables in TICKS.items() for table in tables]
     return [Theorem(f"edge{at}", *edge) for at, edge in enumerate(edges, 1)]
 
 TEXTS = [  # what is expected was worked out by hand from F-1 of document 02
@@ -262,6 +335,7 @@ def control_theorems():
     rights = [ran(1, 0, 5, [1, 0, 0, 0], [7]), ran(1, 0, 6, [1, 0, 0, 0], [8]), ran(1, 0, 6, [0] * 4, [7])]
     edges += [(call("resumed", W1, [1, 0, 0, 0], []), right) for right in rights]
     edges += [(f"readText {a_list(b'emit A;pause')}", "written " + a_list(right)) for right in ([3, 0, 2, 0, 9, 0, 9, 0], [3, 1, 2, 0, 9, 0])]
+    edges += [("firstTick (1 ∷ 0 ∷ 2 ∷ 0 ∷ 6 ∷ 5 ∷ 8 ∷ 0 ∷ []) 2", f"tick {right}") for right in ("3 []", "3 (0 ∷ [])", "2 (1 ∷ [])")]
     return [Theorem(f"control{at}", *edge) for at, edge in enumerate(edges)]
 
 # ---- the temporary repository
@@ -321,13 +395,14 @@ def run(repo, args):
     listings = vectors(args.vectors / "listing7_open.jsonl", args.listings, chance, listing_theorem)
     instants = vectors(args.vectors / "instants7_open.jsonl", args.instants, chance, instant_theorem)
     texts = vectors(args.vectors / "text_open.jsonl", args.texts, chance, text_theorem)
+    ticks = sum(vectors(args.vectors / "tick_open.jsonl", args.ticks, chance, lambda *vector: list(tick_theorems(*vector))), [])
     edges, controls = edge_theorems(), control_theorems()
-    theorems = {x.name: x for x in edges + listings + instants + texts}
+    theorems = {x.name: x for x in edges + listings + instants + texts + ticks}
     copy_crates(repo, args.whole)
     write_crate(repo, "control", controls, 1)
     write_crate(repo, "vectors", list(theorems.values()), 250)
     (repo / "crates.txt").write_text(CRATES_TXT)
-    for what, some in (("listings", listings), ("instants", instants), ("texts", texts), ("edges", edges)):
+    for what, some in (("listings", listings), ("instants", instants), ("texts", texts), ("ticks", ticks), ("edges", edges)):
         tally(what, some)
 
     proved, refusals, said = check(repo, "control")
@@ -350,6 +425,7 @@ def main():
     parser.add_argument("--listings", type=int, metavar="N", help="how many, drawn by the seed (default: all)")
     parser.add_argument("--instants", type=int, metavar="N", help="likewise")
     parser.add_argument("--texts", type=int, metavar="N", help="likewise")
+    parser.add_argument("--ticks", type=int, metavar="N", help="likewise")
     parser.add_argument("--seed", type=int, default=random.randrange(10**6), metavar="S")
     parser.add_argument("--keep", action="store_true", help="keep the temporary repository")
     parser.add_argument("--whole", action="store_true", help="prove the three crates whole first; else their definitions and types alone are read")

@@ -22,26 +22,28 @@ part() {
     failed=$((failed + ${counts#* }))
 }
 
-# listed FILE LISTING COMMAND..: passed if the command writes the listing.
-listed() {
-    file=$1 listing=$2
+# written FILE EXPECTED COMMAND..: passed if the command writes what is expected.
+written() {
+    file=$1 expected=$2
     shift 2
-    if "$@" < "$file" | cmp -s - "$listing"; then
+    if "$@" < "$file" | cmp -s - "$expected"; then
         right=$((right + 1))
     else
-        echo "FAIL: $file is not listed as $listing has it"
+        echo "FAIL: $1 does not write of $file what $expected has"
         wrong=$((wrong + 1))
     fi
 }
 
-# The worked examples, as tables and as texts.
-list_examples() {
+# The worked examples, as tables and as texts: their listings and ticks.
+run_examples() {
     right=0 wrong=0
     for table in examples/*.table; do
-        listed "$table" "${table%.table}.listing" target/bin/list
+        written "$table" "${table%.table}.listing" target/bin/list
+        written "$table" "${table%.table}.tick" target/bin/tick
     done
     for text in examples/*.strl; do
-        listed "$text" "$text.listing" tools/list_text.sh "$text"
+        written "$text" "$text.listing" tools/run_text.sh list "$text"
+        written "$text" "$text.tick" tools/run_text.sh tick "$text"
     done
     echo "$right passed, $wrong failed"
 }
@@ -57,7 +59,7 @@ test_compare() {
 
 rt fmt --check || { echo "0 passed, 1 failed"; exit 1; }
 part "rt ci" rt ci
-part examples list_examples
+part examples run_examples
 part input tools/test_input.sh
 rt staticlib abi > "$log" 2>&1 || cat "$log"
 part bindings bindings/test.sh

@@ -119,16 +119,19 @@ told() {
 }
 
 gcc -Wall -Wextra -Werror -O1 tools/pieces.c -o "$out/pieces" &&
-    cargo build --manifest-path compare/Cargo.toml --release --offline --locked --quiet --bin list --bin translate &&
+    cargo build --manifest-path compare/Cargo.toml --release --offline --locked --quiet --bin list --bin tick --bin translate &&
     make_tables && make_texts && told "$PWD/target/bin/translate" translate && told "$others/translate" other_translate || { echo "0 passed, 1 failed"; exit 1; }
 count "a read gets a piece" is_in_pieces
 count "the longest table is accepted" is_accepted
 run target/bin/list "$others/list" examples/*.table "$out"/*.table
 run_failing target/bin/list examples/w1.table
+run target/bin/tick "$others/tick" examples/*.table "$out"/*.table
+run_failing target/bin/tick examples/w1.table
 run "$out/translate" "$out/other_translate" examples/*.strl "$out"/*.text
 run_failing target/bin/translate examples/lock.strl
 run target/bin/tables "cat crates/tables/stdout" crates/tables/stdin
 run target/bin/instants "cat crates/instants/stdout" crates/instants/stdin
 run target/bin/texts "cat crates/texts/stdout" crates/texts/stdin
+run target/bin/ticks "cat crates/ticks/stdout" crates/ticks/stdin
 echo "$passed passed, $failed failed"
 [ "$failed" -eq 0 ]

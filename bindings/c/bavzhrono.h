@@ -1,7 +1,7 @@
 /*
- * Bavzhrono: the checker and the runner of single instants for tables of pure Esterel, and the
- * reader that makes such a table from text, for C (C99) and C++. Link with libabi.a (x86-64), which
- * needs nothing but the C library.
+ * Bavzhrono: the checker and the runner of single instants for tables of pure Esterel, the reader
+ * that makes such a table from text, and the finder of the tick in which a refused loop's body ends
+ * at once, for C (C99) and C++. Link with libabi.a (x86-64), which needs nothing but the C library.
  *
  * The table
  *
@@ -82,9 +82,9 @@
  *         16  the text has a 257th signal name                                  no
  *
  * 4 to 6 are decided node by node: the first faulty node counts, with its lowest number. Each of
- * 8 to 11 covers the whole table before the next begins. 12 is for bavzhrono_resume, 13 for it
- * and bavzhrono_start, and 14 to 16 are for bavzhrono_read: each covers the whole text before the
- * next begins.
+ * 8 to 11 covers the whole table before the next begins. 11 is not returned by bavzhrono_tick,
+ * which shows the fault in its place. 12 is for bavzhrono_resume, 13 for it and bavzhrono_start,
+ * and 14 to 16 are for bavzhrono_read: each covers the whole text before the next begins.
  *
  * Buffers
  *
@@ -102,6 +102,7 @@
  * them at once, each with buffers of its own to be written.
  * stack: up to about 110 KiB
  * bavzhrono_read: up to about 940 KiB
+ * bavzhrono_tick: up to about 490 KiB
  */
 #ifndef BAVZHRONO_H
 #define BAVZHRONO_H
@@ -117,6 +118,8 @@
 #define BAVZHRONO_MAX_TEXT 67584
 /* The most bytes of a text that bavzhrono_read takes. */
 #define BAVZHRONO_MAX_SOURCE 16384
+/* The bytes of answers that bavzhrono_tick needs: any list fits. It is no limit of the instants. */
+#define BAVZHRONO_MAX_ANSWERS 512
 /* The entries of an answer that are needed. */
 #define BAVZHRONO_ANSWER 3
 /* The number and the node of a returned value, each a uint32_t; 0 and 0 where nothing is refused. */
@@ -212,6 +215,27 @@ uint32_t bavzhrono_render(const uint8_t *table, size_t table_length,
  */
 uint32_t bavzhrono_read(const uint8_t *text, size_t text_length,
                         uint8_t *table, size_t table_length,
+                        uint64_t *answer, size_t answer_length);
+
+/*
+ * The tick in which the body of a refused loop ends at once; checks 1 to 11.
+ *
+ * In:  the table.
+ * Out: answers  BAVZHRONO_MAX_ANSWERS bytes needed, for a short list too. If check 11 fails, a list
+ *               of answers to presence tests is at the front: 0 absent, 1 present. The old bytes
+ *               past it stay. For an accepted table all do.
+ *      answer   (1, node of the loop, length of the list) if check 11 fails, and (0, n, loop depth
+ *               d) for an accepted table.
+ *
+ * The loop is the lowest whose body can end in the instant in which it is started, the one that the
+ * other functions name with 11. Started with the list, its body takes all of it and ends, with code
+ * 0. No list that does so is shorter, and of those as short this one has 0 at the first difference.
+ * It can be empty, and has at most 511 answers.
+ *
+ * Returns 0 in both cases. The refusals are 1 to 10.
+ */
+uint32_t bavzhrono_tick(const uint8_t *table, size_t table_length,
+                        uint8_t *answers, size_t answers_length,
                         uint64_t *answer, size_t answer_length);
 
 #ifdef __cplusplus

@@ -3,7 +3,8 @@
  *
  * The expected values are those that document 01 prints (Table W and its edges) or that its rules,
  * as F-5 and F-7 amend them, give by hand; the sets of W3 are those of the implementation in
- * compare/. The tables of texts are by hand, from F-1 of document 02 and its readings.
+ * compare/. The tables of texts and the lists of ticks are by hand, from F-1 and F-2 of document 02
+ * and their readings.
  */
 #include "bavzhrono.h"
 #include "bavzhrono.h" /* twice, for the include guard */
@@ -28,12 +29,13 @@ typedef struct {
     uint8_t emissions[BAVZHRONO_SIGNALS + SPARE];
     uint8_t text[BAVZHRONO_MAX_TEXT + SPARE];
     uint8_t table[TABLE_NEED + SPARE];
+    uint8_t answers[BAVZHRONO_MAX_ANSWERS + SPARE];
     uint64_t answer[BAVZHRONO_ANSWER + SPARE];
 } buffers;
 
 /* The lengths that are lent. */
 typedef struct {
-    size_t start_sets, any_sets, contexts, marks, state, emissions, text, table, answer;
+    size_t start_sets, any_sets, contexts, marks, state, emissions, text, table, answers, answer;
 } lengths;
 
 typedef struct {
@@ -95,8 +97,8 @@ static void check(const char *call, const char *name, uint32_t returned, uint32_
 /* No more than the call needs. */
 static lengths needed(size_t nodes, size_t text)
 {
-    lengths lent = {nodes, nodes, nodes, nodes, nodes,
-                    BAVZHRONO_SIGNALS, text, TABLE_NEED, BAVZHRONO_ANSWER};
+    lengths lent = {nodes, nodes, nodes, nodes, nodes, BAVZHRONO_SIGNALS,
+                    text, TABLE_NEED, BAVZHRONO_MAX_ANSWERS, BAVZHRONO_ANSWER};
     return lent;
 }
 
@@ -106,6 +108,7 @@ static lengths spare(void)
     lengths lent = needed(NODE_ROOM, BAVZHRONO_MAX_TEXT + SPARE);
     lent.emissions += SPARE;
     lent.table += SPARE;
+    lent.answers += SPARE;
     lent.answer += SPARE;
     return lent;
 }
@@ -133,6 +136,11 @@ static uint32_t read_text(const char *text, size_t length, lengths lent)
 {
     return bavzhrono_read((const uint8_t *)text, length, actual.table, lent.table, actual.answer,
                           lent.answer);
+}
+
+static uint32_t tick(const uint8_t *table, size_t length, lengths lent)
+{
+    return bavzhrono_tick(table, length, actual.answers, lent.answers, actual.answer, lent.answer);
 }
 
 /* Accepted tables: the sets of each node. */
@@ -209,6 +217,13 @@ static size_t full_table(uint8_t *table)
     return length + put(table + length, 8, 0);
 }
 
+static void pauses_to_nothing(uint8_t *full)
+{
+    for (size_t node = 0; node < BAVZHRONO_MAX_NODES; node++)
+        if (full[2 * node] == 2)
+            full[2 * node] = 1;
+}
+
 static void test_sets_of_edges(void)
 {
     static uint8_t table[2 * BAVZHRONO_MAX_NODES];
@@ -260,7 +275,8 @@ static void test_code_63_in_all_sets(void)
     test_sets("code 63 in K, A and S", table, sets, 68, 1);
 }
 
-/* Refused tables: by number and node in three functions, as a line of text in the fourth. */
+/* Refused tables: by number and node in four functions, as a line of text in the fifth. What 11
+   refuses is shown by one of the four, and is tested with the ticks. */
 
 static void test_refused(const char *name, const uint8_t *table, size_t length, uint32_t number,
                          uint32_t node)
@@ -272,6 +288,8 @@ static void test_refused(const char *name, const uint8_t *table, size_t length, 
     check("analyse", name, analyse(table, length, spare()), refused);
     check("start", name, instant(bavzhrono_start, table, length, NULL, 0, spare()), refused);
     check("resume", name, instant(bavzhrono_resume, table, length, NULL, 0, spare()), refused);
+    if (number != 11)
+        check("tick", name, tick(table, length, spare()), refused);
     memcpy(expected.text, line, (size_t)line_length);
     expect_answer((uint64_t)line_length, 0, 0);
     check("render", name, render(table, length, needed(0, (size_t)line_length)), 0);
@@ -310,9 +328,7 @@ static void test_refused_at_the_last_node(void)
     put(table + length - 2, 12, 0);
     test_refused("4, the last of 1,024 nodes", table, length, 4, 1023);
     /* With a nothing for each pause the body can end, but that shows only at the loop. */
-    for (size_t node = 0; node < BAVZHRONO_MAX_NODES; node++)
-        if (table[2 * node] == 2)
-            table[2 * node] = 1;
+    pauses_to_nothing(table);
     put(table + length - 2, 8, 0);
     test_refused("11, the last of 1,024 nodes", table, length, 11, 1023);
 }
@@ -373,6 +389,7 @@ static void test_short_answer(size_t answer_length, const char *table_name, cons
     check("analyse", name, analyse(table, length, lent), number);
     check("start", name, instant(bavzhrono_start, table, length, NULL, 0, lent), number);
     check("resume", name, instant(bavzhrono_resume, table, length, NULL, 0, lent), number);
+    check("tick", name, tick(table, length, lent), number);
     check("render", name, render(table, length, lent), 3);
 }
 
@@ -840,6 +857,221 @@ static void test_read_to_short_buffers(void)
           bavzhrono_read(w1, sizeof w1, actual.table, sizeof actual.table, NULL, 0), 3);
 }
 
+/* Ticks: the loop whose body can end at once and the answers with which it does, as digits. */
+
+static void test_tick(const char *name, const uint8_t *table, size_t length, uint64_t node,
+                      const char *list)
+{
+    lengths lent[2] = {needed(0, 0), spare()};
+    for (int more = 0; more < 2; more++) {
+        expect_answer(1, node, read_digits(expected.answers, list));
+        check(more ? "tick, more lent" : "tick", name, tick(table, length, lent[more]), 0);
+    }
+}
+
+/* The body, which is all of the table before its loop, takes all of the list that is shown, and
+   ends. */
+static void test_list_is_true(const char *name, const uint8_t *table, size_t length)
+{
+    int passed = tick(table, length, spare()) == 0 && actual.answer[2] <= BAVZHRONO_MAX_ANSWERS;
+
+    if (passed) {
+        uint64_t list_length = actual.answer[2];
+        uint32_t refused = instant(bavzhrono_start, table, length - 2, actual.answers,
+                                   (size_t)list_length, spare());
+        passed = refused == 0 && actual.answer[0] == 0 && actual.answer[1] == list_length;
+    }
+    report(passed, "start with the list", name);
+    prepare();
+}
+
+static void test_ticks_of_table_w(void)
+{
+    test_tick("W2", w2, sizeof w2, 1, "");
+    test_tick("W4", w4, sizeof w4, 2, "");
+    test_tick("W6", w6, sizeof w6, 3, "1");
+    test_tick("W8", w8, sizeof w8, 7, "01");
+    test_list_is_true("W2", w2, sizeof w2);
+    test_list_is_true("W4", w4, sizeof w4);
+    test_list_is_true("W6", w6, sizeof w6);
+    test_list_is_true("W8", w8, sizeof w8);
+}
+
+/* The tick of an accepted table has its figures alone. */
+static void test_no_tick(const char *name, const uint8_t *table, size_t nodes, uint64_t loop_depth)
+{
+    lengths lent[2] = {needed(0, 0), spare()};
+    for (int more = 0; more < 2; more++) {
+        expect_answer(0, nodes, loop_depth);
+        check(more ? "tick, more lent" : "tick", name, tick(table, 2 * nodes, lent[more]), 0);
+    }
+}
+
+static void test_no_ticks(void)
+{
+    static uint8_t table[2 * BAVZHRONO_MAX_NODES];
+
+    test_no_tick("W1", w1, sizeof w1 / 2, 1);
+    test_no_tick("W3", w3, sizeof w3 / 2, 1);
+    test_no_tick("W7", w7, sizeof w7 / 2, 0);
+    test_no_tick("the lock program of F-5", lock, sizeof lock / 2, 2);
+    test_no_tick("2,048 bytes", table, full_table(table) / 2, 1);
+    test_no_tick("255 loops", table, around(table, 2, 0, 8, 255) / 2, 255);
+}
+
+typedef struct {
+    const char *name;
+    size_t nodes;
+    uint8_t table[32];
+    uint64_t node;
+    const char *list;
+} tick_test;
+
+static const tick_test tick_tests[] = {
+    {"either branch ends", 4, {1, 0, 1, 0, 6, 5, 8, 0}, 3, "0"},
+    {"the shorter list, with present", 6, {1, 0, 2, 0, 1, 0, 6, 1, 6, 0, 8, 0}, 5, "1"},
+    {"absent at the first difference", 9,
+     {4, 0, 2, 0, 6, 0, 4, 0, 2, 0, 6, 1, 10, 0, 11, 0, 8, 0}, 8, "01"},
+    {"an exit before the second test", 9,
+     {4, 0, 1, 0, 6, 0, 1, 0, 2, 0, 6, 1, 9, 0, 11, 0, 8, 0}, 8, "1"},
+    {"the second branch of a parallel is tested, too", 9,
+     {4, 0, 2, 0, 6, 0, 1, 0, 1, 0, 6, 1, 10, 0, 11, 0, 8, 0}, 8, "10"},
+    {"the exit of either branch", 9,
+     {4, 0, 2, 0, 6, 0, 2, 0, 4, 0, 6, 1, 10, 0, 11, 0, 8, 0}, 8, "00"},
+    {"the greater exit wins", 8, {4, 0, 4, 1, 10, 0, 11, 0, 2, 0, 9, 0, 11, 0, 8, 0}, 7, ""},
+    {"absent keeps the loop from its exit", 5, {4, 0, 1, 0, 6, 0, 8, 0, 11, 0}, 3, "0"},
+    {"a suspend takes no answer", 3, {1, 0, 7, 0, 8, 0}, 2, ""},
+    {"a sound loop that is dropped", 6, {2, 0, 8, 0, 4, 0, 10, 0, 11, 0, 8, 0}, 5, ""},
+    {"the inner of two loops", 3, {1, 0, 8, 0, 8, 0}, 1, ""},
+    {"the lower of two loops", 7, {1, 0, 2, 0, 6, 5, 8, 0, 1, 0, 8, 0, 9, 0}, 3, "1"},
+    {"a loop that is not the program", 6, {2, 0, 2, 0, 1, 0, 6, 9, 8, 0, 10, 0}, 4, "0"},
+};
+
+static void test_ticks_by_hand(void)
+{
+    for (size_t i = 0; i < sizeof tick_tests / sizeof tick_tests[0]; i++) {
+        const tick_test *test = &tick_tests[i];
+        test_tick(test->name, test->table, 2 * test->nodes, test->node, test->list);
+    }
+}
+
+/* A statement that ends with the first so many answers of the list and pauses with any others. */
+static size_t ending_with(uint8_t *table, const char *list, size_t answers)
+{
+    size_t length = 0;
+    if (answers == 0)
+        return put(table, 1, 0);
+    if (*list == '0')
+        length += put(table, 2, 0);
+    length += ending_with(table + length, list + 1, answers - 1);
+    if (*list == '1')
+        length += put(table + length, 2, 0);
+    return length + put(table + length, 6, 0);
+}
+
+static void test_ticks_of_edges(void)
+{
+    static uint8_t table[2 * BAVZHRONO_MAX_NODES];
+    char list[509 + 1];
+    const char *last_254 = list + 255;
+    size_t length = full_table(table);
+
+    for (size_t i = 0; i < 509; i++)
+        list[i] = i % 3 == 0 ? '1' : '0';
+    list[509] = '\0';
+
+    pauses_to_nothing(table);
+    test_tick("1,024 nodes, no answer", table, length, 1023, "");
+
+    length = ending_with(table, last_254, 254);
+    length += put(table + length, 8, 0);
+    test_tick("254 answers, depth 256", table, length, 509, last_254);
+    test_list_is_true("254 answers, depth 256", table, length);
+
+    /* Three branches, since in one they would be too deep. */
+    length = ending_with(table, list, 170);
+    length += ending_with(table + length, list + 170, 170);
+    length += put(table + length, 10, 0);
+    length += ending_with(table + length, list + 340, 169);
+    length += put(table + length, 10, 0);
+    length += put(table + length, 8, 0);
+    test_tick("509 answers, 1,024 nodes", table, length, 1023, list);
+    test_list_is_true("509 answers, 1,024 nodes", table, length);
+
+    /* A pause if present, else an exit to the outermost trap. */
+    length = put(table, 2, 0);
+    length += put(table + length, 4, 61);
+    length += put(table + length, 6, 0);
+    for (int trap = 0; trap < 62; trap++)
+        length += put(table + length, 11, 0);
+    length += put(table + length, 8, 0);
+    test_tick("level 61 under 62 traps", table, length, 65, "0");
+}
+
+/* The fault that the project began with: the exit of one branch ends the body if a lock request and
+   a power warning fall together. The text is read, its tick is shown, and the body is run with it. */
+static void test_read_then_tick(void)
+{
+    static const char text[] = "loop\n"
+                               "    trap Relock in\n"
+                               "        [\n"
+                               "            present LockRequest then\n"
+                               "                emit KeyErased;\n"
+                               "                present PowerWarning then exit Relock end\n"
+                               "            end;\n"
+                               "            pause\n"
+                               "        ||\n"
+                               "            emit Serving;\n"
+                               "            pause\n"
+                               "        ]\n"
+                               "    end\n"
+                               "end\n";
+    static const uint8_t table[] = {3, 1, 4, 0, 1, 0, 6, 2, 9, 0, 1, 0, 6, 0, 2, 0,
+                                    9, 0, 3, 3, 2, 0, 9, 0, 10, 0, 11, 0, 8, 0};
+
+    if (read_text(text, strlen(text), spare()) != 0 || actual.answer[0] != sizeof table / 2)
+        report(0, "read", "a text whose tick is shown then");
+    memcpy(expected.table, table, sizeof table);
+    read_digits(expected.answers, "11");
+    expect_answer(1, 14, 2);
+    check("tick", "a table that was read", tick(actual.table, sizeof table, spare()), 0);
+    test_list_is_true("a table that was read", table, sizeof table);
+}
+
+/* Check 3 comes after 1 and 2 and before the kinds, also where a shorter list is found. */
+static void test_short_list(const char *table_name, const uint8_t *table, size_t length,
+                            uint32_t number)
+{
+    static const size_t short_lists[] = {0, 1, 2, BAVZHRONO_MAX_ANSWERS - 1};
+    char name[64];
+
+    for (size_t i = 0; i < sizeof short_lists / sizeof short_lists[0]; i++) {
+        lengths lent = spare();
+        lent.answers = short_lists[i];
+        sprintf(name, "answers of %u, %s", (unsigned)lent.answers, table_name);
+        check("tick", name, tick(table, length, lent), number);
+    }
+}
+
+static void test_short_lists(void)
+{
+    static uint8_t table[2 * BAVZHRONO_MAX_NODES + 2];
+    size_t full = full_table(table), too_long = full + put(table + full, 8, 0);
+
+    test_short_list("2,050 bytes", table, too_long, 1);
+    test_short_list("no byte", NULL, 0, 2);
+    test_short_list("odd length", w1, sizeof w1 - 1, 2);
+    test_short_list("an unknown kind", unknown, sizeof unknown, 3);
+    test_short_list("W1", w1, sizeof w1, 3);
+    test_short_list("W2", w2, sizeof w2, 3);
+    test_short_list("W5", w5, sizeof w5, 3);
+    test_short_list("W8", w8, sizeof w8, 3);
+    check("tick", "answers NULL",
+          bavzhrono_tick(w8, sizeof w8, NULL, 0, actual.answer, BAVZHRONO_ANSWER), 3);
+    check("tick", "answer NULL",
+          bavzhrono_tick(w8, sizeof w8, actual.answers, sizeof actual.answers, NULL, 0), 3);
+}
+
 int main(void)
 {
     prepare();
@@ -865,5 +1097,11 @@ int main(void)
     test_not_read_edges();
     test_not_read_length();
     test_read_to_short_buffers();
+    test_ticks_of_table_w();
+    test_no_ticks();
+    test_ticks_by_hand();
+    test_ticks_of_edges();
+    test_read_then_tick();
+    test_short_lists();
     return failures != 0;
 }

@@ -4,7 +4,7 @@
 use std::thread;
 
 use compare::support::bodies::Body;
-use compare::support::calls::tick;
+use compare::support::calls::COMPARE;
 use compare::support::edges::{edges, W1, W2, W8};
 use compare::support::random::Random;
 use compare::support::tick_edges;
@@ -277,6 +277,7 @@ fn the_front_of_the_lent_answers_is_written() {
 
 #[test]
 fn the_call_in_the_archives_form() {
+    let tick = COMPARE.tick;
     let mut answers = [FILL; LENT];
     let mut answer = [9; 4];
     assert_eq!(tick(W8, &mut answers, &mut answer), 0);

@@ -1,5 +1,6 @@
-//! Tables of pure Esterel: the proved checker and the proved runner of single instants, and the
-//! proved reader that makes a table from text.
+//! Tables of pure Esterel: the proved checker and the proved runner of single instants, the proved
+//! reader that makes a table from text, and the proved finder of the tick in which a refused loop's
+//! body ends at once.
 //!
 //! A table has two bytes a node, kind then field, children before parents. Nodes are numbered
 //! from 0, and the last is the whole program. Below, n is the number of nodes, half the table's
@@ -19,12 +20,12 @@
 //! | 10 | parallel | 2: left, right | 0 |
 //! | 11 | trap | 1 | 0 |
 //!
-//! [`analyse`], [`start`], [`resume`], [`render`] and [`read`] write to buffers that the caller
-//! lends, and allocate nothing. A buffer may be longer than needed: what lies past the needed
+//! [`analyse`], [`start`], [`resume`], [`render`], [`read`] and [`tick`] write to buffers that the
+//! caller lends, and allocate nothing. A buffer may be longer than needed: what lies past the needed
 //! length is neither looked at nor changed. A refused call changes no buffer. [`Sets::of`],
-//! [`listing`] and [`table_of`] bring their own buffers. The calls keep no state, and any number of
-//! threads may make them at once; [`raw`] has the exported functions as they are. How much stack
-//! they need, [`read`] the most, is said in the header for C, `bindings/c/bavzhrono.h`.
+//! [`listing`], [`table_of`] and [`Fault::of`] bring their own buffers. The calls keep no state, and
+//! any number of threads may make them at once; [`raw`] has the exported functions as they are. How
+//! much stack they need, [`read`] the most, is said in the header for C, `bindings/c/bavzhrono.h`.
 //!
 //! A loop of pause and emit 7, analysed and run for two instants:
 //!
@@ -64,6 +65,27 @@
 //! assert!(sets.marks[1].may_be_schizophrenic());
 //! # Ok::<(), bavzhrono::Refusal>(())
 //! ```
+//!
+//! A loop that is refused, and the tick in which its body ends:
+//!
+//! ```
+//! use bavzhrono::{table_of, Fault, Sets};
+//!
+//! let table = table_of(
+//!     b"loop
+//!         trap T in
+//!           [ present A then present B then exit T end end; pause || pause ]
+//!         end
+//!       end",
+//! )?;
+//! assert_eq!(Sets::of(&table).unwrap_err().number, 11);
+//!
+//! // The exit ends the body if both signals are present.
+//! let fault = Fault::of(&table)?.expect("a fault");
+//! assert_eq!(fault.node, table.len() / 2 - 1);
+//! assert_eq!(fault.answers, [1, 1]);
+//! # Ok::<(), bavzhrono::Refusal>(())
+//! ```
 
 #![deny(missing_docs)]
 #![deny(unsafe_code)]
@@ -76,6 +98,7 @@ mod listing;
 pub mod raw;
 mod refusal;
 mod text;
+mod tick;
 
 pub use analysis::{analyse, Analysis, Mark, Sets};
 pub use codes::{CodeSet, Codes};
@@ -83,6 +106,7 @@ pub use instant::{resume, start, Closed, Completion};
 pub use listing::{listing, render};
 pub use refusal::Refusal;
 pub use text::{read, table_of, Reading};
+pub use tick::{tick, Fault, Tick};
 
 /// The most nodes of a table, of two bytes each.
 pub const MAX_NODES: usize = 1024;
@@ -95,3 +119,6 @@ pub const MAX_TEXT: usize = 67_584;
 
 /// The most bytes of a text that is read.
 pub const MAX_SOURCE: usize = 16_384;
+
+/// The bytes of answers that [`tick`] needs: any list fits. It is no limit of the instants.
+pub const MAX_ANSWERS: usize = 512;

@@ -80,6 +80,15 @@ extern "C" {
         answer: *mut u64,
         answer_length: usize,
     ) -> u32;
+
+    fn bavzhrono_tick(
+        table: *const u8,
+        table_length: usize,
+        answers: *mut u8,
+        answers_length: usize,
+        answer: *mut u64,
+        answer_length: usize,
+    ) -> u32;
 }
 
 /// The figures are the nodes, the loop depth and 0.
@@ -157,6 +166,22 @@ pub fn read(text: &[u8], table: &mut [u8], answer: &mut [u64]) -> u32 {
             text.len(),
             table.as_mut_ptr(),
             table.len(),
+            answer.as_mut_ptr(),
+            answer.len(),
+        )
+    }
+}
+
+/// The figures are 1, the node and the length of the list if check 11 fails, which is not returned;
+/// for an accepted table they are 0, the nodes and the loop depth.
+pub fn tick(table: &[u8], answers: &mut [u8], answer: &mut [u64]) -> u32 {
+    // SAFETY: each pointer is followed by the length of its own slice.
+    unsafe {
+        bavzhrono_tick(
+            table.as_ptr(),
+            table.len(),
+            answers.as_mut_ptr(),
+            answers.len(),
             answer.as_mut_ptr(),
             answer.len(),
         )

@@ -2,7 +2,7 @@
 
 mod common;
 
-use bavzhrono::{raw, MAX_NODES, MAX_SOURCE, MAX_TEXT, SIGNALS};
+use bavzhrono::{raw, MAX_ANSWERS, MAX_NODES, MAX_SOURCE, MAX_TEXT, SIGNALS};
 use common::*;
 
 const FILL_NUMBER: u64 = FILL_SET.0;
@@ -18,6 +18,7 @@ struct Lent {
     emissions: Vec<u8>,
     text: Vec<u8>,
     table: Vec<u8>,
+    answers: Vec<u8>,
     answer: Vec<u64>,
 }
 
@@ -33,6 +34,7 @@ impl Lent {
             emissions: vec![FILL; SIGNALS],
             text: vec![FILL; MAX_TEXT],
             table: vec![FILL; 2 * MAX_NODES],
+            answers: vec![FILL; MAX_ANSWERS],
             answer: vec![FILL_NUMBER; entries],
         }
     }
@@ -65,13 +67,20 @@ impl Lent {
     fn read(&mut self, text: &[u8]) -> u32 {
         raw::read(text, &mut self.table, &mut self.answer)
     }
+
+    fn tick(&mut self, table: &[u8]) -> u32 {
+        raw::tick(table, &mut self.answers, &mut self.answer)
+    }
 }
 
 /// It takes a table, or a text if it reads one.
 type Function = fn(&mut Lent, &[u8]) -> u32;
 
 /// The functions that make the table's checks.
-const CHECKING: [Function; 3] = [Lent::analyse, Lent::start, Lent::resume];
+const CHECKING: [Function; 4] = [Lent::analyse, Lent::start, Lent::resume, Lent::tick];
+
+/// Of these, the ones that return 11.
+const RETURNING_11: [Function; 3] = [Lent::analyse, Lent::start, Lent::resume];
 
 fn assert_unchanged(before: Lent, function: Function, given: &[u8], expected: u32) {
     let mut lent = before.clone();
@@ -119,8 +128,13 @@ fn refused_texts() -> Vec<(String, u32, u32)> {
 #[test]
 fn a_refusal_is_number_and_node_and_leaves_the_answer() {
     for (table, number, node) in refused_tables() {
+        let functions = if number == 11 {
+            &RETURNING_11[..]
+        } else {
+            &CHECKING
+        };
         for entries in [3, 4, 8] {
-            for function in CHECKING {
+            for &function in functions {
                 let lent = Lent::with_answer(entries);
                 assert_unchanged(lent, function, &table, number + 256 * node);
             }
@@ -142,11 +156,13 @@ fn a_refused_text_is_number_and_node_and_leaves_table_and_answer() {
 fn refusals_3_12_and_13_name_no_node_and_leave_the_answer() {
     let mut short = Lent::with_answer(3);
     (short.marks, short.state, short.text) = (vec![FILL; 3], vec![FILL; 3], vec![FILL; 3]);
+    short.answers.truncate(MAX_ANSWERS - 1);
     for function in CHECKING {
         assert_unchanged(short.clone(), function, W1, 3);
     }
     assert_unchanged(short.clone(), Lent::render, W1, 3);
-    assert_unchanged(short, Lent::render, W2, 3);
+    assert_unchanged(short.clone(), Lent::render, W2, 3);
+    assert_unchanged(short, Lent::tick, W2, 3);
 
     let present = [3, 5, 2, 0, 6, 1];
     assert_unchanged(Lent::with_answer(3), Lent::resume, &present, 12);
@@ -195,6 +211,9 @@ fn three_entries_of_the_answer_are_written_and_no_more() {
         assert_figures(&mut lent, Lent::render, W2, [13, 0, 0]);
         assert_figures(&mut lent, Lent::read, b"suspend emit A when S", [2, 2, 0]);
         assert_figures(&mut lent, Lent::read, b"[pause||nothing]", [3, 0, 0]);
+        assert_figures(&mut lent, Lent::tick, W1, [0, 4, 1]);
+        assert_figures(&mut lent, Lent::tick, W2, [1, 1, 0]);
+        assert_figures(&mut lent, Lent::tick, W8, [1, 7, 2]);
     }
 }
 

@@ -5,11 +5,12 @@ use std::hint::black_box;
 use compare::instant::SIGNALS;
 use compare::support::calls::{Calls, COMPARE, FIGURES};
 use compare::table::MOST_BYTES;
+use compare::tick::MOST_ANSWERS;
 use ours::OURS;
 use two_pass::TWO_PASS;
 
 use crate::programs::{Shape, SHAPES};
-use crate::texts;
+use crate::{texts, ticks};
 
 /// Who makes a call.
 #[derive(Clone, Copy, PartialEq, Eq)]
@@ -46,10 +47,17 @@ pub enum Call {
     Start,
     Resume,
     Read,
+    Tick,
 }
 
 impl Call {
-    pub const ALL: [Call; 4] = [Call::Analyse, Call::Start, Call::Resume, Call::Read];
+    pub const ALL: [Call; 5] = [
+        Call::Analyse,
+        Call::Start,
+        Call::Resume,
+        Call::Read,
+        Call::Tick,
+    ];
 
     pub fn name(self) -> &'static str {
         match self {
@@ -57,6 +65,7 @@ impl Call {
             Call::Start => "start",
             Call::Resume => "resume",
             Call::Read => "read",
+            Call::Tick => "tick",
         }
     }
 
@@ -64,23 +73,23 @@ impl Call {
     pub fn sides(self) -> &'static [Side] {
         match self {
             Call::Analyse => &[Side::Ours, Side::Compare, Side::TwoPass],
-            Call::Start | Call::Resume | Call::Read => &[Side::Ours, Side::Compare],
+            Call::Start | Call::Resume | Call::Read | Call::Tick => &[Side::Ours, Side::Compare],
         }
     }
 
     /// What the cost of a call is shared among.
     pub fn each(self) -> &'static str {
         match self {
-            Call::Analyse => "a node",
+            Call::Analyse | Call::Tick => "a node",
             Call::Start | Call::Resume => "an entry",
             Call::Read => "a byte",
         }
     }
 
-    /// The column of these; an analysis needs none beside that of the nodes.
+    /// The column of these, if they are not the nodes.
     pub fn units(self) -> Option<&'static str> {
         match self {
-            Call::Analyse => None,
+            Call::Analyse | Call::Tick => None,
             Call::Start | Call::Resume => Some("entries"),
             Call::Read => Some("bytes"),
         }
@@ -106,30 +115,39 @@ pub struct Case {
 }
 
 pub fn all() -> impl Iterator<Item = Case> {
-    let shapes = Call::ALL
-        .into_iter()
-        .flat_map(|call| SHAPES.iter().map(move |shape| (call, shape)));
-    // As text, sequences nested to the right are those nested to the left.
-    let shapes = shapes.filter(|(call, shape)| *call != Call::Read || shape.name != "right");
-    let cases = shapes.flat_map(|(call, shape)| SIZES.map(|nodes| Case::new(call, shape, nodes)));
-    let worst = texts::worst().into_iter();
-    cases.chain(worst.map(|(name, text)| Case::of_text(name, text)))
+    Call::ALL.into_iter().flat_map(of)
+}
+
+/// The cases of a call, each made when it is asked for.
+pub fn of(call: Call) -> Box<dyn Iterator<Item = Case>> {
+    match call {
+        Call::Analyse | Call::Start | Call::Resume => {
+            let shapes = SHAPES.iter();
+            Box::new(shapes.flat_map(move |shape| SIZES.map(|nodes| Case::new(call, shape, nodes))))
+        }
+        Call::Read => {
+            // As text, sequences nested to the right are those nested to the left.
+            let shapes = SHAPES.iter().filter(|shape| shape.name != "right");
+            let printed =
+                shapes.flat_map(|shape| SIZES.map(|nodes| Case::of_printed(shape, nodes)));
+            let worst = texts::worst().into_iter();
+            Box::new(printed.chain(worst.map(|(name, text)| Case::of_text(name, text))))
+        }
+        Call::Tick => {
+            let shapes = ticks::SHAPES.iter();
+            Box::new(shapes.flat_map(|shape| SIZES.map(|nodes| Case::of_tick(shape, nodes))))
+        }
+    }
 }
 
 impl Case {
     fn new(call: Call, shape: &Shape, nodes: usize) -> Case {
-        let table = shape.program(nodes);
-        if call == Call::Read {
-            let case = Case::of_text(shape.name, texts::printed(&table));
-            assert_eq!(case.nodes, nodes, "{} is not read", case.name());
-            return case;
-        }
         let mut case = Case {
             call: Call::Start,
             shape: shape.name,
             nodes,
             text: Vec::new(),
-            table,
+            table: shape.program(nodes),
             // Enough for all, and all absent.
             answers: vec![0; 4 * nodes],
             start_sets: vec![0; nodes],
@@ -143,6 +161,13 @@ impl Case {
         // A resumption is measured from the state that the start leaves.
         assert_eq!(case.run(&COMPARE), 0, "{} is refused", case.name());
         case.call = call;
+        case
+    }
+
+    /// A reading of a program as text.
+    fn of_printed(shape: &Shape, nodes: usize) -> Case {
+        let case = Case::of_text(shape.name, texts::printed(&shape.program(nodes)));
+        assert_eq!(case.nodes, nodes, "{} is not read", case.name());
         case
     }
 
@@ -161,6 +186,22 @@ impl Case {
         case
     }
 
+    fn of_tick(shape: &ticks::Shape, nodes: usize) -> Case {
+        let mut case = Case {
+            call: Call::Tick,
+            shape: shape.name,
+            nodes,
+            table: (shape.program)(nodes),
+            answers: vec![0; MOST_ANSWERS],
+            answer: vec![0; FIGURES],
+            ..Case::default()
+        };
+        assert_eq!(case.table.len(), 2 * nodes, "{}", case.name());
+        case.run(&COMPARE);
+        assert_eq!(case.answer[0], 1, "{} has no tick", case.name());
+        case
+    }
+
     pub fn name(&self) -> String {
         format!("{}/{}/{}", self.call.name(), self.shape, self.nodes)
     }
@@ -173,6 +214,7 @@ impl Case {
                 let text = black_box(&self.text[..]);
                 return (calls.read)(text, &mut self.table, &mut self.answer);
             }
+            Call::Tick => return (calls.tick)(table, &mut self.answers, &mut self.answer),
             Call::Analyse => {
                 return (calls.analyse)(
                     table,
@@ -207,12 +249,12 @@ impl Case {
         }
     }
 
-    /// The nodes of an analysis, the entries of an instant or the bytes of a text.
+    /// The nodes of a table, the entries of an instant or the bytes of a text.
     pub fn units(&self) -> usize {
         let mut case = self.clone();
         case.run(&COMPARE);
         match self.call {
-            Call::Analyse => case.answer[0] as usize,
+            Call::Analyse | Call::Tick => case.nodes,
             Call::Start | Call::Resume => case.answer[2] as usize,
             Call::Read => case.text.len(),
         }

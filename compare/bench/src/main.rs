@@ -14,7 +14,7 @@
 
 use std::process::ExitCode;
 
-use cases::Case;
+use cases::{Call, Case};
 use compare::support::numbers;
 use report::Line;
 
@@ -23,6 +23,7 @@ mod measure;
 mod programs;
 mod report;
 mod texts;
+mod ticks;
 
 fn main() -> ExitCode {
     match run(std::env::args().skip(1)) {
@@ -73,7 +74,12 @@ fn one(mut arguments: impl Iterator<Item = String>) -> Result<(), String> {
     let name = arguments.next().ok_or("--one needs a case")?;
     let side = arguments.next().ok_or("--one needs a side")?;
     let times = numbers::read("--one", arguments.next())?;
-    let mut case = cases::all()
+    // Cases of other calls are not made: the reader's hash table is seeded at random,
+    // and the instructions that it takes would blur the count.
+    let mut case = Call::ALL
+        .into_iter()
+        .filter(|call| name.starts_with(call.name()))
+        .flat_map(cases::of)
         .find(|case| case.name() == name)
         .ok_or(format!("unknown case {name}"))?;
     let side = case

@@ -2,7 +2,7 @@
 
 use std::fs;
 
-use crate::cases::{Call, Case};
+use crate::cases::{Call, Case, Side};
 use crate::measure::Times;
 
 /// One case with its times.
@@ -80,7 +80,8 @@ fn times(lines: &[Line], call: Call) -> Table {
         for (row, line) in rows[1..].iter_mut().zip(&of_call) {
             row.insert(2, line.units.to_string());
         }
-    } else {
+    }
+    if call.sides().contains(&Side::TwoPass) {
         let two_pass = ["two-pass, ns", "ours/two-pass"].map(String::from);
         rows[0].splice(5..5, two_pass);
     }

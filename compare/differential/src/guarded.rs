@@ -16,8 +16,8 @@ pub trait Cell: Copy {
     fn hex(self) -> String;
 }
 
-/// Calls write flags, the characters of a listing and the nodes of a table. Only a
-/// signal can be as high as this, and in few texts it is in just this cell.
+/// Calls write flags, answers, the characters of a listing and the nodes of a table.
+/// Only a signal can be as high as this, and in few texts it is in just this cell.
 impl Cell for u8 {
     fn untouched(at: usize) -> u8 {
         0x80 | at as u8

@@ -4,6 +4,7 @@ use compare::instant::SIGNALS;
 use compare::support::calls::{Calls, FIGURES};
 use compare::support::cases::{Call, Case};
 use compare::table::MOST_BYTES;
+use compare::tick::MOST_ANSWERS;
 
 use crate::guarded::Guarded;
 
@@ -230,6 +231,51 @@ impl Trial for Reading {
         vec![
             ("text", self.text.hex()),
             ("table", self.table.hex()),
+            ("answer", self.answer.hex()),
+        ]
+    }
+}
+
+#[derive(Clone, PartialEq)]
+pub struct Finding {
+    pub table: Guarded<u8>,
+    pub answers: Guarded<u8>,
+    pub answer: Guarded<u64>,
+}
+
+impl Finding {
+    /// With answers of exactly the length needed.
+    pub fn new(table: &[u8]) -> Finding {
+        Finding::with_answers(table, MOST_ANSWERS)
+    }
+
+    pub fn with_answers(table: &[u8], answers_length: usize) -> Finding {
+        Finding {
+            table: Guarded::with(table),
+            answers: Guarded::untouched(answers_length),
+            answer: Guarded::untouched(FIGURES),
+        }
+    }
+}
+
+impl Trial for Finding {
+    fn name(&self) -> &'static str {
+        "tick"
+    }
+
+    fn call(&mut self, calls: &Calls) -> u32 {
+        (calls.tick)(self.table.lent(), self.answers.lent(), self.answer.lent())
+    }
+
+    fn with_answer(self, length: usize) -> Finding {
+        let answer = Guarded::untouched(length);
+        Finding { answer, ..self }
+    }
+
+    fn buffers(&self) -> Vec<(&'static str, String)> {
+        vec![
+            ("table", self.table.hex()),
+            ("answers", self.answers.hex()),
             ("answer", self.answer.hex()),
         ]
     }

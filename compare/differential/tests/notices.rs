@@ -8,7 +8,7 @@ use compare::support::SEED;
 use compare::{sets, table, Sets};
 use differential::groups::{refusals, texts};
 use differential::tally::{Difference, Tally};
-use differential::trials::{Analysis, Instant, Reading, Rendering, Trial};
+use differential::trials::{Analysis, Finding, Instant, Reading, Rendering, Trial};
 
 fn assert_noticed(wrong: Calls, trial: &impl Trial) {
     assert!(Tally::new(COMPARE).compare(trial).is_ok());
@@ -122,6 +122,9 @@ fn told_by<T: Telling>() -> Calls {
             T::tell(answer, |answer| (COMPARE.render)(table, text, answer))
         },
         read: |text, table, answer| T::tell(answer, |answer| (COMPARE.read)(text, table, answer)),
+        tick: |table, answers, answer| {
+            T::tell(answer, |answer| (COMPARE.tick)(table, answers, answer))
+        },
     }
 }
 
@@ -139,6 +142,7 @@ fn a_fourth_figure() {
     assert_noticed(wrong, &Analysis::new(W1).with_answer(4));
     assert_noticed(wrong, &Rendering::new(W2, 13).with_answer(4));
     assert_noticed(wrong, &Reading::new(b"pause").with_answer(4));
+    assert_noticed(wrong, &Finding::new(W8).with_answer(4));
 }
 
 #[test]
@@ -160,6 +164,7 @@ fn an_answer_written_on_a_refusal() {
     assert_noticed(wrong, &Instant::new(Call::Resume, W1, &[], &[0; 4]));
     assert_noticed(wrong, &Rendering::new(W2, 12));
     assert_noticed(wrong, &Reading::new(b"exit T"));
+    assert_noticed(wrong, &Finding::with_answers(W8, 511));
     assert_noticed_by(refusals::edges, wrong);
 }
 
@@ -208,6 +213,7 @@ fn a_short_answer_refused_before_1_and_2() {
     let wrong = told_by::<First>();
     assert_noticed(wrong, &Analysis::new(&[2; 2050]).with_answer(0));
     assert_noticed(wrong, &Analysis::new(&[]).with_answer(2));
+    assert_noticed(wrong, &Finding::new(&[]).with_answer(2));
     for call in [Call::Start, Call::Resume] {
         assert_noticed(
             wrong,
@@ -242,6 +248,7 @@ fn a_short_answer_refused_after_all_other_checks() {
         &Instant::new(Call::Resume, W1, &[], &[0; 4]).with_answer(2),
     );
     assert_noticed(wrong, &Reading::new(b"end").with_answer(2));
+    assert_noticed(wrong, &Finding::new(&[12, 0]).with_answer(2));
     assert_noticed_by(refusals::edges, wrong);
 }
 
@@ -264,5 +271,6 @@ fn a_short_answer_that_is_accepted() {
     );
     assert_noticed(wrong, &Rendering::new(W2, 13).with_answer(1));
     assert_noticed(wrong, &Reading::new(b"pause").with_answer(2));
+    assert_noticed(wrong, &Finding::new(W8).with_answer(2));
     assert_noticed_by(refusals::edges, wrong);
 }

@@ -1,6 +1,6 @@
 //! The proved code's calls, from its archive, as the bindings for Rust have them.
 
-use bavzhrono::raw::{analyse, read, render, resume, start};
+use bavzhrono::raw::{analyse, read, render, resume, start, tick};
 use compare::support::calls::Calls;
 
 /// The calls of the proved code.
@@ -10,4 +10,5 @@ pub const OURS: Calls = Calls {
     resume,
     render,
     read,
+    tick,
 };

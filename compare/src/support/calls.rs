@@ -23,6 +23,7 @@ pub struct Calls {
     pub resume: Instant,
     pub render: Render,
     pub read: Read,
+    pub tick: Tick,
 }
 
 /// The calls of this implementation.
@@ -32,6 +33,7 @@ pub const COMPARE: Calls = Calls {
     resume,
     render,
     read,
+    tick,
 };
 
 /// The figures of an answer, and the entries that its buffer must have.
@@ -106,7 +108,7 @@ fn read(text: &[u8], table: &mut [u8], answer: &mut [u64]) -> u32 {
 
 /// The figures are 1, node and length for a loop whose body ends, else 0, nodes and loop
 /// depth.
-pub fn tick(table: &[u8], answers: &mut [u8], answer: &mut [u64]) -> u32 {
+fn tick(table: &[u8], answers: &mut [u8], answer: &mut [u64]) -> u32 {
     returned(|| {
         let front = front_after_length(table, answer)?;
         *front = match crate::find_tick(table, answers)? {

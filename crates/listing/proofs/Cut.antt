@@ -12,7 +12,7 @@ use Rattle.esterel.specs.Limits.{maxNodes}
 use Rattle.esterel.specs.Table.{refused}
 use Rattle.esterel.specs.Checks.{verdict}
 
-too-long : (t : List ℕ) → 2 * maxNodes < length t → verdict t ≡ refused 1 0
+pub too-long : (t : List ℕ) → 2 * maxNodes < length t → verdict t ≡ refused 1 0
 too-long t h = rw (lt-ltb (2 * maxNodes) (length t) h) refl
 
 -- the verdict of the bytes that fit in a room for more than a table may have is that of all of them

@@ -41,7 +41,7 @@ fn digit(d: u64) -> u8
 }
 
 // The last digit comes first: its place is known from the width.
-fn write_number(text: &mut [u8], at: usize, n: u64, base: u64) -> usize
+pub fn write_number(text: &mut [u8], at: usize, n: u64, base: u64) -> usize
     requires { ⌜ (2 ≤ base) × (base ≤ 16) × (at + length (digits base n) ≤ length (now text)) ⌝ }
     ensures { λ r. ⌜ Written (now (text .entry)) at (digits base n) (now (text .exit)) r ⌝ }
 {
@@ -57,7 +57,7 @@ fn write_number(text: &mut [u8], at: usize, n: u64, base: u64) -> usize
     end
 }
 
-fn write_byte(text: &mut [u8], at: usize, byte: u8) -> usize
+pub fn write_byte(text: &mut [u8], at: usize, byte: u8) -> usize
     requires { ⌜ at < length (now text) ⌝ }
     ensures { λ r. ⌜ Written (now (text .entry)) at (byte ∷ []) (now (text .exit)) r ⌝ }
 {
@@ -126,7 +126,7 @@ fn refusal_length(number: u8, node: usize) -> usize
     width(number as u64, 10) + width(node as u64, 10) + 10
 }
 
-fn write_refusal(text: &mut [u8], at: usize, number: u8, node: usize) -> usize
+pub fn write_refusal(text: &mut [u8], at: usize, number: u8, node: usize) -> usize
     requires { ⌜ at + length (textOf (refused number node)) ≤ length (now text) ⌝ }
     ensures { λ r. ⌜ Written (now (text .entry)) at (textOf (refused number node)) (now (text .exit)) r ⌝ }
 {
@@ -144,7 +144,7 @@ fn header_length(nodes: usize, loops: usize) -> usize
     width(nodes as u64, 10) + width(loops as u64, 10) + width(planned as u64, 10) + 6
 }
 
-fn write_header(text: &mut [u8], at: usize, nodes: usize, loops: usize) -> usize
+pub fn write_header(text: &mut [u8], at: usize, nodes: usize, loops: usize) -> usize
     requires { ⌜ (nodes ≤ maxNodes) × (loops ≤ maxNodes) × (at + length (headerText nodes loops (nodes * (1 + loops))) ≤ length (now text)) ⌝ }
     ensures { λ r. ⌜ Written (now (text .entry)) at (headerText nodes loops (nodes * (1 + loops))) (now (text .exit)) r ⌝ }
 {

@@ -1,7 +1,7 @@
 -- A buffer that is filled entry by entry with the numbers of a list, from the first on or from the last down. Past the list it stays.
 use mathlib.Core.Path.{_≡_, ap, _∙_}
 use mathlib.Core.List.{List, [], _∷_, _++_, append-assoc}
-use Prim.Native.Nat.{ℕ, suc, _+_, _-_, _≤_, _<_}
+use Prim.Native.Nat.{ℕ, suc, _+_, _≤_, _<_}
 use native.Mathlib.Omega.{arith}
 use lib.ListN.{length, getD, take, drop, set, length-append, length-drop, take-append-drop, List·getD-append}
 use lib.Seq.{sets, length-take-le, take-length, drop-length, take-suc, drop-cons, set-at, getD-take}

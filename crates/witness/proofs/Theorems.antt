@@ -32,7 +32,7 @@ same-program e = cc
 same-body : {p q : Stmt} → one loop p ≡ one loop q → p ≡ q
 same-body e = cc
 
-shown-once : {t : List ℕ} {node : ℕ} {u v : List ℕ} → ShownAt t node u → ShownAt t node v → u ≡ v
+pub shown-once : {t : List ℕ} {node : ℕ} {u v : List ℕ} → ShownAt t node u → ShownAt t node v → u ≡ v
 shown-once {node = node} {u = u} {v = v} a b =
     let program = same-program (sym (a .reads) ∙ b .reads) in
     let body = same-body (sym (a .isLoop) ∙ ap (λ p. statementAt (nodes p) node) program ∙ b .isLoop) in
@@ -80,6 +80,9 @@ eleven false t node e = absurd (go (ltb (2 * maxNodes) (length t)) (eqb (length 
     go false true z = other (λ y. omega arith) z
     go false false z = other (λ y. omega arith) z
 
+with-room : (t old : List ℕ) → maxAnswers ≤ length old → verdictFor t old ≡ verdict t
+with-room t old room = ap (λ b. checked b t) (le-leb maxAnswers (length old) room) ∙ checked-room t
+
 module _ {t old new : List ℕ} {r : Tick} (o : Tells t old new r) where
   ends-refused : (node n : ℕ) → r ≡ Ends node n → verdict t ≡ refused 11 node
   ends-refused node n e = go o
@@ -93,7 +96,7 @@ module _ {t old new : List ℕ} {r : Tick} (o : Tells t old new r) where
   refused-ends room node e = go o
     where
       is : verdictFor t old ≡ refused 11 node
-      is = ap (λ b. checked b t) (le-leb maxAnswers (length old) room) ∙ checked-room t ∙ e
+      is = with-room t old room ∙ e
 
       go : Tells t old new r → (n : ℕ) × (r ≡ Ends node n)
       go (Tells.accepts p v z w) = absurd (passed-refused v is)
@@ -101,7 +104,7 @@ module _ {t old new : List ℕ} {r : Tick} (o : Tells t old new r) where
       go (Tells.shows m u v s z w) = (length u, z ∙ ap (λ i. Ends i (length u)) (numbers v is .1))
 
 -- the list that is shown is shorter than the room
-list-short : {t : List ℕ} {node : ℕ} {u : List ℕ} → verdict t ≡ refused 11 node → ShownAt t node u → length u < maxAnswers
+pub list-short : {t : List ℕ} {node : ℕ} {u : List ℕ} → verdict t ≡ refused 11 node → ShownAt t node u → length u < maxAnswers
 list-short {t} {node} {u} e s =
     let f = faults t node e in
     let program = same-program (sym (s .reads) ∙ f .reads) in
@@ -130,6 +133,14 @@ refused-is {t} {old} number node (Tells.refuses a m v d z w) e =
     (omega (arith, told .some), omega (arith, told .known), omega (arith, told .within), w)
 refused-is number node (Tells.shows m u v s z w) e = let y : _≡_ {A = ℕ} 0 1 = cc in absurd (omega arith)
 
+refusal-is : {t old new : List ℕ} {r : Tick} (number node : ℕ) → maxAnswers ≤ length old → Tells t old new r → r ≡ Refused number node → verdict t ≡ refused number node
+refusal-is number node room (Tells.accepts p v z w) e = let y : _≡_ {A = ℕ} 0 1 = cc in absurd (omega arith)
+refusal-is {t} {old} number node room (Tells.refuses a m v d z w) e =
+    let one : a ≡ number = cc in
+    let two : m ≡ node = cc in
+    sym (with-room t old room) ∙ v ∙ ap₂ refused one two
+refusal-is number node room (Tells.shows m u v s z w) e = let y : _≡_ {A = ℕ} 0 1 = cc in absurd (omega arith)
+
 pub ticksTold : TicksTold
 ticksTold =
     record {
@@ -138,4 +149,5 @@ ticksTold =
       short = λ t old new node n o. ends-short node n o refl;
       accepts = λ t old new n d o. accepted-is n d o refl;
       refuses = λ t old new number node o. refused-is number node o refl;
+      refusal = λ t old new number node room o. refusal-is number node room o refl;
     }

@@ -33,3 +33,5 @@ pub record TicksTold : Type 0 where
   pub refuses :
       (t old new : List ℕ) (number node : ℕ) → Tells t old new (Refused number node) →
       (1 ≤ number) × (number ≤ 10) × (node < maxNodes) × (new ≡ old)
+  -- with room it is the table's own
+  pub refusal : (t old new : List ℕ) (number node : ℕ) → maxAnswers ≤ length old → Tells t old new (Refused number node) → verdict t ≡ refused number node

@@ -2,9 +2,10 @@
 
 #![allow(dead_code)] // each test file uses a part of this
 
-use bavzhrono::{analyse, render, resume, start};
+use bavzhrono::{analyse, render, resume, start, tick};
 use bavzhrono::{
-    Analysis, Closed, CodeSet, Completion, Mark, Refusal, MAX_NODES, MAX_TEXT, SIGNALS,
+    Analysis, Closed, CodeSet, Completion, Mark, Refusal, Tick, MAX_ANSWERS, MAX_NODES, MAX_TEXT,
+    SIGNALS,
 };
 
 pub const W1: &[u8] = &[2, 0, 3, 7, 9, 0, 8, 0];
@@ -37,6 +38,7 @@ pub struct Buffers {
     pub state: Vec<u8>,
     pub emissions: Vec<u8>,
     pub text: Vec<u8>,
+    pub answers: Vec<u8>,
 }
 
 impl Buffers {
@@ -51,6 +53,7 @@ impl Buffers {
             state: vec![FILL; nodes],
             emissions: vec![FILL; SIGNALS + more],
             text: vec![FILL; MAX_TEXT + more],
+            answers: vec![FILL; MAX_ANSWERS + more],
         }
     }
 
@@ -75,6 +78,10 @@ impl Buffers {
     pub fn render(&mut self, table: &[u8]) -> Result<usize, Refusal> {
         render(table, &mut self.text)
     }
+
+    pub fn tick(&mut self, table: &[u8]) -> Result<Tick<'_>, Refusal> {
+        tick(table, &mut self.answers)
+    }
 }
 
 pub fn refused<T>(number: u32, node: usize) -> Result<T, Refusal> {
@@ -89,13 +96,17 @@ pub fn closed(code: Completion, taken: usize, entries: usize) -> Result<Closed, 
     })
 }
 
-/// All three calls refuse the table at the node and change nothing, and its listing says so.
+/// All calls that check the table refuse it at the node and change nothing, and its listing says so.
+/// What 11 refuses is shown by one of them, and is tested in `tick.rs`.
 pub fn assert_refused(table: &[u8], number: u32, node: usize) {
     let mut lent = Buffers::for_table(table, 1);
     let before = lent.clone();
     assert_eq!(lent.analyse(table), refused(number, node));
     assert_eq!(lent.start(table, &[]), refused(number, node));
     assert_eq!(lent.resume(table, &[]), refused(number, node));
+    if number != 11 {
+        assert_eq!(lent.tick(table), refused(number, node));
+    }
     assert_eq!(lent, before);
     assert_eq!(
         bavzhrono::listing(table),

@@ -5,7 +5,7 @@ use compare::support::cases::Call;
 use compare::support::random::Random;
 
 use crate::tally::{Difference, Tally};
-use crate::trials::{Analysis, Instant, Rendering};
+use crate::trials::{Analysis, Finding, Instant, Rendering};
 
 /// All kinds, with the number of their children; an emit of the first and of
 /// the last signal; exits to the first three traps.
@@ -37,6 +37,10 @@ const WHOLE_NODES: usize = 6;
 
 /// Long enough for the listing of so few nodes.
 const TEXT: usize = 160;
+
+/// The answers that are lent for a tick: none, one too few, as many as are needed, and
+/// more.
+const LENT: [usize; 4] = [0, 511, 512, 520];
 
 /// Bytes that say present.
 const PRESENT: [u8; 3] = [1, 2, 255];
@@ -88,6 +92,9 @@ fn every_call(tally: &mut Tally, table: &[u8]) -> Result<(), Difference> {
     let size = table.len() / 2;
     let is_accepted = tally.compare(&Analysis::new(table))? == 0;
     tally.compare(&Rendering::new(table, TEXT))?;
+    for length in LENT {
+        tally.compare(&Finding::with_answers(table, length))?;
+    }
     every_answer_list(tally, Call::Start, table, &vec![9; size])?;
     // A refused table is refused from any state.
     let states = if is_accepted { 1 << size } else { 1 };

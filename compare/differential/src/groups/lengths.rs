@@ -7,7 +7,7 @@ use compare::support::programs::{accepted, SHAPES};
 use compare::support::random::Random;
 
 use crate::tally::{Difference, Tally};
-use crate::trials::{Analysis, Instant, Rendering, Trial};
+use crate::trials::{Analysis, Finding, Instant, Rendering, Trial};
 
 /// In a text of this length any listing fits.
 const ANY_LISTING: usize = 67_584;
@@ -23,6 +23,7 @@ pub fn run(tally: &mut Tally, random: &mut Random) -> Result<(), Difference> {
         }
         analyses(tally, random, &table)?;
         renderings(tally, &table)?;
+        findings(tally, &table)?;
     }
     for (at, case) in families::lengths(random, 1800).iter().enumerate() {
         let trial = Instant::of(case);
@@ -58,6 +59,19 @@ fn renderings(tally: &mut Tally, table: &[u8]) -> Result<(), Difference> {
     for answer_length in 0..6 {
         for text_length in [exact - 1, exact + 1] {
             tally.compare(&Rendering::new(table, text_length).with_answer(answer_length))?;
+        }
+    }
+    Ok(())
+}
+
+fn findings(tally: &mut Tally, table: &[u8]) -> Result<(), Difference> {
+    for answers_length in [0, 511, 512, 513, 1024] {
+        tally.compare(&Finding::with_answers(table, answers_length))?;
+    }
+    for answer_length in 0..6 {
+        for answers_length in [511, 512] {
+            let trial = Finding::with_answers(table, answers_length);
+            tally.compare(&trial.with_answer(answer_length))?;
         }
     }
     Ok(())

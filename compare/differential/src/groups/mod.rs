@@ -12,6 +12,7 @@ mod lengths;
 pub mod refusals;
 mod tables;
 pub mod texts;
+pub mod ticks;
 mod token_lists;
 
 pub struct Group {
@@ -21,7 +22,7 @@ pub struct Group {
     pub random: bool,
 }
 
-pub const GROUPS: [Group; 24] = [
+pub const GROUPS: [Group; 28] = [
     Group {
         name: "Table W and the edges",
         run: tables::edges,
@@ -38,12 +39,12 @@ pub const GROUPS: [Group; 24] = [
         random: false,
     },
     Group {
-        name: "analysis and listing of accepted programs up to 1,024 nodes",
+        name: "analysis, listing and tick of accepted programs up to 1,024 nodes",
         run: tables::accepted_programs,
         random: true,
     },
     Group {
-        name: "analysis and listing of damaged tables",
+        name: "analysis, listing and tick of damaged tables",
         run: tables::damaged,
         random: true,
     },
@@ -100,6 +101,26 @@ pub const GROUPS: [Group; 24] = [
     Group {
         name: "refused by check 11, when the start sets are known",
         run: refusals::check_11,
+        random: true,
+    },
+    Group {
+        name: "ticks at the edges, with answers of all lengths",
+        run: ticks::edges,
+        random: false,
+    },
+    Group {
+        name: "ticks of tables up to 1,024 nodes",
+        run: ticks::tables,
+        random: true,
+    },
+    Group {
+        name: "ticks of trees whose lists are of one length",
+        run: ticks::trees,
+        random: true,
+    },
+    Group {
+        name: "ticks of long lists",
+        run: ticks::long_lists,
         random: true,
     },
     Group {

@@ -10,7 +10,7 @@ use compare::support::random::Random;
 use compare::{checks, listing, Refusal};
 
 use crate::tally::{Difference, Tally};
-use crate::trials::{Analysis, Instant, Rendering, Trial};
+use crate::trials::{Analysis, Finding, Instant, Rendering, Trial};
 
 /// The entries of an answer.
 const ANSWERS: [usize; 6] = [0, 1, 2, 3, 4, 8];
@@ -74,6 +74,8 @@ fn every_call(tally: &mut Tally, table: &[u8]) -> Result<(), Difference> {
     for call in [Call::Start, Call::Resume] {
         every_answer(tally, &Instant::new(call, table, &[], &vec![9; size]))?;
     }
+    every_answer(tally, &Finding::new(table))?;
+    every_answer(tally, &Finding::with_answers(table, 511))?;
     let text_length = listing(table).len();
     every_answer(tally, &Rendering::new(table, text_length))?;
     every_answer(tally, &Rendering::new(table, text_length - 1))

@@ -1,4 +1,4 @@
-//! Analyses and listings.
+//! Analyses, listings and ticks.
 
 use compare::checks::MOST_TRAPS;
 use compare::listing;
@@ -10,16 +10,16 @@ use compare::support::random::Random;
 
 use super::compare_all;
 use crate::tally::{Difference, Tally};
-use crate::trials::{Analysis, Rendering};
+use crate::trials::{Analysis, Finding, Rendering};
 
 pub fn edges(tally: &mut Tally, random: &mut Random) -> Result<(), Difference> {
     for edge in edge_tables() {
-        analyse_and_render(tally, &edge.table)?;
+        all_but_instants(tally, &edge.table)?;
     }
     for steps in 1..=MOST_TRAPS {
-        analyse_and_render(tally, &ladder(steps))?;
+        all_but_instants(tally, &ladder(steps))?;
     }
-    analyse_and_render(tally, &longest_listing())?;
+    all_but_instants(tally, &longest_listing())?;
     compare_all(tally, &families::edges(random, usize::MAX))
 }
 
@@ -28,7 +28,7 @@ pub fn accepted_programs(tally: &mut Tally, random: &mut Random) -> Result<(), D
         let most = *random.pick(&[40, 250, 1024]);
         let nodes = random.between(1, most);
         let table = accepted(random, &SHAPES[number % SHAPES.len()], nodes);
-        analyse_and_render(tally, &table)?;
+        all_but_instants(tally, &table)?;
     }
     Ok(())
 }
@@ -37,18 +37,19 @@ pub fn accepted_programs(tally: &mut Tally, random: &mut Random) -> Result<(), D
 pub fn damaged(tally: &mut Tally, random: &mut Random) -> Result<(), Difference> {
     for number in 0..60_000 {
         let table = bad_table(random, number % BAD_NUMBERS);
-        analyse_and_render(tally, &table)?;
+        all_but_instants(tally, &table)?;
     }
     for number in 0..2000 {
         let table = accepted(random, &SHAPES[number % SHAPES.len()], 1024);
-        analyse_and_render(tally, &spoilt(random, &table))?;
+        all_but_instants(tally, &spoilt(random, &table))?;
     }
     Ok(())
 }
 
 /// With buffers of exactly the lengths needed.
-fn analyse_and_render(tally: &mut Tally, table: &[u8]) -> Result<(), Difference> {
+fn all_but_instants(tally: &mut Tally, table: &[u8]) -> Result<(), Difference> {
     tally.compare(&Analysis::new(table))?;
     tally.compare(&Rendering::new(table, listing(table).len()))?;
+    tally.compare(&Finding::new(table))?;
     Ok(())
 }
