@@ -4,18 +4,20 @@
     python3 tools/run_definitions.py [--vectors DIR] [--listings N] [--instants N] [--texts N] [--ticks N] [--seed S]
 
 Each vector becomes a theorem `what the definitions give ≡ what is expected`, proved by refl, so that the checker has to
-compute the definitions. All is written to a temporary repository, which has copies of crates/codes, crates/esterel and
-crates/grammar. The theorem listing17 is the vector in line 17 of the listings; edges are numbered as they stand below.
+compute the definitions. All is written to a temporary repository, which has copies of crates/codes, crates/esterel,
+crates/grammar and crates/starts. The theorem listing17 is the vector in line 17 of the listings; edges are numbered as
+they stand below.
 A text's derivation cannot be computed: its tree is the one that the machine of crates/grammar finds, of which it is proved
-that it finds exactly the derivations. Of a tick that is shown, the rules are run with its list (tick17); where body and list are
-small, all lists that come before it are run too, in their order, until one leads there (first17).
+that it finds exactly the derivations. Of a tick that is shown, the rules are run with its list (tick17); where table and list are
+small, all lists that come before it are run too, in their order, until one leads there (first17). Whether a list leads there is
+asked by a test here, which is proved to say what `Leads` does.
 """
 import argparse, collections, json, os, random, re, shutil, subprocess, sys, tempfile, time
 from pathlib import Path
 
 ROOT = Path(__file__).resolve().parent.parent
-COPIED = ("codes", "esterel", "grammar")
-CRATES_TXT = "codes:\nesterel: codes\ngrammar: esterel\ncontrol: grammar esterel codes\nvectors: grammar esterel codes\n"
+COPIED = ("codes", "esterel", "grammar", "starts")
+CRATES_TXT = "codes:\nesterel: codes\ngrammar: esterel\nstarts: esterel codes\ncontrol: starts grammar esterel codes\nvectors: starts grammar esterel codes\n"
 
 # ---- the theorems in antt
 
@@ -23,7 +25,9 @@ CRATES_TXT = "codes:\nesterel: codes\ngrammar: esterel\ncontrol: grammar esterel
 # and `verdict` makes them once more, with 4 to 11. The emission buffer is taken to be long enough.
 CALLS = """
 use Prim.Native.Nat.{ℕ, zero, suc, _-_, _/_}
-use mathlib.Core.Bool.{Bool, true, false, cond}
+use mathlib.Core.Path.{_≡_, refl, ap}
+use mathlib.Core.Logic.{_↔_}
+use mathlib.Core.Bool.{Bool, true, false, cond, false≢true}
 use mathlib.Core.List.{List, [], _∷_, _++_}
 use mathlib.Core.Option.{Option, none, some}
 use lib.ListN.{length, take, drop}
@@ -31,12 +35,13 @@ use lib.Dec.{eqb, ltb}
 use Rattle.esterel.specs.Statement.{Stmt, size, nodes, loopDepth}
 use Rattle.esterel.specs.Table.{Verdict, passed, refused, read, checkLength, postfix}
 use Rattle.esterel.specs.Checks.{verdict, listing, Line, planned}
-use Rattle.esterel.specs.Instant.{Mode, started, resumed, Result, closed, starved, stuck, start, resume, admitted}
+use Rattle.esterel.specs.Instant.{Mode, started, resumed, Entry, Result, closed, starved, stuck, start, resume, admitted}
 use Rattle.esterel.specs.Outcome.{Outcome, done, needsAnswer, noRule, outcome, statementAt}
 use Rattle.grammar.specs.Limits.{maxSource}
 use Rattle.grammar.specs.Tokens.{tokens}
 use Rattle.grammar.specs.Meaning.{verdictOfTree}
 use Rattle.grammar.specs.Machine as M
+use Rattle.starts.specs.Ticks.{Leads}
 
 pub data Shown : Type 0 where
   ok : (n d planned : ℕ) (lines : List Line) → Shown
@@ -45,6 +50,7 @@ pub data Shown : Type 0 where
   tick : (node : ℕ) (answers : List ℕ) → Shown
   refusal : (number node : ℕ) → Shown
   withoutRule : Shown
+  noList : Shown
 
 abbrev pub shown : Verdict → Shown
 shown (passed p) = ok (size p) (loopDepth p) (planned p) (listing p)
@@ -83,13 +89,24 @@ table (refused number node) = refusal number node
 abbrev pub readText : List ℕ → Shown
 readText text = table (cond (ltb maxSource (length text)) (refused 14 0) (told (M.parse (tokens text))))
 
--- F-2: whether a run took all answers and gave code 0 (`Leads` of crates/starts)
+-- F-2: whether a run took all answers and gave code 0. Where it says so, the list is one that `Leads` (crates/starts), and the other way
+-- round.
 abbrev pub leads : Result → Bool
 leads (closed zero trail held []) = true
 leads (closed zero trail held (a ∷ rest)) = false
 leads (closed (suc k) trail held rest) = false
 leads starved = false
 leads stuck = false
+
+pub leads-sound : (r : Result) → leads r ≡ true → (trail : List Entry) × (held : List ℕ) × (r ≡ closed 0 trail held [])
+leads-sound (closed zero trail held []) e = (trail, held, refl)
+leads-sound (closed zero trail held (a ∷ rest)) e = absurd (false≢true e)
+leads-sound (closed (suc k) trail held rest) e = absurd (false≢true e)
+leads-sound starved e = absurd (false≢true e)
+leads-sound stuck e = absurd (false≢true e)
+
+pub leads-exact : (first : ℕ) (p : Stmt) (answers : List ℕ) → (leads (start first p answers) ≡ true) ↔ Leads first p 0 answers
+leads-exact first p answers = (leads-sound (start first p answers), λ (trail, held, e). ap leads e)
 
 -- of the lists of m answers the first that leads there, absent before present; and of those from m answers on, so many lengths
 abbrev pub orElse : Option (List ℕ) → Option (List ℕ) → Option (List ℕ)
@@ -114,7 +131,7 @@ bodyAt (passed p) node = start 0 (statementAt (nodes p) (node - 1))
 bodyAt (refused number other) node = λ answers. stuck
 
 abbrev pub listed : ℕ → Option (List ℕ) → Shown
-listed node none = withoutRule
+listed node none = noList
 listed node (some answers) = tick node answers
 
 -- where check 11 refuses: by a list that is given, or by trying all of up to so many lengths

@@ -119,7 +119,7 @@
 /* The most bytes of a text that bavzhrono_read takes. */
 #define BAVZHRONO_MAX_SOURCE 16384
 /* The bytes of answers that bavzhrono_tick needs: any list fits. It is no limit of the instants. */
-#define BAVZHRONO_MAX_ANSWERS 512
+#define BAVZHRONO_TICK_ANSWERS 512
 /* The entries of an answer that are needed. */
 #define BAVZHRONO_ANSWER 3
 /* The number and the node of a returned value, each a uint32_t; 0 and 0 where nothing is refused. */
@@ -221,7 +221,7 @@ uint32_t bavzhrono_read(const uint8_t *text, size_t text_length,
  * The tick in which the body of a refused loop ends at once; checks 1 to 11.
  *
  * In:  the table.
- * Out: answers  BAVZHRONO_MAX_ANSWERS bytes needed, for a short list too. If check 11 fails, a list
+ * Out: answers  BAVZHRONO_TICK_ANSWERS bytes needed, for a short list too. If check 11 fails, a list
  *               of answers to presence tests is at the front: 0 absent, 1 present. The old bytes
  *               past it stay. For an accepted table all do.
  *      answer   (1, node of the loop, length of the list) if check 11 fails, and (0, n, loop depth

@@ -29,7 +29,7 @@ typedef struct {
     uint8_t emissions[BAVZHRONO_SIGNALS + SPARE];
     uint8_t text[BAVZHRONO_MAX_TEXT + SPARE];
     uint8_t table[TABLE_NEED + SPARE];
-    uint8_t answers[BAVZHRONO_MAX_ANSWERS + SPARE];
+    uint8_t answers[BAVZHRONO_TICK_ANSWERS + SPARE];
     uint64_t answer[BAVZHRONO_ANSWER + SPARE];
 } buffers;
 
@@ -98,7 +98,7 @@ static void check(const char *call, const char *name, uint32_t returned, uint32_
 static lengths needed(size_t nodes, size_t text)
 {
     lengths lent = {nodes, nodes, nodes, nodes, nodes, BAVZHRONO_SIGNALS,
-                    text, TABLE_NEED, BAVZHRONO_MAX_ANSWERS, BAVZHRONO_ANSWER};
+                    text, TABLE_NEED, BAVZHRONO_TICK_ANSWERS, BAVZHRONO_ANSWER};
     return lent;
 }
 
@@ -873,7 +873,7 @@ static void test_tick(const char *name, const uint8_t *table, size_t length, uin
    ends. */
 static void test_list_is_true(const char *name, const uint8_t *table, size_t length)
 {
-    int passed = tick(table, length, spare()) == 0 && actual.answer[2] <= BAVZHRONO_MAX_ANSWERS;
+    int passed = tick(table, length, spare()) == 0 && actual.answer[2] <= BAVZHRONO_TICK_ANSWERS;
 
     if (passed) {
         uint64_t list_length = actual.answer[2];
@@ -1042,7 +1042,7 @@ static void test_read_then_tick(void)
 static void test_short_list(const char *table_name, const uint8_t *table, size_t length,
                             uint32_t number)
 {
-    static const size_t short_lists[] = {0, 1, 2, BAVZHRONO_MAX_ANSWERS - 1};
+    static const size_t short_lists[] = {0, 1, 2, BAVZHRONO_TICK_ANSWERS - 1};
     char name[64];
 
     for (size_t i = 0; i < sizeof short_lists / sizeof short_lists[0]; i++) {

@@ -17,7 +17,7 @@ use crate::{checks, listing, Refusal};
 
 /// The least length of the lent answers. A list has no more of them than there are
 /// presents in the body; these are fewer than its leaves, and so at most 511.
-pub const MOST_ANSWERS: usize = 512;
+pub const TICK_ANSWERS: usize = 512;
 
 const ENDED: Code = 0;
 const PAUSED: Code = 1;
@@ -38,7 +38,7 @@ pub enum Tick {
 /// Writes the best list for a body that ends to the front of the answers, if check 11
 /// refuses the table. Otherwise, and past the list, they stay as they were.
 pub fn find_tick(table: &[u8], answers: &mut [u8]) -> Result<Tick, Refusal> {
-    match checks::accept(table, |_| answers.len() >= MOST_ANSWERS) {
+    match checks::accept(table, |_| answers.len() >= TICK_ANSWERS) {
         Ok(program) => Ok(Tick::Accepted {
             nodes: program.tree.size(),
             loops: program.loop_depth(),
@@ -57,7 +57,7 @@ pub fn find_tick(table: &[u8], answers: &mut [u8]) -> Result<Tick, Refusal> {
 
 /// The node of the loop and the answers, or else the first line of the listing.
 pub fn tick_line(table: &[u8]) -> String {
-    let mut answers = [ABSENT; MOST_ANSWERS];
+    let mut answers = [ABSENT; TICK_ANSWERS];
     match find_tick(table, &mut answers) {
         Ok(Tick::Ends { node, length }) => line(node, &answers[..length]),
         _ => first_line(&listing(table)).to_string(),

@@ -121,4 +121,4 @@ pub const MAX_TEXT: usize = 67_584;
 pub const MAX_SOURCE: usize = 16_384;
 
 /// The bytes of answers that [`tick`] needs: any list fits. It is no limit of the instants.
-pub const MAX_ANSWERS: usize = 512;
+pub const TICK_ANSWERS: usize = 512;

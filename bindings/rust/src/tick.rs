@@ -1,6 +1,6 @@
 use std::fmt;
 
-use crate::{raw, Analysis, Refusal, MAX_ANSWERS};
+use crate::{raw, Analysis, Refusal, TICK_ANSWERS};
 
 /// What [`tick`] finds in a table that passes checks 1 to 10.
 #[derive(Clone, Copy, Debug, PartialEq, Eq, Hash)]
@@ -20,7 +20,7 @@ pub enum Tick<'a> {
 ///
 /// If check 11 fails, a list of answers to presence tests is written to the front of the lent
 /// answers and handed back; the old bytes past it stay. For an accepted table all do. The answers
-/// need [`MAX_ANSWERS`] bytes, for a short list too.
+/// need [`TICK_ANSWERS`] bytes, for a short list too.
 ///
 /// The loop is the lowest whose body can end in the instant in which it is started, the one that
 /// the other calls refuse with 11; this call's refusals are 1 to 10. Started with the list, the body
@@ -28,11 +28,11 @@ pub enum Tick<'a> {
 /// this one has 0 at the first difference. It can be empty, and has at most 511 answers.
 ///
 /// ```
-/// use bavzhrono::{start, tick, Closed, Completion, Tick, MAX_ANSWERS, SIGNALS};
+/// use bavzhrono::{start, tick, Closed, Completion, Tick, TICK_ANSWERS, SIGNALS};
 ///
 /// // W8, a loop of two tests: present 5 then pause; present 5 else pause.
 /// let table = [2, 0, 1, 0, 6, 5, 1, 0, 2, 0, 6, 5, 9, 0, 8, 0];
-/// let mut lent = [0; MAX_ANSWERS];
+/// let mut lent = [0; TICK_ANSWERS];
 /// let Tick::Ends { node, answers } = tick(&table, &mut lent)? else {
 ///     panic!("W8 is refused by 11");
 /// };
@@ -80,7 +80,7 @@ pub struct Fault {
 impl Fault {
     /// The fault of a table, nothing if it is accepted, or its refusal by another check than 11.
     pub fn of(table: &[u8]) -> Result<Option<Fault>, Refusal> {
-        Ok(match tick(table, &mut [0; MAX_ANSWERS])? {
+        Ok(match tick(table, &mut [0; TICK_ANSWERS])? {
             Tick::Ends { node, answers } => Some(Fault {
                 node,
                 answers: answers.to_vec(),

@@ -2,7 +2,7 @@
 
 mod common;
 
-use bavzhrono::{raw, MAX_ANSWERS, MAX_NODES, MAX_SOURCE, MAX_TEXT, SIGNALS};
+use bavzhrono::{raw, MAX_NODES, MAX_SOURCE, MAX_TEXT, SIGNALS, TICK_ANSWERS};
 use common::*;
 
 const FILL_NUMBER: u64 = FILL_SET.0;
@@ -34,7 +34,7 @@ impl Lent {
             emissions: vec![FILL; SIGNALS],
             text: vec![FILL; MAX_TEXT],
             table: vec![FILL; 2 * MAX_NODES],
-            answers: vec![FILL; MAX_ANSWERS],
+            answers: vec![FILL; TICK_ANSWERS],
             answer: vec![FILL_NUMBER; entries],
         }
     }
@@ -156,7 +156,7 @@ fn a_refused_text_is_number_and_node_and_leaves_table_and_answer() {
 fn refusals_3_12_and_13_name_no_node_and_leave_the_answer() {
     let mut short = Lent::with_answer(3);
     (short.marks, short.state, short.text) = (vec![FILL; 3], vec![FILL; 3], vec![FILL; 3]);
-    short.answers.truncate(MAX_ANSWERS - 1);
+    short.answers.truncate(TICK_ANSWERS - 1);
     for function in CHECKING {
         assert_unchanged(short.clone(), function, W1, 3);
     }

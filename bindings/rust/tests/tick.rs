@@ -7,13 +7,13 @@ use std::fs;
 use std::path::Path;
 use std::thread;
 
-use bavzhrono::{start, table_of, tick, Analysis, Completion, Fault, Tick, MAX_ANSWERS, SIGNALS};
+use bavzhrono::{start, table_of, tick, Analysis, Completion, Fault, Tick, SIGNALS, TICK_ANSWERS};
 use common::*;
 
 /// Into answers that just suffice and into longer ones, of which only the front changes.
 fn assert_ends(table: &[u8], node: usize, list: &[u8]) {
     for more in [0, 5] {
-        let mut lent = vec![FILL; MAX_ANSWERS + more];
+        let mut lent = vec![FILL; TICK_ANSWERS + more];
         let mut expected = lent.clone();
         expected[..list.len()].copy_from_slice(list);
         let answers = list;
@@ -39,10 +39,10 @@ fn assert_program_ends(table: &[u8], list: &[u8]) {
 
 /// The figures come back, and the answers stay.
 fn assert_accepted(table: &[u8], nodes: usize, loop_depth: usize) {
-    let mut lent = [FILL; MAX_ANSWERS];
+    let mut lent = [FILL; TICK_ANSWERS];
     let figures = Analysis { nodes, loop_depth };
     assert_eq!(tick(table, &mut lent), Ok(Tick::Accepted(figures)));
-    assert_eq!(lent, [FILL; MAX_ANSWERS]);
+    assert_eq!(lent, [FILL; TICK_ANSWERS]);
     assert_eq!(Fault::of(table), Ok(None));
 }
 
@@ -223,7 +223,7 @@ fn check_3_comes_after_1_and_2_and_before_the_kinds() {
         (W5, 3),
         (W8, 3),
     ] {
-        for length in [0, 1, 2, MAX_ANSWERS - 1] {
+        for length in [0, 1, 2, TICK_ANSWERS - 1] {
             let mut lent = vec![FILL; length];
             assert_eq!(tick(table, &mut lent), refused(number, 0));
             assert_eq!(lent, vec![FILL; length]);
@@ -245,9 +245,9 @@ fn refusals_by_other_checks_than_11() {
         // The loop comes first, but 10 covers the whole table before 11.
         ([W2, W5, &[9, 0]].concat(), 10, 2),
     ] {
-        let mut lent = [FILL; MAX_ANSWERS];
+        let mut lent = [FILL; TICK_ANSWERS];
         assert_eq!(tick(&table, &mut lent), refused(number, node));
-        assert_eq!(lent, [FILL; MAX_ANSWERS]);
+        assert_eq!(lent, [FILL; TICK_ANSWERS]);
         assert_eq!(Fault::of(&table), refused(number, node));
     }
 }

@@ -5,7 +5,7 @@ use std::hint::black_box;
 use compare::instant::SIGNALS;
 use compare::support::calls::{Calls, COMPARE, FIGURES};
 use compare::table::MOST_BYTES;
-use compare::tick::MOST_ANSWERS;
+use compare::tick::TICK_ANSWERS;
 use ours::OURS;
 use two_pass::TWO_PASS;
 
@@ -192,7 +192,7 @@ impl Case {
             shape: shape.name,
             nodes,
             table: (shape.program)(nodes),
-            answers: vec![0; MOST_ANSWERS],
+            answers: vec![0; TICK_ANSWERS],
             answer: vec![0; FIGURES],
             ..Case::default()
         };

@@ -4,7 +4,7 @@ use compare::instant::SIGNALS;
 use compare::support::calls::{Calls, FIGURES};
 use compare::support::cases::{Call, Case};
 use compare::table::MOST_BYTES;
-use compare::tick::MOST_ANSWERS;
+use compare::tick::TICK_ANSWERS;
 
 use crate::guarded::Guarded;
 
@@ -246,7 +246,7 @@ pub struct Finding {
 impl Finding {
     /// With answers of exactly the length needed.
     pub fn new(table: &[u8]) -> Finding {
-        Finding::with_answers(table, MOST_ANSWERS)
+        Finding::with_answers(table, TICK_ANSWERS)
     }
 
     pub fn with_answers(table: &[u8], answers_length: usize) -> Finding {

@@ -41,7 +41,7 @@ use Rattle.witness.specs.declared.Tick.the-variants.{Ends, Accepted}
 use Rattle.witness.specs.declared.Tick.the-variants.{Refused as RefusedTick}
 use Rattle.witness.proofs.Theorems.{ticksTold}
 use Rattle.abi.specs.Exported.{returned, answerAfter, Tells, tellAnalysed, tellReaction, tellRendered, tellReading, tellTick, shortAnswer, Exported}
-use Rattle.abi.specs.Theorems.{Ran, Shown, NoTick, IsRefused, Demand1OfExports}
+use Rattle.abi.specs.Theorems.{Ran, TickShown, NoTick, IsRefused, Demand1OfExports}
 use Rattle.abi.specs.declared.Told.{Told}
 use Rattle.abi.specs.declared.Told.the-variants.{Refusal}
 
@@ -210,7 +210,7 @@ module _ (t old new answer answer′ : List ℕ) where
         same = same;
       }
 
-  tick-done : (x : Tick) → TellsTick t old new x → returned (tellTick x) ≡ 0 → answer′ ≡ answerAfter (tellTick x) answer → Shown t old new answer answer′ ⊎ NoTick t old new answer answer′
+  tick-done : (x : Tick) → TellsTick t old new x → returned (tellTick x) ≡ 0 → answer′ ≡ answerAfter (tellTick x) answer → TickShown t old new answer answer′ ⊎ NoTick t old new answer answer′
   tick-done (Ends node n) o z e = inl (node, n, o, e)
   tick-done (Accepted nodes loops) o z e = let (p, v, n, d, same) = ticksTold .accepts t old new nodes loops o in inr (nodes, loops, o, same, e)
   tick-done (RefusedTick number node) o z e = absurd (omega (arith, ticksTold .refuses t old new number node o .0))

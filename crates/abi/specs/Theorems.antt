@@ -34,8 +34,8 @@ abbrev pub Ran : (Reaction → Type 0) → (answer answer′ : List ℕ) → Typ
 Ran Call answer answer′ = (code taken entries : ℕ) × Call (Closed code taken entries) × (answer′ ≡ onto (code ∷ taken ∷ entries ∷ []) answer)
 
 -- after 0 a tick is told, or that the table is accepted, and then no byte of the answers has changed
-abbrev pub Shown : (t answers answers′ answer answer′ : List ℕ) → Type 0
-Shown t answers answers′ answer answer′ =
+abbrev pub TickShown : (t answers answers′ answer answer′ : List ℕ) → Type 0
+TickShown t answers answers′ answer answer′ =
     (node n : ℕ) × TellsTick t answers answers′ (Ends node n) × (answer′ ≡ onto (1 ∷ node ∷ n ∷ []) answer)
 
 abbrev pub NoTick : (t answers answers′ answer answer′ : List ℕ) → Type 0
@@ -107,4 +107,4 @@ pub record Demand1OfExports : Type 0 where
       (nodes signals : ℕ) × ReadAs text table table′ (DoneText nodes signals) × (answer′ ≡ onto (nodes ∷ signals ∷ 0 ∷ []) answer)
   pub tickDone :
       (t answers answer answers′ answer′ : List ℕ) →
-      TickingC t answers answer answers′ answer′ 0 → Shown t answers answers′ answer answer′ ⊎ NoTick t answers answers′ answer answer′
+      TickingC t answers answer answers′ answer′ 0 → TickShown t answers answers′ answer answer′ ⊎ NoTick t answers answers′ answer answer′

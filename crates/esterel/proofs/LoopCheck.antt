@@ -17,7 +17,7 @@ use Rattle.esterel.specs.Checks.{tooDeep, tooManyTraps, uncaught, endsAt
 use Rattle.esterel.specs.Outcome.{statementAt}
 use Rattle.esterel.specs.Theorems.{WellFormed, EndedInK, LowestLoop, NoLoop}
 use Rattle.esterel.proofs.Accepted.{place-statement}
-use Rattle.esterel.proofs.Refusals.{Told, told-numbered, read-told}
+use Rattle.esterel.proofs.Refusals.{Told, told-numbered, read-told, other-number}
 
 -- ---- the lowest node for which a test holds, of the places from n on
 
@@ -162,9 +162,6 @@ module _ {bytes : List ℕ} {p : Stmt} (w : WellFormed bytes p) where
   )
 
 -- ---- the checks before it: reading refuses by numbers up to 7, and 8 to 10 by theirs
-
-other-number : {a number n node : ℕ} → (a ≡ number → ⊥) → refused a n ≡ refused number node → ⊥
-other-number d e = d cc
 
 passed-by : (number n : ℕ) (o : Option ℕ) (next : Verdict) (node : ℕ) → (number ≡ n → ⊥) → refuseAt number o next ≡ refused n node → (o ≡ none) × (next ≡ refused n node)
 passed-by number n none next node d e = (refl, e)

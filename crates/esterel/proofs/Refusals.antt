@@ -38,6 +38,13 @@ told-more : {most : ℕ} (more : ℕ) {v : Verdict} → most ≤ more → Told m
 told-more more h (passes p) = passes p
 told-more more h (refuses number node o) = refuses number node record { some = o .some; known = omega (arith, o .known); within = o .within }
 
+-- a verdict is of one kind, and a refusal of one number
+pub passed-refused : {v : Verdict} {p : Stmt} {number node : ℕ} → v ≡ passed p → v ≡ refused number node → ⊥
+passed-refused e f = let z : _≡_ {A = ℕ} 0 1 = cc in omega arith
+
+pub other-number : {a b number node : ℕ} → (a ≡ number → ⊥) → refused a b ≡ refused number node → ⊥
+other-number d e = d cc
+
 -- ---- checks 1, 2 and 4 to 7
 
 -- what a node's bytes say has such a number, up to 7

@@ -1,16 +1,16 @@
 -- What the runner's functions answer and leave.
-use Prim.Native.Nat.{ℕ, suc, _+_, _-_, _<_, _≤_}
+use Prim.Native.Nat.{ℕ, suc, _+_, _<_, _≤_}
 use mathlib.Core.Path.{_≡_}
 use mathlib.Core.Bool.{true}
 use mathlib.Core.List.{List, []}
 use lib.ListN.{length, getD, take, drop}
 use lib.Seq.{sets}
 use Rattle.esterel.specs.Limits.{signals}
-use Rattle.esterel.specs.Statement.{Stmt, size, nodes}
+use Rattle.esterel.specs.Statement.{size, nodes}
 use Rattle.esterel.specs.Table.{passed, scan}
 use Rattle.esterel.specs.Checks.{checkProgram}
 use Rattle.esterel.specs.Instant.{Entry, Result, closed, starved, start, resume, admitted}
-use Rattle.esterel.specs.Outcome.{statementAt, emitted}
+use Rattle.esterel.specs.Outcome.{emitted}
 use Rattle.table.specs.Program.{programOf}
 pub use Rattle.table.specs.Columns.{stmtAt, firstAt}
 use Rattle.table.specs.Columns.{Measured}

@@ -1,17 +1,17 @@
 -- The text at the front of the buffer, or a buffer that is too short.
-use mathlib.Core.Path.{_≡_, refl, sym, ap, _∙_}
-use mathlib.Core.Bool.{Bool, true, false, cond}
-use mathlib.Core.List.{List, [], _++_}
-use Prim.Native.Nat.{ℕ, _+_, _/_, _≤_, _<_}
+use mathlib.Core.Path.{_≡_, sym, ap, _∙_}
+use mathlib.Core.Bool.{true, false}
+use mathlib.Core.List.{List, _++_}
+use Prim.Native.Nat.{ℕ, _/_, _≤_, _<_}
 use native.Mathlib.Omega.{arith}
 use borrow.Author.Tests.{le-leb, lt-leb}
 use lib.Dec.{leb}
 use lib.ListN.{length, drop, length-append}
-use lib.Seq.{sets, sets-eq}
 use Rattle.esterel.specs.Limits.{maxNodes}
 use Rattle.esterel.specs.Table.{Verdict, passed, refused}
 use Rattle.esterel.specs.Checks.{verdict}
 use Rattle.table.specs.Program.{programOf}
+use Rattle.table.proofs.Buffers.{sets-front}
 use Rattle.analysis.specs.Analysis.{roomFor, verdictFor, Analysis}
 use Rattle.analysis.specs.declared.Analysed.{Analysed}
 use Rattle.analysis.specs.declared.Analysed.the-variants.{Done, Refused}
@@ -31,9 +31,7 @@ module _ (text old : List ℕ) {n : ℕ} (en : n ≡ length text) where
   pub rendered : {new : List ℕ} {r : ℕ} → n ≤ length old → Written old 0 text new r → Rendering text old new (Whole n)
   rendered h w =
       let room : leb (length text) (length old) ≡ true = le-leb (length text) (length old) (omega arith) in
-      let none : 0 + length text ≡ length text = omega arith in
-      let front : sets old 0 text ≡ text ++ drop (length text) old = sets-eq text old 0 (omega arith) ∙ ap (λ k. text ++ drop k old) none in
-      record { answer = ap Whole en ∙ rw room; content = w .is ∙ front ∙ rw room }
+      record { answer = ap Whole en ∙ rw room; content = w .is ∙ sets-front text old (omega arith) ∙ rw room }
 
 pub rendering-as : {v w : Verdict} {old new : List ℕ} {r : Rendered} → v ≡ w → Rendering (textOf v) old new r → Rendering (textOf w) old new r
 rendering-as e o = rw e at o

@@ -1,12 +1,11 @@
 -- What the rows of a table say of its nodes' starts.
 use mathlib.Core.Path.{_≡_, refl, sym, ap, ap₂, subst, _∙_, fun-ext}
-use mathlib.Core.Bool.{Bool, true, false, cond}
+use mathlib.Core.Bool.{true}
 use mathlib.Core.Option.{Option, none, some}
 use mathlib.Core.List.{List}
 use Prim.Native.Nat.{ℕ, zero, suc, _+_, _-_, _*_, _<_, _≤_}
 use native.Mathlib.Decide.{decLt}
 use native.Mathlib.Omega.{arith}
-use lib.Dec.{eqb}
 use lib.ListN.{length, getD, replicate, getD-replicate, List·getD-eq-default}
 use Rattle.codes.proofs.Bools.{cannot-pass}
 use Rattle.esterel.specs.Limits.{maxNodes}
@@ -19,12 +18,13 @@ use Rattle.table.specs.declared.Kind.{Kind}
 use Rattle.table.proofs.Surveying.{few-nodes}
 use Rattle.table.proofs.Bytes.{field-byte}
 use Rattle.table.proofs.Views.{spans, kind-is, leaf-of, one-of, two-of}
-use Rattle.starts.specs.Summary.{given, together, least, leastAnswers, presents}
+use Rattle.starts.specs.Summary.{together, leastAnswers}
+use Rattle.starts.specs.Ticks.{presents}
 use Rattle.starts.proofs.Exact.{least-weighs}
 use Rattle.starts.proofs.Triples.{lacking}
 use Rattle.starts.proofs.Cost.{below-low}
 use Rattle.starts.proofs.Theorems.{few-least, few-tests, codes-below}
-use Rattle.rows.specs.Rows.{valueOf, valuesOf, LowRow, Holds}
+use Rattle.rows.specs.Rows.{valueOf, valuesOf, maxNumber, LowRow, Holds}
 use Rattle.rows.specs.Steps.{rowOf, IsRow}
 use Rattle.rows.specs.Filled.{Formed, RowAt, Stored, RowsTo}
 
@@ -36,17 +36,10 @@ entered-same (some n) = ap some (omega arith)
 
 leaf-row : (l : Leaf) (f g : ℕ → Option ℕ) (k : ℕ) → rowOf (kindOf (kind (leaf l))) (field (leaf l)) f g k ≡ leastAnswers (leaf l) k
 unfolding kindOf
-leaf-row l f g k = go l
-  where
-    own : (b : Bool) → cond b (some 0) none ≡ given least b (some 0)
-    own true = refl
-    own false = refl
-
-    go : (l : Leaf) → rowOf (kindOf (kind (leaf l))) (field (leaf l)) f g k ≡ leastAnswers (leaf l) k
-    go nothing = own (eqb 0 k)
-    go pause = own (eqb 1 k)
-    go (emit s) = own (eqb 0 k)
-    go (exit level) = own (eqb (2 + level) k)
+leaf-row nothing f g k = refl
+leaf-row pause f g k = refl
+leaf-row (emit s) f g k = refl
+leaf-row (exit level) f g k = refl
 
 one-row : (u : Unary) (p : Stmt) (f : ℕ → Option ℕ) (k : ℕ) → rowOf (kindOf (kind (one u p))) (field (one u p)) f (leastAnswers p) k ≡ leastAnswers (one u p) k
 unfolding kindOf
@@ -72,10 +65,10 @@ row-low {row} m e f = record { at = λ k. go k (decLt k 64) }
     go k (no n) = let z : getD row k 0 ≡ 0 = List·getD-eq-default row 0 (omega arith) in omega arith
 
 -- one that says nothing
-pub none-low : LowRow 1025 (replicate 64 0)
-none-low = row-low 1025 refl (λ k l. omega (arith, getD-replicate {A = ℕ} 64 k 0 0 l))
+pub none-low : LowRow maxNumber (replicate 64 0)
+none-low = row-low maxNumber refl (λ k l. omega (arith, getD-replicate {A = ℕ} 64 k 0 0 l))
 
-pub value-low : (w m : ℕ) (x : Option ℕ) → valueOf w ≡ x → ((n : ℕ) → x ≡ some n → n ≤ m) → w ≤ suc m
+value-low : (w m : ℕ) (x : Option ℕ) → valueOf w ≡ x → ((n : ℕ) → x ≡ some n → n ≤ m) → w ≤ suc m
 value-low zero m x e f = omega arith
 value-low (suc w) m x e f = omega (arith, f w (sym e))
 
@@ -84,7 +77,7 @@ module _ {t sizes : List ℕ} (ok : Formed t sizes) where
   pub codes-low : (j k : ℕ) → startSet (stmtAt t j) k ≡ true → k ≤ 63
   codes-low j k e = below-low 63 (stmtAt t j) (codes-below (ok .wellFormed) j) k e
 
-  pub size-low : (j : ℕ) → j < size (programOf t) → size (stmtAt t j) ≤ 1024
+  size-low : (j : ℕ) → j < size (programOf t) → size (stmtAt t j) ≤ 1024
   size-low j h = omega (arith, spans t j h, few-nodes t (ok .measured .readable))
 
   module _ {i : ℕ} {rows : List ℕ} (done : RowsTo t i rows) (j : ℕ) (lt : j < i) {row : List ℕ} (o : RowAt rows j row) where
@@ -94,7 +87,7 @@ module _ {t sizes : List ℕ} (ok : Formed t sizes) where
     pub said-few : LowRow (suc (presents (stmtAt t j))) row
     said-few = row-low (suc (presents (stmtAt t j))) (o .long) (λ k l. value-low (getD row k 0) (presents (stmtAt t j)) _ (at-code k l) (λ n e. few-least (stmtAt t j) k n e))
 
-    pub said-low : j < size (programOf t) → LowRow 1025 row
+    pub said-low : j < size (programOf t) → LowRow maxNumber row
     said-low h = record { at = λ k. omega (arith, said-few .at k, few-tests (stmtAt t j), size-low j h) }
 
     pub said-is : {p : Stmt} → stmtAt t j ≡ p → valuesOf row ≡ leastAnswers p

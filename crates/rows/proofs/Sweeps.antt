@@ -10,8 +10,8 @@ use lib.ListN.{length, getD, set, length-set}
 use lib.Seq.{getD-set-same, getD-set-other}
 use Rattle.table.specs.declared.Kind.{Kind}
 use Rattle.starts.specs.Summary.{upTo, either, together, least}
-use Rattle.rows.specs.Rows.{valueOf, valuesOf, Lesser, Joins, LowRow, Found}
-use Rattle.rows.specs.Steps.{numberOf, IsNumber, rowOf, IsRow}
+use Rattle.rows.specs.Rows.{valueOf, valuesOf, maxNumber, Lesser, Joins, LowRow, Found}
+use Rattle.rows.specs.Steps.{numberAt, IsNumber, rowOf, IsRow}
 
 -- the least below code k
 abbrev pub below : (ℕ → Option ℕ) → ℕ → Option ℕ
@@ -45,8 +45,8 @@ pub record Running (kind : Kind) (n : ℕ) (a b of : List ℕ) (x y k : ℕ) : T
   pub long : length of ≡ 64
   pub left : valueOf x ≡ below (valuesOf a) k
   pub right : valueOf y ≡ below (valuesOf b) k
-  pub small-left : x ≤ 1025
-  pub small-right : y ≤ 1025
+  pub small-left : x ≤ maxNumber
+  pub small-right : y ≤ maxNumber
   pub done : (j : ℕ) → j < k → valueOf (getD of j 0) ≡ rowOf kind n (valuesOf a) (valuesOf b) j
 
 pub begins : {kind : Kind} {n : ℕ} {a b of : List ℕ} → length of ≡ 64 → Running kind n a b of 0 0 0
@@ -60,7 +60,7 @@ ends o h = record { is = record { long = o .long; at = λ j l. o .done j (omega 
 pub lesser-low : {a b r m : ℕ} → Lesser a b r → a ≤ m → b ≤ m → r ≤ m
 lesser-low p h i = omega (arith, p .low)
 
-pub step : {kind : Kind} {n : ℕ} {a b of : List ℕ} {x y k x′ y′ r : ℕ} → LowRow 1025 a → LowRow 1025 b → Running kind n a b of x y k → k < 64 → Lesser (getD a k 0) x x′ → Lesser (getD b k 0) y y′ → IsNumber kind n a b x′ y′ k r → Running kind n a b (set of k r) x′ y′ (k + 1)
+pub step : {kind : Kind} {n : ℕ} {a b of : List ℕ} {x y k x′ y′ r : ℕ} → LowRow maxNumber a → LowRow maxNumber b → Running kind n a b of x y k → k < 64 → Lesser (getD a k 0) x x′ → Lesser (getD b k 0) y y′ → IsNumber kind n a b x′ y′ k r → Running kind n a b (set of k r) x′ y′ (k + 1)
 step {kind} {n} {a} {b} {of} {x} {y} {k} {x′} {y′} {r} la lb o h p q g =
     rw add-one
     record {
@@ -80,7 +80,7 @@ step {kind} {n} {a} {b} {of} {x} {y} {k} {x′} {y′} {r} la lb o h p q g =
     right-up = q .is ∙ ap (least .choice (valuesOf b k)) (o .right)
 
     here : valueOf r ≡ rowOf kind n (valuesOf a) (valuesOf b) k
-    here = g .gets .is ∙ ap₂ (λ z w. numberOf kind n (valuesOf a) (valuesOf b) z w k) (left-up ∙ below-upTo (valuesOf a) k) (right-up ∙ below-upTo (valuesOf b) k)
+    here = g .gets .is ∙ ap₂ (λ z w. numberAt kind n (valuesOf a) (valuesOf b) z w k) (left-up ∙ below-upTo (valuesOf a) k) (right-up ∙ below-upTo (valuesOf b) k)
 
 -- ---- least_sum
 
@@ -98,10 +98,10 @@ finds {a} {b} {x} {k} o h j p =
       small = λ m n la lb. omega (arith, p .low, o .small m n la lb, j .low, la .at k, lb .at k);
     }
 
-pub found : {a b : List ℕ} {x k : ℕ} → LowRow 1025 a → LowRow 1025 b → Finding a b x k → 64 ≤ k → Found a b x
+pub found : {a b : List ℕ} {x k : ℕ} → LowRow maxNumber a → LowRow maxNumber b → Finding a b x k → 64 ≤ k → Found a b x
 found {a} {b} {x} {k} la lb o h =
     let z : k ≡ suc 63 = omega (arith, o .low) in
-    record { low = o .small; gets = record { is = o .is ∙ ap (below (λ j. together _+_ (valuesOf a j) (valuesOf b j))) z ∙ below-upTo (λ j. together _+_ (valuesOf a j) (valuesOf b j)) 63; low = omega (arith, o .small 1025 1025 la lb) } }
+    record { low = o .small; gets = record { is = o .is ∙ ap (below (λ j. together _+_ (valuesOf a j) (valuesOf b j))) z ∙ below-upTo (λ j. together _+_ (valuesOf a j) (valuesOf b j)) 63; low = omega (arith, o .small maxNumber maxNumber la lb) } }
 
 -- ---- load and store
 

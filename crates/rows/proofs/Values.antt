@@ -7,14 +7,11 @@ use native.Mathlib.Omega.{arith}
 use lib.ListN.{length, getD, List·getD-eq-default}
 use borrow.Author.Tests.{eq-eqb, ne-eqb}
 use Rattle.table.specs.declared.Kind.{Kind}
-use Rattle.starts.specs.Summary.{tested, withoutEnded, followed, caught, either, together, least}
-use Rattle.rows.specs.Rows.{valueOf, valuesOf, Gets, Lesser, Joins, LowRow}
-use Rattle.rows.specs.Steps.{onlyAt, numberOf, IsNumber}
+use Rattle.starts.specs.Summary.{only, tested, withoutEnded, followed, caught, either, together, least}
+use Rattle.rows.specs.Rows.{valueOf, valuesOf, maxNumber, Gets, Lesser, Joins, LowRow}
+use Rattle.rows.specs.Steps.{numberAt, IsNumber}
 
 -- ---- lesser
-
-pub second-there : {a b : ℕ} → a ≡ 0 → Lesser a b b
-second-there e = record { is = rw e; low = omega arith }
 
 pub first-there : {a b : ℕ} → b ≡ 0 → Lesser a b a
 first-there {a} {b} e = record { is = rw e (go a); low = omega arith }
@@ -51,56 +48,53 @@ join-both {a = (suc a)} {b = (suc b)} d e =
 
 -- ---- numbers that say something
 
-pub gets-low : {a : ℕ} → a ≤ 1025 → Gets (valueOf a) a
+pub gets-low : {a : ℕ} → a ≤ maxNumber → Gets (valueOf a) a
 gets-low h = record { is = refl; low = omega arith }
 
-pub gets-join : {a b r : ℕ} → a ≤ 1025 → b ≤ 1025 → Joins a b r → Gets (together _+_ (valueOf a) (valueOf b)) r
+pub gets-join : {a b r : ℕ} → a ≤ maxNumber → b ≤ maxNumber → Joins a b r → Gets (together _+_ (valueOf a) (valueOf b)) r
 gets-join h i j = record { is = j .is; low = omega (arith, j .low) }
 
 pub gets-lesser : {x y : Option ℕ} {a b r : ℕ} → Gets x a → Gets y b → Lesser a b r → Gets (least .choice x y) r
 gets-lesser g h p = record { is = p .is ∙ ap₂ (least .choice) (g .is) (h .is); low = omega (arith, p .low, g .low, h .low) }
 
-pub as-kind : {kind l : Kind} {n : ℕ} {a b : List ℕ} {x y k r : ℕ} → kind ≡ l → Gets (numberOf l n (valuesOf a) (valuesOf b) (valueOf x) (valueOf y) k) r → IsNumber kind n a b x y k r
+pub as-kind : {kind l : Kind} {n : ℕ} {a b : List ℕ} {x y k r : ℕ} → kind ≡ l → Gets (numberAt l n (valuesOf a) (valuesOf b) (valueOf x) (valueOf y) k) r → IsNumber kind n a b x y k r
 as-kind e g = record { gets = rw e g }
 
 -- ---- the returns of the functions for each kind
 
-pub only-here : (c k : ℕ) → c ≡ k → Gets (onlyAt c k) 1
+pub only-here : (c k : ℕ) → c ≡ k → Gets (only least c k) 1
 only-here c k e = record { is = rw (eq-eqb c k e); low = omega arith }
 
-pub only-not : (c k : ℕ) → (c ≡ k → ⊥) → Gets (onlyAt c k) 0
+pub only-not : (c k : ℕ) → (c ≡ k → ⊥) → Gets (only least c k) 0
 only-not c k d = record { is = rw (ne-eqb c k d); low = omega arith }
 
-pub test-is : {a b v w r : ℕ} → a ≤ 1025 → b ≤ 1025 → Joins 2 a v → Joins 2 b w → Lesser v w r → Gets (tested least (valueOf a) (valueOf b)) r
+pub test-is : {a b v w r : ℕ} → a ≤ maxNumber → b ≤ maxNumber → Joins 2 a v → Joins 2 b w → Lesser v w r → Gets (tested least (valueOf a) (valueOf b)) r
 test-is h i j l p = record { is = p .is ∙ ap₂ (least .choice) (j .is) (l .is); low = omega (arith, p .low, j .low, l .low) }
 
 module _ (g : List ℕ) where
-  pub loop-zero : (k : ℕ) → k ≡ 0 → Gets (withoutEnded least (valuesOf g) k) 0
-  loop-zero k e = record { is = rw e; low = omega arith }
-
-  pub loop-more : (k : ℕ) → (k ≡ 0 → ⊥) → LowRow 1025 g → Gets (withoutEnded least (valuesOf g) k) (getD g k 0)
+  pub loop-more : (k : ℕ) → (k ≡ 0 → ⊥) → LowRow maxNumber g → Gets (withoutEnded least (valuesOf g) k) (getD g k 0)
   loop-more zero d l = absurd (d refl)
   loop-more (suc k) d l = gets-low (l .at (suc k))
 
-  pub trap-zero : {r : ℕ} (k : ℕ) → k ≡ 0 → LowRow 1025 g → Lesser (getD g 0 0) (getD g 2 0) r → Gets (caught least (valuesOf g) k) r
+  pub trap-zero : {r : ℕ} (k : ℕ) → k ≡ 0 → LowRow maxNumber g → Lesser (getD g 0 0) (getD g 2 0) r → Gets (caught least (valuesOf g) k) r
   trap-zero {r} k e l p = subst (λ j. Gets (caught least (valuesOf g) j) r) (sym e) (gets-lesser (gets-low (l .at 0)) (gets-low (l .at 2)) p)
 
-  pub trap-one : (k : ℕ) → k ≡ 1 → LowRow 1025 g → Gets (caught least (valuesOf g) k) (getD g 1 0)
+  pub trap-one : (k : ℕ) → k ≡ 1 → LowRow maxNumber g → Gets (caught least (valuesOf g) k) (getD g 1 0)
   trap-one k e l = subst (λ j. Gets (caught least (valuesOf g) j) (getD g 1 0)) (sym e) (gets-low (l .at 1))
 
-  pub trap-more : (k : ℕ) → (k ≡ 0 → ⊥) → (k ≡ 1 → ⊥) → LowRow 1025 g → Gets (caught least (valuesOf g) k) (getD g (k + 1) 0)
+  pub trap-more : (k : ℕ) → (k ≡ 0 → ⊥) → (k ≡ 1 → ⊥) → LowRow maxNumber g → Gets (caught least (valuesOf g) k) (getD g (k + 1) 0)
   trap-more zero d e l = absurd (d refl)
   trap-more (suc zero) d e l = absurd (e refl)
   trap-more (suc (suc k)) d e l =
       let z : suc (suc k) + 1 ≡ suc (suc (suc k)) = omega arith in
       rw z (gets-low (l .at (suc (suc (suc k)))))
 
-  pub trap-last : (k : ℕ) → k ≡ 63 → length g ≡ 64 → LowRow 1025 g → Gets (caught least (valuesOf g) k) 0
+  pub trap-last : (k : ℕ) → k ≡ 63 → length g ≡ 64 → LowRow maxNumber g → Gets (caught least (valuesOf g) k) 0
   trap-last k e z l =
       let past : getD g (k + 1) 0 ≡ 0 = List·getD-eq-default g 0 (omega arith) in
       subst (Gets (caught least (valuesOf g) k)) past (trap-more k (λ y. omega arith) (λ y. omega arith) l)
 
-module _ (f g : List ℕ) (l : LowRow 1025 f) (m : LowRow 1025 g) where
+module _ (f g : List ℕ) (l : LowRow maxNumber f) (m : LowRow maxNumber g) where
   pub followed-zero : {v : ℕ} (k : ℕ) → k ≡ 0 → Joins (getD f 0 0) (getD g k 0) v → Gets (followed least (valuesOf f) (valuesOf g) k) v
   followed-zero zero e j = gets-join (l .at 0) (m .at 0) j
   followed-zero (suc k) e j = absurd (omega arith)

@@ -1,10 +1,11 @@
 -- Rows of 64 numbers, one for each code: 0 where no start gives the code, else one more than the least number of answers.
-use Prim.Native.Nat.{ℕ, zero, suc, _+_, _-_, _≤_, _<_, max}
+use Prim.Native.Nat.{ℕ, zero, suc, _+_, _-_, _*_, _≤_, _<_, max}
 use mathlib.Core.Path.{_≡_}
 use mathlib.Core.Option.{Option, none, some}
 use mathlib.Core.List.{List}
 use lib.ListN.{length, getD}
-use Rattle.starts.specs.Summary.{upTo, together, least}
+use Rattle.starts.specs.Summary.{least}
+use Rattle.starts.specs.Walk.{leastTotal}
 
 -- what a number says
 abbrev pub valueOf : ℕ → Option ℕ
@@ -14,10 +15,14 @@ valueOf (suc n) = some n
 abbrev pub valuesOf : List ℕ → ℕ → Option ℕ
 valuesOf row k = valueOf (getD row k 0)
 
--- r says x, and is small
+-- no number of a row is larger: a start takes fewer than 512 answers
+abbrev pub maxNumber : ℕ
+maxNumber = 512
+
+-- r says x, and is no larger than the sum of two numbers of rows
 pub record Gets (x : Option ℕ) (r : ℕ) : Type 0 where
   pub is : valueOf r ≡ x
-  pub low : r ≤ 4096
+  pub low : r ≤ 2 * maxNumber
 
 -- r says the less of what a and b say, where `none` is more than every number
 pub record Lesser (a b r : ℕ) : Type 0 where
@@ -40,7 +45,7 @@ pub record Holds (f : ℕ → Option ℕ) (row : List ℕ) : Type 0 where
 
 -- the least of the sums of two rows
 abbrev pub leastSum : List ℕ → List ℕ → Option ℕ
-leastSum row need = upTo least (λ k. together _+_ (valuesOf row k) (valuesOf need k)) 63
+leastSum row need = leastTotal 63 (valuesOf row) (valuesOf need)
 
 pub record Found (row need : List ℕ) (r : ℕ) : Type 0 where
   pub gets : Gets (leastSum row need) r

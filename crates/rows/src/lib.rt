@@ -7,9 +7,9 @@ ghost use Rattle.esterel.specs.Limits.{maxNodes};
 ghost use Rattle.esterel.specs.Statement.{size};
 ghost use Rattle.table.specs.Program.{programOf};
 ghost use Rattle.table.specs.Columns.{stmtAt};
-ghost use Rattle.starts.specs.Summary.{tested as testedOf, withoutEnded, followed as followedOf, caught as caughtOf, least, leastAnswers};
-ghost use Rattle.rows.specs.Rows.{valueOf, valuesOf, Gets, Lesser, Joins, LowRow, Holds, Found};
-ghost use Rattle.rows.specs.Steps.{onlyAt, besideAt, IsNumber, IsRow};
+ghost use Rattle.starts.specs.Summary.{only as onlyOf, tested as testedOf, withoutEnded, followed as followedOf, caught as caughtOf, least, leastAnswers};
+ghost use Rattle.rows.specs.Rows.{valueOf, valuesOf, maxNumber, Gets, Lesser, Joins, LowRow, Holds, Found};
+ghost use Rattle.rows.specs.Steps.{besideAt, IsNumber, IsRow};
 ghost use Rattle.rows.specs.Filled.{Formed, RowAt, Stored, RowsTo};
 use table::Kind;
 
@@ -38,7 +38,7 @@ pub fn lesser(a: u16, b: u16) -> u16
 
 // One part after another.
 pub fn join(a: u16, b: u16) -> u16
-    requires { ⌜ (a ≤ 16384) × (b ≤ 16384) ⌝ }
+    requires { ⌜ (a ≤ 2 * maxNumber) × (b ≤ 2 * maxNumber) ⌝ }
     ensures { λ r. ⌜ Joins a b r ⌝ }
 {
     if a == 0 {
@@ -52,22 +52,22 @@ pub fn join(a: u16, b: u16) -> u16
 
 // A statement without children, of one code: no answer is taken.
 fn only(code: usize, k: usize) -> u16
-    ensures { λ r. ⌜ Gets (onlyAt code k) r ⌝ }
+    ensures { λ r. ⌜ Gets (onlyOf least code k) r ⌝ }
 {
     if code == k { 1 } else { 0 }
 }
 
 // A test takes one answer, and goes on with the then branch or the else branch.
 fn tested(first: u16, last: u16) -> u16
-    requires { ⌜ (first ≤ 1025) × (last ≤ 1025) ⌝ }
+    requires { ⌜ (first ≤ maxNumber) × (last ≤ maxNumber) ⌝ }
     ensures { λ r. ⌜ Gets (testedOf least (valueOf first) (valueOf last)) r ⌝ }
 {
     lesser(join(2, first), join(2, last))
 }
 
-// The body of a loop.
+// The body of a loop, without its starts that end: for these there is no rule.
 fn without_ended(last: &[u16; 64], k: usize) -> u16
-    requires { ⌜ LowRow 1025 (now last) × (k < 64) ⌝ }
+    requires { ⌜ LowRow maxNumber (now last) × (k < 64) ⌝ }
     ensures { λ r. ⌜ Gets (withoutEnded least (valuesOf (now (last .entry))) k) r ⌝ }
 {
     if k == 0 {
@@ -78,7 +78,7 @@ fn without_ended(last: &[u16; 64], k: usize) -> u16
 
 // The first of a sequence, then the second if the first ends.
 fn followed(first: &[u16; 64], last: &[u16; 64], k: usize) -> u16
-    requires { ⌜ LowRow 1025 (now first) × LowRow 1025 (now last) × (k < 64) ⌝ }
+    requires { ⌜ LowRow maxNumber (now first) × LowRow maxNumber (now last) × (k < 64) ⌝ }
     ensures { λ r. ⌜ Gets (followedOf least (valuesOf (now (first .entry))) (valuesOf (now (last .entry))) k) r ⌝ }
 {
     let both = join(first[0], last[k]);
@@ -90,7 +90,7 @@ fn followed(first: &[u16; 64], last: &[u16; 64], k: usize) -> u16
 
 // A parallel: one of the two gives the code, and the other a code up to it.
 fn beside(first: u16, last: u16, first_up: u16, last_up: u16) -> u16
-    requires { ⌜ (first ≤ 1025) × (last ≤ 1025) × («first_up» ≤ 1025) × («last_up» ≤ 1025) ⌝ }
+    requires { ⌜ (first ≤ maxNumber) × (last ≤ maxNumber) × («first_up» ≤ maxNumber) × («last_up» ≤ maxNumber) ⌝ }
     ensures { λ r. ⌜ Gets (besideAt (valueOf first) (valueOf last) (valueOf «first_up») (valueOf «last_up»)) r ⌝ }
 {
     lesser(join(first, last_up), join(first_up, last))
@@ -98,7 +98,7 @@ fn beside(first: u16, last: u16, first_up: u16, last_up: u16) -> u16
 
 // A trap: 0 and 2 become 0, 1 stays, and a higher code falls by one.
 fn caught(last: &[u16; 64], k: usize) -> u16
-    requires { ⌜ LowRow 1025 (now last) × (length (now last) ≡ 64) × (k < 64) ⌝ }
+    requires { ⌜ LowRow maxNumber (now last) × (length (now last) ≡ 64) × (k < 64) ⌝ }
     ensures { λ r. ⌜ Gets (caughtOf least (valuesOf (now (last .entry))) k) r ⌝ }
 {
     if k == 0 {
@@ -123,7 +123,7 @@ fn number_at(
     last_up: u16,
     k: usize,
 ) -> u16
-    requires { ⌜ LowRow 1025 (now first) × LowRow 1025 (now last) × (length (now last) ≡ 64) × («first_up» ≤ 1025) × («last_up» ≤ 1025) × (field < 256) × (k < 64) ⌝ }
+    requires { ⌜ LowRow maxNumber (now first) × LowRow maxNumber (now last) × (length (now last) ≡ 64) × («first_up» ≤ maxNumber) × («last_up» ≤ maxNumber) × (field < 256) × (k < 64) ⌝ }
     ensures { λ r. ⌜ IsNumber kind field (now (first .entry)) (now (last .entry)) «first_up» «last_up» k r ⌝ }
 {
     match kind {
@@ -144,7 +144,7 @@ fn number_at(
 
 // The row of a node from those of its children: one sweep over the codes for all kinds.
 fn row_of(kind: Kind, field: usize, first: Row, last: Row) -> Row
-    requires { ⌜ LowRow 1025 (first .of) × LowRow 1025 (last .of) × (length (last .of) ≡ 64) × (field < 256) ⌝ }
+    requires { ⌜ LowRow maxNumber (first .of) × LowRow maxNumber (last .of) × (length (last .of) ≡ 64) × (field < 256) ⌝ }
     ensures { λ r. ⌜ IsRow kind field (first .of) (last .of) (r .of) ⌝ }
 {
     let left = first.of;
@@ -164,7 +164,7 @@ fn row_of(kind: Kind, field: usize, first: Row, last: Row) -> Row
 
 // The least of the sums of two rows.
 pub fn least_sum(row: Row, need: Row) -> u16
-    requires { ⌜ LowRow 1025 (row .of) × LowRow 1025 (need .of) ⌝ }
+    requires { ⌜ LowRow maxNumber (row .of) × LowRow maxNumber (need .of) ⌝ }
     ensures { λ r. ⌜ Found (row .of) (need .of) r ⌝ }
 {
     let of = row.of;

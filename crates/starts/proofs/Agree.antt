@@ -9,8 +9,8 @@ use Rattle.codes.proofs.Members.{only-in}
 use Rattle.codes.proofs.Catching.{catch-falls}
 use Rattle.esterel.specs.Codes.{catchCode}
 use Rattle.esterel.specs.Statement.{nothing, pause, emit, exit, signal, suspend, loop, trap, present, sequence, parallel, Stmt, leaf, one, two}
-use Rattle.starts.specs.Summary.{Algebra, upTo, together, least, leastAnswers}
-use Rattle.starts.specs.Walk.{Need, cost, noMore, needFirst, needBody, Walked, walked, answersOf, codeOf, answer, recode, andWalk, besideWalk, walk, Below}
+use Rattle.starts.specs.Summary.{Algebra, upTo, together, least, leastAnswers, withoutEnded}
+use Rattle.starts.specs.Walk.{Need, cost, noMore, needFirst, Walked, walked, answersOf, codeOf, answer, recode, andWalk, besideWalk, walk, Below}
 
 pub upTo-agree {ℓ} : {X : Type ℓ} (a : Algebra X) (f g : ℕ → X) (b : ℕ) → ((k : ℕ) → k ≤ b → f k ≡ g k) → upTo a f b ≡ upTo a g b
 upTo-agree a f g zero e = e 0 (omega arith)
@@ -20,7 +20,7 @@ upTo-agree a f g (suc b) e = ap₂ (a .choice) (e (suc b) (omega arith)) (upTo-a
 abbrev pub Agree : ℕ → Need → Need → Type 0
 Agree B need other = (k : ℕ) → k ≤ B → need k ≡ other k
 
-pub cost-agree : (B : ℕ) (p : Stmt) (need other : Need) → Agree B need other → cost B p need ≡ cost B p other
+cost-agree : (B : ℕ) (p : Stmt) (need other : Need) → Agree B need other → cost B p need ≡ cost B p other
 unfolding cost
 cost-agree B p need other e =
     upTo-agree least (λ k. together _+_ (leastAnswers p k) (need k)) (λ k. together _+_ (leastAnswers p k) (other k)) B (λ k h. ap (together _+_ (leastAnswers p k)) (e k h))
@@ -50,7 +50,7 @@ walk-low B (one trap p) b need =
     omega arith
 walk-low B (two parallel p q) b need =
     beside-low B (walk B p (λ i. cost B q (λ j. need (max i j)))) (λ i. walk B q (λ j. need (max i j))) (walk-low B p (b .1) _) (λ i. walk-low B q (b .2) (λ j. need (max i j)))
-walk-low B (one loop p) b need = walk-low B p (b .1) (needBody need)
+walk-low B (one loop p) b need = walk-low B p (b .1) (withoutEnded least need)
 walk-low B (one (signal s) p) b need = walk-low B p (b .1) need
 walk-low B (one (suspend s) p) b need = walk-low B p (b .1) need
 
@@ -58,7 +58,7 @@ first-agree : (B : ℕ) (x y : Option ℕ) (need other : Need) → x ≡ y → A
 first-agree B x y need other z e zero h = z
 first-agree B x y need other z e (suc k) h = e (suc k) h
 
-body-agree : (B : ℕ) (need other : Need) → Agree B need other → Agree B (needBody need) (needBody other)
+body-agree : (B : ℕ) (need other : Need) → Agree B need other → Agree B (withoutEnded least need) (withoutEnded least other)
 body-agree B need other e zero h = refl
 body-agree B need other e (suc k) h = e (suc k) h
 
@@ -84,6 +84,6 @@ walk-agree B (two parallel p q) b need other e =
     (walk-agree B p (b .1) (λ i. cost B q (λ j. need (max i j))) (λ i. cost B q (λ j. other (max i j))) (λ i h. cost-agree B q (λ j. need (max i j)) (λ j. other (max i j)) (λ j l. e (max i j) (omega arith))))
     (walk-low B p (b .1) (λ i. cost B q (λ j. need (max i j))))
     (λ i h. walk-agree B q (b .2) (λ j. need (max i j)) (λ j. other (max i j)) (λ j l. e (max i j) (omega arith)))
-walk-agree B (one loop p) b need other e = walk-agree B p (b .1) (needBody need) (needBody other) (body-agree B need other e)
+walk-agree B (one loop p) b need other e = walk-agree B p (b .1) (withoutEnded least need) (withoutEnded least other) (body-agree B need other e)
 walk-agree B (one (signal s) p) b need other e = walk-agree B p (b .1) need other e
 walk-agree B (one (suspend s) p) b need other e = walk-agree B p (b .1) need other e

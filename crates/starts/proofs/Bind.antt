@@ -10,7 +10,8 @@ use lib.ListN.{length, length-append}
 use lib.Dec.{leb, leb→le, nleb→lt}
 use Rattle.codes.proofs.Bools.{toT, toNot}
 use Rattle.starts.specs.Ticks.{Bits, Sooner, here, further}
-use Rattle.starts.specs.Walk.{Need, noMore, needBody}
+use Rattle.starts.specs.Summary.{withoutEnded, least}
+use Rattle.starts.specs.Walk.{Need, noMore}
 use Rattle.starts.proofs.Exact.{bits-append}
 use Rattle.starts.proofs.Order.{sooner-left, sooner-right}
 
@@ -335,15 +336,15 @@ Without S zero u = ⊥
 Without S (suc k) u = S (suc k) u
 
 module _ (S : Lists) (need : Need) where
-  without-out : (k : ℕ) (u : List ℕ) (r : ℕ) → Without S k u → need k ≡ some r → (j : ℕ) × S j u × (needBody need j ≡ some r)
+  without-out : (k : ℕ) (u : List ℕ) (r : ℕ) → Without S k u → need k ≡ some r → (j : ℕ) × S j u × (withoutEnded least need j ≡ some r)
   without-out zero u r s e = absurd s
   without-out (suc k) u r s e = (suc k, s, e)
 
-  without-in : (k : ℕ) (u : List ℕ) (r : ℕ) → S k u → needBody need k ≡ some r → Without S k u × (need k ≡ some r)
+  without-in : (k : ℕ) (u : List ℕ) (r : ℕ) → S k u → withoutEnded least need k ≡ some r → Without S k u × (need k ≡ some r)
   without-in zero u r s e = let z : _≡_ {A = ℕ} 0 1 = cc in absurd (omega arith)
   without-in (suc k) u r s e = (s, e)
 
-  pub without-least : (m : ℕ) → Least (Without S) need m → Least S (needBody need) m
+  pub without-least : (m : ℕ) → Least (Without S) need m → Least S (withoutEnded least need) m
   without-least m c =
       let (k, s, e) = without-out (c .code) (c .used) (c .left) (c .is) (c .needs) in
       record {
@@ -356,7 +357,7 @@ module _ (S : Lists) (need : Need) where
         least = λ j v r s e. let (w, f) = without-in j v r s e in c .least j v r w f;
       }
 
-  pub without-walks : (m : ℕ) (u : List ℕ) (i : ℕ) → Walks S (needBody need) m u i → Walks (Without S) need m u i
+  pub without-walks : (m : ℕ) (u : List ℕ) (i : ℕ) → Walks S (withoutEnded least need) m u i → Walks (Without S) need m u i
   without-walks m u i x =
       let (s, e) = without-in i u (x .left) (x .is) (x .needs) in
       record {

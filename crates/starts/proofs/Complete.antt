@@ -29,7 +29,7 @@ turned f h o z = record { trail = o .trail; held = h (o .held); many = o .many; 
 
 enter-comes : {X : Starts} {run : List ℕ → Result} {k n : ℕ} {u : List ℕ} (node : ℕ) → ((v : List ℕ) (m : ℕ) → X v m → Comes run k v m) → Both (starts .entry) X u n → Comes (λ a. enter node started (run a)) k u n
 enter-comes {run = run} {k = k} {u = u} node go b =
-    let y = go (b .after) (b .aft) (b .second) in
+    let y = go (b .after) (b .entriesAfter) (b .second) in
     let z : u ≡ b .after = b .answers ∙ ap (λ l. l ++ b .after) (b .first .0) in
     record {
       trail = entry node started k ∷ y .trail;
@@ -40,8 +40,8 @@ enter-comes {run = run} {k = k} {u = u} node go b =
 
 both-comes : {A B : Starts} {run next c : List ℕ → Result} {i j n : ℕ} {u : List ℕ} (code : ℕ → ℕ) → Both A B u n → ((v : List ℕ) (m : ℕ) → A v m → Comes run i v m) → ((v : List ℕ) (m : ℕ) → B v m → Comes next j v m) → ((a : List ℕ) (t : List Entry) (h e : List ℕ) → run a ≡ closed i t h e → c a ≡ onto code t h (next e)) → Comes c (code j) u n
 both-comes {c = c} {u = u} code b go on z =
-    let x = go (b .before) (b .fore) (b .first) in
-    let y = on (b .after) (b .aft) (b .second) in
+    let x = go (b .before) (b .entriesBefore) (b .first) in
+    let y = on (b .after) (b .entriesAfter) (b .second) in
     record {
       trail = x .trail ++ y .trail;
       held = x .held ++ y .held;
@@ -81,19 +81,19 @@ module _ {G : ℕ → Starts} {run : List ℕ → Result} (go : Done G run) wher
 
     beside-comes : Done (larger starts G H) (λ a. beside (run a) next)
     beside-comes k u n (inl x) =
-        let (j, le, y) = upTo-out H k (x .after) (x .aft) (x .second) in
+        let (j, le, y) = upTo-out H k (x .after) (x .entriesAfter) (x .second) in
         joined {A = G k} {B = H j} k j k u n (max-eq-left le)
-        record { before = x .before; after = x .after; fore = x .fore; aft = x .aft; first = x .first; second = y; answers = x .answers; entries = x .entries }
+        record { before = x .before; after = x .after; entriesBefore = x .entriesBefore; entriesAfter = x .entriesAfter; first = x .first; second = y; answers = x .answers; entries = x .entries }
         (λ v m z. z) (λ v m z. z)
     beside-comes k u n (inr x) =
-        let (i, le, y) = upTo-out G k (x .before) (x .fore) (x .first) in
+        let (i, le, y) = upTo-out G k (x .before) (x .entriesBefore) (x .first) in
         joined {A = G i} {B = H k} i k k u n (max-eq-right le)
-        record { before = x .before; after = x .after; fore = x .fore; aft = x .aft; first = y; second = x .second; answers = x .answers; entries = x .entries }
+        record { before = x .before; after = x .after; entriesBefore = x .entriesBefore; entriesAfter = x .entriesAfter; first = y; second = x .second; answers = x .answers; entries = x .entries }
         (λ v m z. z) (λ v m z. z)
 
 took-comes : {X : Starts} {ok : ℕ → Type 0} {run c : List ℕ → Result} {k n : ℕ} {u : List ℕ} → Both (Took ok) X u n → ((v : List ℕ) (m : ℕ) → X v m → Comes run k v m) → ((a : ℕ) (e : List ℕ) → ok a → c (a ∷ e) ≡ run e) → Comes c k u n
 took-comes {c = c} {u = u} b go z =
-    let y = go (b .after) (b .aft) (b .second) in
+    let y = go (b .after) (b .entriesAfter) (b .second) in
     let a = b .first .answer in
     let w : u ≡ a ∷ b .after = b .answers ∙ ap (λ l. l ++ b .after) (b .first .answers) in
     record {

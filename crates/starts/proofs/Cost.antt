@@ -122,7 +122,7 @@ module _ (G : ℕ → Starts) (L : ℕ → Option ℕ) (exact : (k : ℕ) → Ex
       side k u s (yes h) z = inr (h, s)
       side k u s (no h) z = inl (omega arith, s)
 
-  pub all-costs : (b : ℕ) → ((k : ℕ) (u : List ℕ) (n : ℕ) → G k u n → k ≤ b) → Costs (Says G) need (upTo least (λ k. together _+_ (L k) (need k)) b)
+  all-costs : (b : ℕ) → ((k : ℕ) (u : List ℕ) (n : ℕ) → G k u n → k ≤ b) → Costs (Says G) need (upTo least (λ k. together _+_ (L k) (need k)) b)
   all-costs b low = same-costs (UpTo b) (Says G) need (λ k u (z, s). s) (λ k u s. (low k u (s .0) (s .1), s)) (upTo least (λ k. together _+_ (L k) (need k)) b) (up-to b)
 
 pub below-low : (B : ℕ) (p : Stmt) → Below B p → Low B p

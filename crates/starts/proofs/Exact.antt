@@ -71,8 +71,8 @@ module _ {A : Type 0} {pick join : A → A → A} {weigh : List ℕ → ℕ → 
       chosen (inr e) = record { used = d .used; many = d .many; bits = d .bits; is = inr (d .is); weight = d .weight ∙ sym e; first = go }
 
   joins : (x x′ : Option A) (y y′ : Starts) → Exact weigh Le x y → Exact weigh Le x′ y′ → Exact weigh Le (together join x x′) (Both y y′)
-  joins none x′ y y′ o d = λ u n b. o (b .before) (b .fore) (b .first)
-  joins (some x) none y y′ o d = λ u n b. d (b .after) (b .aft) (b .second)
+  joins none x′ y y′ o d = λ u n b. o (b .before) (b .entriesBefore) (b .first)
+  joins (some x) none y y′ o d = λ u n b. d (b .after) (b .entriesAfter) (b .second)
   joins (some x) (some x′) y y′ o d =
       record {
         used = o .used ++ d .used;
@@ -81,8 +81,8 @@ module _ {A : Type 0} {pick join : A → A → A} {weigh : List ℕ → ℕ → 
         is = package.Rattle.starts.proofs.Sound.join (o .used) (d .used) (o .many) (d .many) (o .is) (d .is);
         weight = w .parts (o .used) (d .used) (o .many) (d .many) ∙ ap (λ z. join z (weigh (d .used) (d .many))) (o .weight) ∙ ap (join x) (d .weight);
         first = λ u n b.
-            rw (b .answers, b .entries, w .parts (b .before) (b .after) (b .fore) (b .aft))
-            (w .keeps x _ x′ _ (o .first (b .before) (b .fore) (b .first)) (d .first (b .after) (b .aft) (b .second)));
+            rw (b .answers, b .entries, w .parts (b .before) (b .after) (b .entriesBefore) (b .entriesAfter))
+            (w .keeps x _ x′ _ (o .first (b .before) (b .entriesBefore) (b .first)) (d .first (b .after) (b .entriesAfter) (b .second)));
       }
 
   absents : Reached weigh Le (weigh (0 ∷ []) 0) (Took IsAbsent)

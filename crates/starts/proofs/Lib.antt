@@ -9,5 +9,5 @@ pub mod Cost
 pub mod Walk
 pub mod Agree
 pub mod Short
-pub mod Examples
 pub mod Theorems
+pub mod Examples

@@ -21,7 +21,7 @@ module _ {ℓ κ ρ} {X : Type ℓ} {Y : Type κ} (a : Algebra X) (b : Algebra Y
   given-keeps true x y o = o
   given-keeps false x y o = w .none
 
-  pub upTo-keeps : (f : ℕ → X) (g : ℕ → Y) → Codewise f g → Codewise (upTo a f) (upTo b g)
+  upTo-keeps : (f : ℕ → X) (g : ℕ → Y) → Codewise f g → Codewise (upTo a f) (upTo b g)
   upTo-keeps f g o zero = o zero
   upTo-keeps f g o (suc k) = w .choice _ _ _ _ (o (suc k)) (upTo-keeps f g o k)
 

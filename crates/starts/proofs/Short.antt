@@ -5,8 +5,9 @@ use native.Mathlib.Omega.{arith}
 use lib.ListN.{length, length-append}
 use Rattle.esterel.specs.Codes.{catchCode}
 use Rattle.esterel.specs.Statement.{nothing, pause, emit, exit, signal, suspend, loop, trap, present, sequence, parallel, Stmt, leaf, one, two}
-use Rattle.starts.specs.Summary.{presents}
-use Rattle.starts.specs.Walk.{Need, cost, noMore, needFirst, needBody, Walked, walked, answersOf, answer, andWalk, besideWalk, walk}
+use Rattle.starts.specs.Ticks.{presents}
+use Rattle.starts.specs.Summary.{withoutEnded, least}
+use Rattle.starts.specs.Walk.{Need, cost, noMore, needFirst, Walked, walked, answersOf, answer, andWalk, besideWalk, walk}
 
 abbrev many : Walked → ℕ
 many w = length (answersOf w)
@@ -34,6 +35,6 @@ walk-short B (two (present s) p q) need =
 walk-short B (one trap p) need = walk-short B p (λ k. need (catchCode k))
 walk-short B (two parallel p q) need =
     beside-short (walk B p (λ i. cost B q (λ j. need (max i j)))) (λ i. walk B q (λ j. need (max i j))) (presents p) (presents q) (walk-short B p (λ i. cost B q (λ j. need (max i j)))) (λ i. walk-short B q (λ j. need (max i j)))
-walk-short B (one loop p) need = walk-short B p (needBody need)
+walk-short B (one loop p) need = walk-short B p (withoutEnded least need)
 walk-short B (one (signal s) p) need = walk-short B p need
 walk-short B (one (suspend s) p) need = walk-short B p need

@@ -11,7 +11,8 @@ use Rattle.codes.proofs.Members.{only-in}
 use Rattle.esterel.specs.Statement.{nothing, pause, emit, exit, signal, suspend, loop, trap, present, sequence, parallel, Stmt, leaf, one, two, size}
 use Rattle.esterel.specs.Codes.{catchCode}
 use Rattle.esterel.specs.Instant.{started, Entry, entry, Result, closed, starved, stuck, zeros, single, enter, onto, zerosThen, thenZeros, andThen, beside, body, catch, start}
-use Rattle.starts.specs.Summary.{Starts, Both, Took, starts, only, upTo, withoutEnded, followed, larger, caught, entered, summary, presents}
+use Rattle.starts.specs.Ticks.{presents}
+use Rattle.starts.specs.Summary.{Starts, Both, Took, starts, only, upTo, withoutEnded, followed, larger, caught, entered, summary}
 
 -- what a run over the answers did, where G says what it may give, and with at most `most` answers
 pub data Gave (G : ℕ → Starts) (most : ℕ) (ans : List ℕ) : Result → Type 0 where
@@ -21,7 +22,7 @@ pub data Gave (G : ℕ → Starts) (most : ℕ) (ans : List ℕ) : Result → Ty
 
 pub join : {A B : Starts} (u v : List ℕ) (m n : ℕ) → A u m → B v n → Both A B (u ++ v) (m + n)
 join u v m n x y =
-    record { before = u; after = v; fore = m; aft = n; first = x; second = y; answers = refl; entries = refl }
+    record { before = u; after = v; entriesBefore = m; entriesAfter = n; first = x; second = y; answers = refl; entries = refl }
 
 pub upTo-in : (G : ℕ → Starts) (k l : ℕ) (u : List ℕ) (n : ℕ) → k ≤ l → G k u n → upTo starts G l u n
 upTo-in G k zero u n h x = let z : k ≡ 0 = omega arith in rw z at x
@@ -55,7 +56,7 @@ module _ {G : ℕ → Starts} {m : ℕ} {ans : List ℕ} where
   maps b f sticks = sticks
 
   enter-gave : {x : Result} (n : ℕ) → Gave G m ans x → Gave (entered starts G) m ans (enter n started x)
-  enter-gave n (gave used k t h r e l g) = gave used k (entry n started k ∷ t) (h ++ (0 ∷ [])) r e l record { before = []; after = used; fore = 1; aft = length t; first = (refl, refl); second = g; answers = refl; entries = omega arith }
+  enter-gave n (gave used k t h r e l g) = gave used k (entry n started k ∷ t) (h ++ (0 ∷ [])) r e l record { before = []; after = used; entriesBefore = 1; entriesAfter = length t; first = (refl, refl); second = g; answers = refl; entries = omega arith }
   enter-gave n (starves l) = starves l
   enter-gave n sticks = sticks
 
@@ -86,7 +87,7 @@ module _ {G : ℕ → Starts} {m : ℕ} {ans : List ℕ} where
   took-gave : {x : Result} {ok : ℕ → Type 0} (a : ℕ) → ok a → Gave G m ans x → Gave (λ k. Both (Took ok) (G k)) (suc m) (a ∷ ans) x
   took-gave a o (gave used k t h r e l g) =
       gave (a ∷ used) k t h r (ap (λ y. a ∷ y) e) (omega arith)
-      record { before = a ∷ []; after = used; fore = 0; aft = length t; first = record { answer = a; is = o; answers = refl; entries = refl }; second = g; answers = refl; entries = omega arith }
+      record { before = a ∷ []; after = used; entriesBefore = 0; entriesAfter = length t; first = record { answer = a; is = o; answers = refl; entries = refl }; second = g; answers = refl; entries = omega arith }
   took-gave a o (starves l) = starves (omega arith)
   took-gave a o sticks = sticks
 

@@ -10,7 +10,7 @@ use native.Mathlib.Omega.{arith}
 use lib.Dec.{eqb}
 use lib.ListN.{length}
 use Rattle.codes.proofs.Members.{only-in, only-out, only-most, given-most, without-ended-most, union-most, larger-most, caught-most}
-use Rattle.esterel.specs.Statement.{Leaf, nothing, pause, emit, exit, Unary, signal, suspend, loop, trap, Binary, present, sequence, parallel, Stmt, leaf, one, two, size, nodes}
+use Rattle.esterel.specs.Statement.{nothing, pause, emit, exit, Unary, signal, suspend, loop, trap, Binary, present, sequence, parallel, Stmt, leaf, one, two, size, nodes}
 use Rattle.esterel.specs.Codes.{only, withoutEnded, given}
 use Rattle.esterel.specs.Sets.{startSet, placesOf}
 use Rattle.esterel.specs.Checks.{tooManyTraps, uncaught}
@@ -22,10 +22,11 @@ use Rattle.esterel.proofs.Low.{start-pause}
 use Rattle.esterel.proofs.Refusals.{refusals}
 use Rattle.esterel.proofs.Subtrees.{only-child, two-children}
 use Rattle.esterel.proofs.Theorems.{exactness, loopCheck}
-use Rattle.starts.specs.Ticks.{Leads, Sooner, Before, IsShown}
-use Rattle.starts.specs.Summary.{Gives, leastAnswers, presents}
+use Rattle.starts.specs.Ticks.{Leads, Sooner, Before, Bits, IsShown, presents}
+use Rattle.starts.specs.Summary.{Gives, leastAnswers}
 use Rattle.starts.specs.Walk.{goal, answersOf, codeOf, walk, Low, Below}
-use Rattle.starts.specs.Theorems.{Triples, TakesFew, Shown, Faults, Walking, WalksRight}
+use Rattle.starts.specs.Theorems.{TakesFew, OneShown, Faults}
+use Rattle.starts.specs.Computing.{Triples, WalkShows, WalksRight}
 use Rattle.starts.proofs.Exact.{least-weighs}
 use Rattle.starts.proofs.Triples.{ran, gives, taken, starved-few, few-answers, in-gives, exact, reached, there}
 use Rattle.starts.proofs.Order.{before-once}
@@ -38,10 +39,10 @@ triples p first k u n = (ran p first k u n, gives p first k u n)
 
 -- ---- a list that leads to a code is one that the recursion gives
 
-pub leads-gives : (p : Stmt) (first k : ℕ) (u : List ℕ) → Leads first p k u → (n : ℕ) × Gives p k u n
+leads-gives : (p : Stmt) (first k : ℕ) (u : List ℕ) → Leads first p k u → (n : ℕ) × Gives p k u n
 leads-gives p first k u (t, h, e) = (length t, gives p first k u (length t) (t, h, e, refl))
 
-pub gives-leads : (p : Stmt) (first k : ℕ) (u : List ℕ) (n : ℕ) → Gives p k u n → Leads first p k u
+gives-leads : (p : Stmt) (first k : ℕ) (u : List ℕ) (n : ℕ) → Gives p k u n → Leads first p k u
 gives-leads p first k u n x = let (t, h, e, l) = ran p first k u n x in (t, h, e)
 
 short : (p : Stmt) (first k : ℕ) (u : List ℕ) → Leads first p k u → length u ≤ presents p
@@ -125,12 +126,11 @@ module _ (B : ℕ) (p : Stmt) (b : Below B p) (k : ℕ) (e : startSet p k ≡ tr
   shows u i m c x first =
       let same = goal-other k i (x .left) (x .needs) .0 in
       record {
-        bits = x .bits;
         leads = gives-leads p first k u (x .is .0) (subst (λ j. Gives p j u (x .is .0)) (sym same) (x .is .1));
         first = λ v o. let (n, y) = leads-gives p first k v o in firsts u i m c x v n y;
       }
 
-  walking : Walking B p k
+  walking : WalkShows B p k
   walking =
       let (m, c) = found in
       let x = walks B p b (goal k) m c in
@@ -138,6 +138,9 @@ module _ (B : ℕ) (p : Stmt) (b : Below B p) (k : ℕ) (e : startSet p k ≡ tr
         code = sym (goal-other k (codeOf (walk B p (goal k))) (x .left) (x .needs) .0);
         shown = shows (answersOf (walk B p (goal k))) (codeOf (walk B p (goal k))) m c x;
       }
+
+  walk-bits : Bits (answersOf (walk B p (goal k)))
+  walk-bits = let (m, c) = found in walks B p b (goal k) m c .bits
 
 pub walksRight : WalksRight
 walksRight B p b k e = walking B p b k e
@@ -162,37 +165,53 @@ two-low sequence p q B l m =
 two-low (present s) p q B l m = union-most B (startSet p) (startSet q) l m
 two-low parallel p q B l m = larger-most B (startSet p) (startSet q) l m
 
-leaf-low : (l : Leaf) → (B : ℕ) × Low B (leaf l)
-leaf-low nothing = (0, only-most 0 0 (omega arith))
-leaf-low pause = (1, only-most 1 1 (omega arith))
-leaf-low (exit level) = (2 + level, only-most (2 + level) (2 + level) (omega arith))
-leaf-low (emit s) = (0, only-most 0 0 (omega arith))
+-- a bound that computes
+abbrev pub highest : Stmt → ℕ
+highest (leaf nothing) = 0
+highest (leaf pause) = 1
+highest (leaf (exit level)) = 2 + level
+highest (leaf (emit s)) = 0
+highest (one u p) = suc (highest p)
+highest (two c p q) = max (highest p) (highest q)
 
-bounded : (p : Stmt) → (B : ℕ) × Below B p
-bounded (leaf l) = leaf-low l
-bounded (one u p) = let (B, b) = bounded p in (suc B, (one-low u p B (below-low B p b), below-more p B (suc B) (omega arith) b))
+pub bounded : (p : Stmt) → Below (highest p) p
+bounded (leaf nothing) = only-most 0 0 (omega arith)
+bounded (leaf pause) = only-most 1 1 (omega arith)
+bounded (leaf (exit level)) = only-most (2 + level) (2 + level) (omega arith)
+bounded (leaf (emit s)) = only-most 0 0 (omega arith)
+bounded (one u p) = (one-low u p (highest p) (below-low (highest p) p (bounded p)), below-more p (highest p) (suc (highest p)) (omega arith) (bounded p))
 bounded (two c p q) =
-    let (B, b) = bounded p in
-    let (C, d) = bounded q in
-    let x : Below (max B C) p = below-more p B (max B C) (omega arith) b in
-    let y : Below (max B C) q = below-more q C (max B C) (omega arith) d in
-    (max B C, (two-low c p q (max B C) (below-low (max B C) p x) (below-low (max B C) q y), x, y))
+    let m = max (highest p) (highest q) in
+    let x : Below m p = below-more p (highest p) m (omega arith) (bounded p) in
+    let y : Below m q = below-more q (highest q) m (omega arith) (bounded q) in
+    (two-low c p q m (below-low m p x) (below-low m q y), x, y)
 
 -- ---- the list that is shown
 
 exists : (p : Stmt) (first k : ℕ) → startSet p k ≡ true → (answers : List ℕ) × IsShown first p k answers
-exists p first k e = let (B, b) = bounded p in (answersOf (walk B p (goal k)), walksRight B p b k e .shown first)
+exists p first k e = (answersOf (walk (highest p) p (goal k)), walksRight (highest p) p (bounded p) k e .shown first)
 
 only-one : (u v : List ℕ) → (u ≡ v) ⊎ Before u v → (v ≡ u) ⊎ Before v u → u ≡ v
 only-one u v (inl e) d = e
 only-one u v (inr q) (inl f) = sym f
 only-one u v (inr q) (inr r) = absurd (before-once u v q r)
 
-pub shown : Shown
-shown =
+unique : (p : Stmt) (first k : ℕ) (u v : List ℕ) → IsShown first p k u → IsShown first p k v → u ≡ v
+unique p first k u v o d = only-one u v (o .first v (d .leads)) (d .first u (o .leads))
+
+bits : (p : Stmt) (first k : ℕ) (u : List ℕ) → IsShown first p k u → Bits u
+bits p first k u o =
+    let (t, h, e) = o .leads in
+    let inK = exactness p first k .1 (u, t, h, [], e) in
+    let same = unique p first k (answersOf (walk (highest p) p (goal k))) u (walksRight (highest p) p (bounded p) k inK .shown first) o in
+    subst Bits same (walk-bits (highest p) p (bounded p) k inK)
+
+pub oneShown : OneShown
+oneShown =
     record {
       exists = λ p first k. (exists p first k, λ (u, o). let (t, h, e) = o .leads in exactness p first k .1 (u, t, h, [], e));
-      unique = λ p first k u v o d. only-one u v (o .first v (d .leads)) (d .first u (o .leads));
+      unique = unique;
+      bits = bits;
       short = short;
     }
 
@@ -221,11 +240,7 @@ faults bytes node e =
     let l = loopCheck .refuses bytes p w node .0 e in
     let (answers, o) = exists (l .body) (node - size (l .body)) 0 (l .such) in
     record {
-      program = p;
-      reads = w .reads;
-      body = l .body;
-      isLoop = l .isLoop;
       answers = answers;
-      shown = o;
+      at = record { program = p; reads = w .reads; body = l .body; isLoop = l .isLoop; shown = o };
       short = λ other d. omega (arith, short (l .body) (node - size (l .body)) 0 other d, few-tests (l .body), only-child p node loop (l .body) (l .isLoop) .0, refusals bytes 11 node e .2);
     }

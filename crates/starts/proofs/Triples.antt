@@ -10,7 +10,8 @@ use Rattle.esterel.specs.Statement.{Stmt}
 use Rattle.esterel.specs.Sets.{startSet}
 use Rattle.esterel.specs.Instant.{Entry, closed, starved, start}
 use Rattle.esterel.proofs.Theorems.{exactness}
-use Rattle.starts.specs.Summary.{Starts, starts, Gives, Ran, summary, weighed, presents}
+use Rattle.starts.specs.Ticks.{presents}
+use Rattle.starts.specs.Summary.{Starts, starts, Gives, Ran, summary, weighed}
 use Rattle.starts.proofs.Related.{related}
 use Rattle.starts.proofs.Sound.{Gave, gave, starves, start-gave}
 use Rattle.starts.proofs.Complete.{start-comes}

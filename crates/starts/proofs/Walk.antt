@@ -11,8 +11,8 @@ use lib.Dec.{eqb}
 use Rattle.codes.proofs.Members.{only-in, only-out}
 use Rattle.esterel.specs.Codes.{catchCode}
 use Rattle.esterel.specs.Statement.{nothing, pause, emit, exit, signal, suspend, loop, trap, present, sequence, parallel, Stmt, leaf, one, two}
-use Rattle.starts.specs.Summary.{Starts, Both, Took, IsAbsent, IsPresent, starts, given, only, withoutEnded, followed, larger, caught, branched, entered, Gives}
-use Rattle.starts.specs.Walk.{Need, cost, noMore, needFirst, needBody, Walked, walked, answersOf, codeOf, answer, andWalk, besideWalk, walk, Below}
+use Rattle.starts.specs.Summary.{Starts, Both, Took, IsAbsent, IsPresent, starts, given, only, withoutEnded, followed, larger, caught, branched, entered, Gives, least}
+use Rattle.starts.specs.Walk.{Need, cost, noMore, needFirst, Walked, walked, answersOf, codeOf, answer, andWalk, besideWalk, walk, Below}
 use Rattle.starts.proofs.Sound.{followed-in, larger-in, caught-in}
 use Rattle.starts.proofs.Complete.{upTo-out}
 use Rattle.starts.proofs.Bind.{Lists, Least, Costs, Walks, same-least, same-walks, Ret, ret-costs, ret-walks, Split, bind-least, bind-walks, branch, Tests, absent-cost, present-cost, absent-walks, present-walks, Image, image-least, image-costs, image-walks, Without, without-least, without-walks}
@@ -21,10 +21,10 @@ use Rattle.starts.proofs.Cost.{Says, cost-is}
 entered-out : (X : Starts) (u : List ℕ) (n : ℕ) → Both (starts .entry) X u n → (m : ℕ) × X u m
 entered-out X u n b =
     let z : b .after ≡ u = sym (b .answers ∙ ap (λ l. l ++ b .after) (b .first .0)) in
-    (b .aft, subst (λ l. X l (b .aft)) z (b .second))
+    (b .entriesAfter, subst (λ l. X l (b .entriesAfter)) z (b .second))
 
 entered-in : (X : Starts) (u : List ℕ) (n : ℕ) → X u n → Both (starts .entry) X u (suc n)
-entered-in X u n x = record { before = []; after = u; fore = 1; aft = n; first = (refl, refl); second = x; answers = refl; entries = omega arith }
+entered-in X u n x = record { before = []; after = u; entriesBefore = 1; entriesAfter = n; first = (refl, refl); second = x; answers = refl; entries = omega arith }
 
 -- the lists of a statement that is entered are those of what is in it
 module _ (G : ℕ → Starts) where
@@ -63,11 +63,11 @@ module _ (G H : ℕ → Starts) where
 
   then-out : (k : ℕ) (u : List ℕ) → Says (followed starts G H) k u → Split (Says G) Next k u
   then-out zero u (n, b) =
-      record { code = 0; before = b .before; after = b .after; first = (b .fore, b .first); second = (b .aft, b .second); answers = b .answers }
+      record { code = 0; before = b .before; after = b .after; first = (b .entriesBefore, b .first); second = (b .entriesAfter, b .second); answers = b .answers }
   then-out (suc k) u (n, inl x) =
       record { code = suc k; before = u; after = []; first = (n, x); second = record { code = refl; none = refl }; answers = sym (append-nil u) }
   then-out (suc k) u (n, inr b) =
-      record { code = 0; before = b .before; after = b .after; first = (b .fore, b .first); second = (b .aft, b .second); answers = b .answers }
+      record { code = 0; before = b .before; after = b .after; first = (b .entriesBefore, b .first); second = (b .entriesAfter, b .second); answers = b .answers }
 
   then-after : (need : Need) (x : Option ℕ) → Costs (Says H) need x → (i : ℕ) → Costs (Next i) need (needFirst x need i)
   then-after need x c zero = c
@@ -89,11 +89,11 @@ module _ (G H : ℕ → Starts) where
 
   beside-out : (k : ℕ) (u : List ℕ) → Says (larger starts G H) k u → Split (Says G) Beside k u
   beside-out k u (n, inl b) =
-      let (j, le, y) = upTo-out H k (b .after) (b .aft) (b .second) in
-      record { code = k; before = b .before; after = b .after; first = (b .fore, b .first); second = record { code = j; is = (b .aft, y); turned = max-eq-left le }; answers = b .answers }
+      let (j, le, y) = upTo-out H k (b .after) (b .entriesAfter) (b .second) in
+      record { code = k; before = b .before; after = b .after; first = (b .entriesBefore, b .first); second = record { code = j; is = (b .entriesAfter, y); turned = max-eq-left le }; answers = b .answers }
   beside-out k u (n, inr b) =
-      let (i, le, y) = upTo-out G k (b .before) (b .fore) (b .first) in
-      record { code = i; before = b .before; after = b .after; first = (b .fore, y); second = record { code = k; is = (b .aft, b .second); turned = max-eq-right le }; answers = b .answers }
+      let (i, le, y) = upTo-out G k (b .before) (b .entriesBefore) (b .first) in
+      record { code = i; before = b .before; after = b .after; first = (b .entriesBefore, y); second = record { code = k; is = (b .entriesAfter, b .second); turned = max-eq-right le }; answers = b .answers }
 
   beside-walks : (need need₁ : Need) → ((i : ℕ) → Costs (Beside i) need (need₁ i)) → (w : Walked) (right : ℕ → Walked) (m : ℕ) → Least (Says (larger starts G H)) need m → Walks (Says G) need₁ m (answersOf w) (codeOf w) → ((i n : ℕ) → Least (Says H) (λ j. need (max i j)) n → Walks (Says H) (λ j. need (max i j)) n (answersOf (right i)) (codeOf (right i))) → Walks (Says (larger starts G H)) need m (answersOf (besideWalk w right)) (codeOf (besideWalk w right))
   beside-walks need need₁ c (walked u i) right m l o f =
@@ -106,11 +106,11 @@ module _ (G H : ℕ → Starts) where
     where
       go : (a : ℕ) → IsPresent a → u ≡ a ∷ b .after → Tests (Says G) (Says H) k u
       go zero o z = absurd o
-      go (suc a) o z = record { head = suc a; tail = b .after; answers = z; is = (b .aft, b .second) }
+      go (suc a) o z = record { head = suc a; tail = b .after; answers = z; is = (b .entriesAfter, b .second) }
   test-to k u (n, inr b) = go (b .first .answer) (b .first .is) (b .answers ∙ ap (λ l. l ++ b .after) (b .first .answers))
     where
       go : (a : ℕ) → IsAbsent a → u ≡ a ∷ b .after → Tests (Says G) (Says H) k u
-      go zero o z = record { head = 0; tail = b .after; answers = z; is = (b .aft, b .second) }
+      go zero o z = record { head = 0; tail = b .after; answers = z; is = (b .entriesAfter, b .second) }
       go (suc a) o z = absurd o
 
   test-from : (k : ℕ) (u : List ℕ) → Tests (Says G) (Says H) k u → Says (branched starts G H) k u
@@ -120,8 +120,8 @@ module _ (G H : ℕ → Starts) where
       took ok a o = record { answer = a; is = o; answers = refl; entries = refl }
 
       go : (a : ℕ) → branch (Says G) (Says H) a k (s .tail) → u ≡ a ∷ s .tail → Says (branched starts G H) k u
-      go zero (n, x) z = (n, inr record { before = 0 ∷ []; after = s .tail; fore = 0; aft = n; first = took IsAbsent 0 tt; second = x; answers = z; entries = omega arith })
-      go (suc a) (n, x) z = (n, inl record { before = suc a ∷ []; after = s .tail; fore = 0; aft = n; first = took IsPresent (suc a) tt; second = x; answers = z; entries = omega arith })
+      go zero (n, x) z = (n, inr record { before = 0 ∷ []; after = s .tail; entriesBefore = 0; entriesAfter = n; first = took IsAbsent 0 tt; second = x; answers = z; entries = omega arith })
+      go (suc a) (n, x) z = (n, inl record { before = suc a ∷ []; after = s .tail; entriesBefore = 0; entriesAfter = n; first = took IsPresent (suc a) tt; second = x; answers = z; entries = omega arith })
 
   test-walks : (need : Need) (x y : Option ℕ) → Costs (Says G) need x → Costs (Says H) need y → (w₁ w₂ : Walked) (m : ℕ) → Least (Tests (Says G) (Says H)) need m → ((n : ℕ) → Least (Says G) need n → Walks (Says G) need n (answersOf w₁) (codeOf w₁)) → ((n : ℕ) → Least (Says H) need n → Walks (Says H) need n (answersOf w₂) (codeOf w₂)) → (t : Bool) → noMore y x ≡ t → Walks (Tests (Says G) (Says H)) need m (answersOf (cond t (answer 0 w₂) (answer 1 w₁))) (codeOf (cond t (answer 0 w₂) (answer 1 w₁)))
   test-walks need x y c d w₁ w₂ m l f g true e =
@@ -190,6 +190,6 @@ walks B (two parallel p q) b need m l =
     after i = image-costs (max i) (Says (Gives q)) need (cost B q (λ j. need (max i j))) (cost-is B q (b .2) (λ j. need (max i j)))
 walks B (one loop p) b need m l =
     around (withoutEnded starts (Gives p)) (Without (Says (Gives p))) need m _ _ (loop-to (Gives p)) (loop-from (Gives p))
-    (λ c. without-walks (Says (Gives p)) need m _ _ (walks B p (b .1) (needBody need) m (without-least (Says (Gives p)) need m c))) l
+    (λ c. without-walks (Says (Gives p)) need m _ _ (walks B p (b .1) (withoutEnded least need) m (without-least (Says (Gives p)) need m c))) l
 walks B (one (signal s) p) b need m l = plainly (Gives p) need m _ _ (walks B p (b .1) need m) l
 walks B (one (suspend s) p) b need m l = plainly (Gives p) need m _ _ (walks B p (b .1) need m) l

@@ -1,5 +1,6 @@
 pub mod Ticks
+pub mod Theorems
 pub mod Summary
 pub mod Walk
-pub mod Theorems
+pub mod Computing
 pub mod Examples

@@ -1,5 +1,6 @@
--- One recursion over a statement says, for each code, what the starts with that code come to. What is said of a start (its answers, how
--- many there are) is a value of an algebra: `choice` joins two ways to start, `both` puts one part of a start after another.
+-- How the list is computed, from here on: no contract of a call rests on it. One recursion over a statement says, for each code, what
+-- the starts with that code come to. What is said of a start (its answers, how many there are) is a value of an algebra: `choice` joins
+-- two ways to start, `both` puts one part of a start after another.
 use Prim.Native.Nat.{ℕ, zero, suc, _+_, min}
 use mathlib.Core.Path.{_≡_}
 use mathlib.Core.Logic.{_⊎_}
@@ -63,17 +64,18 @@ module _ {ℓ} {X : Type ℓ} (a : Algebra X) where
   abbrev pub entered : (ℕ → X) → ℕ → X
   entered f k = a .both (a .entry) (f k)
 
+  -- by the rules of `start`
   abbrev pub summary : Stmt → ℕ → X
-  summary (leaf nothing) = only 0
-  summary (leaf pause) = only 1
-  summary (leaf (exit level)) = only (2 + level)
-  summary (leaf (emit s)) = only 0
-  summary (two sequence p q) = entered (followed (summary p) (summary q))
-  summary (two (present s) p q) = entered (branched (summary p) (summary q))
-  summary (one trap p) = entered (caught (summary p))
-  summary (two parallel p q) = entered (larger (summary p) (summary q))
-  summary (one loop p) = entered (withoutEnded (summary p))
-  summary (one (signal s) p) = entered (summary p)
+  summary (leaf nothing) = only 0  -- (1)
+  summary (leaf pause) = only 1  -- (2)
+  summary (leaf (exit level)) = only (2 + level)  -- (3)
+  summary (leaf (emit s)) = only 0  -- (4)
+  summary (two sequence p q) = entered (followed (summary p) (summary q))  -- (5) (6)
+  summary (two (present s) p q) = entered (branched (summary p) (summary q))  -- (7) (8)
+  summary (one trap p) = entered (caught (summary p))  -- (9) (10)
+  summary (two parallel p q) = entered (larger (summary p) (summary q))  -- (11)
+  summary (one loop p) = entered (withoutEnded (summary p))  -- (12)
+  summary (one (signal s) p) = entered (summary p)  -- (13) (14)
   summary (one (suspend s) p) = entered (summary p)
 
 -- The starts themselves: of each the answers taken and the number of entries.
@@ -83,12 +85,12 @@ Starts = List ℕ → ℕ → Type 0
 pub record Both (A B : Starts) (u : List ℕ) (n : ℕ) : Type 0 where
   pub before : List ℕ
   pub after : List ℕ
-  pub fore : ℕ
-  pub aft : ℕ
-  pub first : A before fore
-  pub second : B after aft
+  pub entriesBefore : ℕ
+  pub entriesAfter : ℕ
+  pub first : A before entriesBefore
+  pub second : B after entriesAfter
   pub answers : u ≡ before ++ after
-  pub entries : n ≡ fore + aft
+  pub entries : n ≡ entriesBefore + entriesAfter
 
 pub record Took (ok : ℕ → Type 0) (u : List ℕ) (n : ℕ) : Type 0 where
   pub answer : ℕ
@@ -146,17 +148,9 @@ weighed pick join weigh =
       both = together join;
     }
 
--- the least number of answers
+-- the least number of answers: min and +
 abbrev pub least : Algebra (Option ℕ)
 least = weighed min _+_ (λ u n. length u)
 
 abbrev pub leastAnswers : Stmt → ℕ → Option ℕ
 leastAnswers = summary least
-
--- the number of presents in a statement, its own included
-abbrev pub presents : Stmt → ℕ
-presents (leaf l) = 0
-presents (one u p) = presents p
-presents (two (present s) p q) = suc (presents p + presents q)
-presents (two sequence p q) = presents p + presents q
-presents (two parallel p q) = presents p + presents q

@@ -1,22 +1,26 @@
--- The list that is shown, by a walk down the statement: the walk knows, for each code, how many answers are still needed after it,
--- or that none will do. At a test it takes the branch that needs less, absent if equal. B is the highest code.
-use Prim.Native.Nat.{ℕ, zero, suc, _+_, _≤_, max}
-use mathlib.Core.Path.{_≡_}
+-- How the list is computed: a walk down the statement, which finds the list of Ticks (`WalksRight`, in Computing). It knows, for each
+-- code, how many answers are still needed after it, or that the code will not do. At a test it takes the branch that needs less, absent
+-- if equal. B is the highest code.
+use Prim.Native.Nat.{ℕ, zero, suc, _+_, max}
 use mathlib.Core.Bool.{Bool, true, false, cond}
 use mathlib.Core.Option.{Option, none, some}
 use mathlib.Core.List.{List, [], _∷_, _++_}
 use lib.Dec.{eqb, leb}
-use Rattle.esterel.specs.Codes.{catchCode}
+use Rattle.esterel.specs.Codes.{AtMost, catchCode}
 use Rattle.esterel.specs.Statement.{nothing, pause, emit, exit, signal, suspend, loop, trap, present, sequence, parallel, Stmt, leaf, one, two}
 use Rattle.esterel.specs.Sets.{startSet}
-use Rattle.starts.specs.Summary.{upTo, together, least, leastAnswers}
+use Rattle.starts.specs.Summary.{upTo, withoutEnded, together, least, leastAnswers}
 
 abbrev pub Need : Type 0
 Need = ℕ → Option ℕ
 
+-- the least of the sums of two numbers for each code
+abbrev pub leastTotal : ℕ → (f need : Need) → Option ℕ
+leastTotal B f need = upTo least (λ k. together _+_ (f k) (need k)) B
+
 -- the answers that p needs and those needed after it, in all and at least
 unfoldable pub cost : ℕ → Stmt → Need → Option ℕ
-cost B p need = upTo least (λ k. together _+_ (leastAnswers p k) (need k)) B
+cost B p need = leastTotal B (leastAnswers p) need
 
 -- x is no more than y, where `none` is more than every number
 abbrev pub noMore : Option ℕ → Option ℕ → Bool
@@ -29,10 +33,6 @@ noMore (some x) (some y) = leb x y
 abbrev pub needFirst : Option ℕ → Need → Need
 needFirst x need zero = x
 needFirst x need (suc k) = need (suc k)
-
-abbrev pub needBody : Need → Need
-needBody need zero = none
-needBody need (suc k) = need (suc k)
 
 -- where only code k will do
 abbrev pub goal : ℕ → Need
@@ -72,13 +72,13 @@ walk B (two sequence p q) need = andWalk (walk B p (needFirst (cost B q need) ne
 walk B (two (present s) p q) need = cond (noMore (cost B q need) (cost B p need)) (answer 0 (walk B q need)) (answer 1 (walk B p need))
 walk B (one trap p) need = recode catchCode (walk B p (λ k. need (catchCode k)))
 walk B (two parallel p q) need = besideWalk (walk B p (λ i. cost B q (λ j. need (max i j)))) (λ i. walk B q (λ j. need (max i j)))
-walk B (one loop p) need = walk B p (needBody need)
+walk B (one loop p) need = walk B p (withoutEnded least need)
 walk B (one (signal s) p) need = walk B p need
 walk B (one (suspend s) p) need = walk B p need
 
 -- no code of p is above B
 abbrev pub Low : ℕ → Stmt → Type 0
-Low B p = (k : ℕ) → startSet p k ≡ true → k ≤ B
+Low B p = AtMost B (startSet p)
 
 -- nor one of a statement in p
 abbrev pub Below : ℕ → Stmt → Type 0

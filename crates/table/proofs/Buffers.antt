@@ -4,12 +4,19 @@ use mathlib.Core.List.{List, [], _∷_, _++_, append-assoc}
 use Prim.Native.Nat.{ℕ, suc, _+_, _≤_, _<_}
 use native.Mathlib.Omega.{arith}
 use lib.ListN.{length, getD, take, drop, set, length-append, length-drop, take-append-drop, List·getD-append}
-use lib.Seq.{sets, length-take-le, take-length, drop-length, take-suc, drop-cons, set-at, getD-take}
+use lib.Seq.{sets, sets-eq, length-take-le, take-length, drop-length, take-suc, drop-cons, set-at, getD-take}
+use Rattle.table.specs.Columns.{onto}
 
 -- stores one after the other
 pub sets-append : (l : List ℕ) (i : ℕ) (a b : List ℕ) → sets l i (a ++ b) ≡ sets (sets l i a) (i + length a) b
 sets-append l i [] b = ap (λ (j : ℕ). sets l j b) (omega arith)
 sets-append l i (x ∷ a) b = sets-append (set l i x) (suc i) a b ∙ ap (λ (j : ℕ). sets (sets (set l i x) (suc i) a) j b) (omega arith)
+
+-- stores at the front
+pub sets-front : (s old : List ℕ) → length s ≤ length old → sets old 0 s ≡ onto s old
+sets-front s old h =
+    let none : 0 + length s ≡ length s = omega arith in
+    sets-eq s old 0 (omega arith) ∙ ap (λ k. s ++ drop k old) none
 
 module _ (s old : List ℕ) where
   -- the first i entries are the list's

@@ -8,14 +8,14 @@ use Rattle.esterel.specs.Limits.{maxNodes}
 use Rattle.input.specs.Reads.{Reads}
 use Rattle.input.specs.declared.Input.the-variants.{Bytes}
 use Rattle.input.proofs.Reading.{same-size, within}
-use Rattle.tickline.specs.Line.{Rendered}
-use Rattle.tickline.proofs.Cut.{rendered-of-front}
+use Rattle.tickline.specs.Written.{LineWritten}
+use Rattle.tickline.proofs.Cut.{written-of-front}
 use Rattle.tick.specs.Shows.{ShowsLine}
 
 module _ {b b′ t t′ : List ℕ} {end : ℕ} where
-  pub whole : {read : ℕ} → 2 * maxNodes < length b → Reads 0 b b′ (Bytes read) → Rendered (take read b′) t t′ end → ShowsLine b b′ t t′ end
+  pub whole : {read : ℕ} → 2 * maxNodes < length b → Reads 0 b b′ (Bytes read) → LineWritten (take read b′) t t′ end → ShowsLine b b′ t t′ end
   whole {read} room reads line =
-      record { read = read; reads = reads; shows = λ input e. rendered-of-front (length b′) input (omega (arith, same-size reads)) e line }
+      record { read = read; reads = reads; shows = λ input e. written-of-front (length b′) input (omega (arith, same-size reads)) e line }
 
   -- the input may be what was read and no more, so the line lies within its buffer
   pub end-within : ShowsLine b b′ t t′ end → end ≤ length t′

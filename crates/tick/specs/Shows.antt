@@ -7,14 +7,14 @@ use Rattle.input.specs.Reads.{Reads}
 use Rattle.input.specs.declared.Input.the-variants.{Bytes, Failed}
 use Rattle.tick.specs.declared.Shown
 use Rattle.tick.specs.declared.Shown.{Shown}
-use Rattle.tickline.specs.Line.{Rendered}
+use Rattle.tickline.specs.Written.{LineWritten}
 
 pub record ShowsLine (b b′ t t′ : List ℕ) (end : ℕ) : Type 0 where
   -- so many bytes were read
   pub read : ℕ
   pub reads : Reads 0 b b′ (Bytes read)
   -- whatever the whole input is: if they are as many of its bytes as fit in the buffer, the line is that of the whole input
-  pub shows : (input : List ℕ) → take (length b′) input ≡ take read b′ → Rendered input t t′ end
+  pub shows : (input : List ℕ) → take (length b′) input ≡ take read b′ → LineWritten input t t′ end
 
 -- where a read fails, the line stays as it was
 abbrev pub Shows : (b b′ t t′ : List ℕ) → Shown → Type 0

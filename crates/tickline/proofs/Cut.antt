@@ -11,12 +11,11 @@ use lib.Seq.{take-all}
 use Rattle.esterel.specs.Limits.{maxNodes}
 use Rattle.esterel.specs.Table.{refused}
 use Rattle.esterel.specs.Checks.{verdict}
+use Rattle.esterel.proofs.Refusals.{other-number}
 use Rattle.listing.specs.Text.{textOf}
 use Rattle.listing.proofs.Cut.{too-long, verdict-of-front}
-use Rattle.tickline.specs.Line.{firstLine, IsLine, shows, lists, Rendered}
-
-other : {node : ℕ} → refused 1 0 ≡ refused 11 node → ⊥
-other {node} e = let one : _≡_ {A = ℕ} 1 11 = cc in omega arith
+use Rattle.tickline.specs.Line.{firstLine, IsLine, shows, lists}
+use Rattle.tickline.specs.Written.{LineWritten}
 
 module _ (room : ℕ) (t : List ℕ) (h : 2 * maxNodes < room) where
   line-of-front : {line : List ℕ} → IsLine (take room t) line → IsLine t line
@@ -27,7 +26,7 @@ module _ (room : ℕ) (t : List ℕ) (h : 2 * maxNodes < room) where
 
       go : room < length t → IsLine (take room t) line → IsLine t line
       go l (shows node answers e s z) =
-          absurd (other (sym (cut l) ∙ sym (verdict-of-front room t h) ∙ e))
+          absurd (other-number (λ y. omega arith) (sym (cut l) ∙ sym (verdict-of-front room t h) ∙ e))
       go l (lists d z) =
           lists (λ node e. d node (verdict-of-front room t h ∙ e)) (z ∙ ap (λ v. firstLine (textOf v)) (verdict-of-front room t h))
 
@@ -36,5 +35,5 @@ module _ (room : ℕ) (t : List ℕ) (h : 2 * maxNodes < room) where
       by true e = go (ltb-true room (length t) e) o
 
   -- x is what fits in the room
-  pub rendered-of-front : {x old new : List ℕ} {r : ℕ} → take room t ≡ x → Rendered x old new r → Rendered t old new r
-  rendered-of-front e o = record { line = o .line; is = line-of-front (subst (λ y. IsLine y (o .line)) (sym e) (o .is)); whole = o .whole }
+  pub written-of-front : {x old new : List ℕ} {r : ℕ} → take room t ≡ x → LineWritten x old new r → LineWritten t old new r
+  written-of-front e o = record { line = o .line; is = line-of-front (subst (λ y. IsLine y (o .line)) (sym e) (o .is)); whole = o .whole }

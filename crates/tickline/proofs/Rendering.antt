@@ -1,17 +1,21 @@
 -- One lemma for each return of `render_line`, and that a table has one line.
 use mathlib.Core.Path.{_≡_, refl, sym, ap, ap₂, subst, _∙_}
 use mathlib.Core.List.{List, _++_}
-use Prim.Native.Nat.{ℕ, _+_, _*_, _≤_}
+use Prim.Native.Nat.{ℕ, _+_, _-_, _*_, _≤_}
 use native.Mathlib.Omega.{arith}
 use lib.ListN.{length, take, drop, length-append}
-use lib.Seq.{sets-eq, take-append-seam}
+use lib.Seq.{take-append-seam}
 use Rattle.esterel.specs.Limits.{maxNodes}
 use Rattle.esterel.specs.Statement.{Stmt, size, loopDepth}
-use Rattle.esterel.specs.Table.{Verdict, passed, refused, read}
+use Rattle.esterel.specs.Table.{passed, refused, read}
 use Rattle.esterel.specs.Checks.{verdict, planned}
 use Rattle.table.specs.Program.{programIn, programOf}
+use Rattle.table.proofs.Buffers.{sets-front}
 use Rattle.table.proofs.Surveying.{few-nodes}
-use Rattle.witness.specs.Ticks.{maxAnswers, ShownAt, Tells}
+use Rattle.esterel.proofs.Refusals.{passed-refused, other-number, refusals}
+use Rattle.starts.specs.Ticks.{ShownAt, tickAnswers}
+use Rattle.starts.proofs.Theorems.{oneShown}
+use Rattle.witness.specs.Ticks.{Tells}
 use Rattle.witness.specs.declared.Tick.{Tick}
 use Rattle.witness.specs.declared.Tick.the-variants.{Ends, Accepted, Refused}
 use Rattle.witness.proofs.Theorems.{ticksTold, shown-once, list-short}
@@ -22,31 +26,27 @@ use Rattle.listing.proofs.Columns.{program-lets}
 use Rattle.listing.proofs.Digits.{few-digits}
 use Rattle.listing.proofs.Fields.{refusal-size, header-short}
 use Rattle.listing.proofs.Whole.{loops-few}
-use Rattle.tickline.specs.Line.{tickText, firstLine, IsLine, shows, lists, OneLine, Rendered}
+use Rattle.tickline.specs.Line.{tickText, firstLine, IsLine, shows, lists, maxLine}
+use Rattle.tickline.specs.Theorems.{OneLine}
+use Rattle.tickline.specs.Written.{LineWritten}
 use Rattle.tickline.proofs.Lines.{refusal-line, header-line}
 use Rattle.tickline.proofs.Writing.{tick-short}
 
 whole : {line old new : List ℕ} {r : ℕ} → length line ≤ length old → Written old 0 line new r → WholeText line old new r
 whole {line} {old} {new} {r} h w =
     let none : 0 + length line ≡ length line = omega arith in
-    let content : new ≡ line ++ drop (length line) old = w .is ∙ sets-eq line old 0 (omega arith) ∙ ap (λ k. line ++ drop k old) none in
+    let content : new ≡ line ++ drop (length line) old = w .is ∙ sets-front line old h in
     record {
       end = w .end ∙ none;
       within = rw (content, length-append) (omega (arith, w .end));
       content = content;
     }
 
-rendered : {t line old new : List ℕ} {r : ℕ} → IsLine t line → length line ≤ length old → Written old 0 line new r → Rendered t old new r
+rendered : {t line old new : List ℕ} {r : ℕ} → IsLine t line → length line ≤ length old → Written old 0 line new r → LineWritten t old new r
 rendered {line = line} is h w = record { line = line; is = is; whole = whole h w }
 
 same-node : {m n : ℕ} → refused 11 m ≡ refused 11 n → m ≡ n
 same-node e = cc
-
-passed-not : {v : Verdict} {p : Stmt} {number node : ℕ} → v ≡ passed p → v ≡ refused number node → ⊥
-passed-not e f = let z : _≡_ {A = ℕ} 0 1 = cc in omega arith
-
-other-number : {a b c d : ℕ} → (a ≡ c → ⊥) → refused a b ≡ refused c d → ⊥
-other-number n e = n (cc)
 
 -- an accepted table has few nodes
 few-accepted : (t : List ℕ) (p : Stmt) → verdict t ≡ passed p → size p ≤ maxNodes
@@ -67,9 +67,9 @@ pub record Shown (t : List ℕ) (node n : ℕ) (answers : List ℕ) : Type 0 whe
   pub refuses : verdict t ≡ refused 11 node
   pub shown : ShownAt t node (take n answers)
   pub within : n ≤ length answers
-  pub short : length (tickText node (take n answers)) ≤ 1088
+  pub short : length (tickText node (take n answers)) ≤ maxLine
 
-pub tick-line : {t answers : List ℕ} {node n : ℕ} {text new : List ℕ} {x : ℕ} → Shown t node n answers → 1088 ≤ length text → Written text 0 (tickText node (take n answers)) new x → Rendered t text new x
+pub tick-line : {t answers : List ℕ} {node n : ℕ} {text new : List ℕ} {x : ℕ} → Shown t node n answers → maxLine ≤ length text → Written text 0 (tickText node (take n answers)) new x → LineWritten t text new x
 tick-line {answers = answers} {node = node} {n = n} s h w = rendered (shows node (take n answers) (s .refuses) (s .shown) refl) (omega (arith, s .short)) w
 
 -- an accepted table
@@ -84,13 +84,13 @@ pub record Few (t : List ℕ) (nodes loops : ℕ) : Type 0 where
 pub header-few : {t : List ℕ} {nodes loops : ℕ} → Few t nodes loops → length (headerText nodes loops (nodes * (1 + loops))) ≤ 198
 header-few {nodes = nodes} {loops = loops} f = header-short nodes loops (nodes * (1 + loops))
 
-pub accepted-line : {t : List ℕ} {nodes loops : ℕ} {text new : List ℕ} {x : ℕ} → Few t nodes loops → 1088 ≤ length text → Written text 0 (headerText nodes loops (nodes * (1 + loops))) new x → Rendered t text new x
+pub accepted-line : {t : List ℕ} {nodes loops : ℕ} {text new : List ℕ} {x : ℕ} → Few t nodes loops → maxLine ≤ length text → Written text 0 (headerText nodes loops (nodes * (1 + loops))) new x → LineWritten t text new x
 accepted-line {nodes = nodes} {loops = loops} f h w =
     let p = f .program in
     let same : headerText nodes loops (nodes * (1 + loops)) ≡ headerText (size p) (loopDepth p) (planned p) = ap₂ (λ n d. headerText n d (n * (1 + d))) (f .nodes-are) (f .loops-are) in
-    rendered (lists (λ node e. passed-not (f .accepted) e) (same ∙ header-line p ∙ ap (λ v. firstLine (textOf v)) (sym (f .accepted)))) (omega (arith, header-short nodes loops (nodes * (1 + loops)))) w
+    rendered (lists (λ node e. passed-refused (f .accepted) e) (same ∙ header-line p ∙ ap (λ v. firstLine (textOf v)) (sym (f .accepted)))) (omega (arith, header-short nodes loops (nodes * (1 + loops)))) w
 
-module _ {t old answers : List ℕ} {r : Tick} (room : maxAnswers ≤ length old) where
+module _ {t old answers : List ℕ} {r : Tick} (room : tickAnswers ≤ length old) where
   pub shown-front : {node n : ℕ} → Tells t old answers r → r ≡ Ends node n → Shown t node n answers
   shown-front (Tells.accepts p v z w) e = let y : _≡_ {A = ℕ} 0 1 = cc in absurd (omega arith)
   shown-front (Tells.refuses a m v d z w) e = let y : _≡_ {A = ℕ} 0 1 = cc in absurd (omega arith)
@@ -105,7 +105,7 @@ module _ {t old answers : List ℕ} {r : Tick} (room : maxAnswers ≤ length old
         refuses = refuses;
         shown = subst (ShownAt t node) (sym front) shown;
         within = rw (w, length-append) (omega arith);
-        short = rw front (tick-short node list (shown .shown .bits) (list-short refuses shown));
+        short = rw front (tick-short node list (refusals t 11 node refuses .2) (oneShown .bits (shown .body) (node - size (shown .body)) 0 list (shown .shown)) (list-short refuses shown));
       }
 
   pub accepted-few : {nodes loops : ℕ} → Tells t old answers r → r ≡ Accepted nodes loops → Few t nodes loops
@@ -114,7 +114,7 @@ module _ {t old answers : List ℕ} {r : Tick} (room : maxAnswers ≤ length old
       let few : size p ≤ maxNodes = few-accepted t p v in
       record { program = p; accepted = v; nodes-are = n; loops-are = d; few = omega arith; low = omega (arith, loops-few p) }
 
-  pub refused-line : {number node : ℕ} {text new : List ℕ} {x : ℕ} → Tells t old answers r → r ≡ Refused number node → 1088 ≤ length text → Written text 0 (textOf (refused number node)) new x → Rendered t text new x
+  pub refused-line : {number node : ℕ} {text new : List ℕ} {x : ℕ} → Tells t old answers r → r ≡ Refused number node → maxLine ≤ length text → Written text 0 (textOf (refused number node)) new x → LineWritten t text new x
   refused-line {number} {node} o e h w =
       let told = subst (Tells t old answers) e o in
       let v = ticksTold .refusal t old answers number node room told in

@@ -10,9 +10,10 @@ use lib.Seq.{drop-cons}
 use Rattle.starts.specs.Ticks.{Bits}
 use Rattle.listing.specs.Text.{decimal, fields}
 use Rattle.listing.specs.Written.{Written}
-use Rattle.listing.proofs.Digits.{few-digits, digits-few}
+use Rattle.listing.proofs.Digits.{digits-few}
 use Rattle.listing.proofs.Writing.{Rest, all-left, next-left, last-left, none-left}
-use Rattle.tickline.specs.Line.{tickText, answersText}
+use Rattle.tickline.specs.Line.{tickText, maxLine}
+use Rattle.tickline.specs.Written.{answersText}
 
 -- ---- the line as node, answers and line feed
 
@@ -34,9 +35,9 @@ answers-long : (answers : List ℕ) → Bits answers → length (answersText ans
 answers-long [] b = omega arith
 answers-long (a ∷ answers) b = omega (arith, length-append (decimal a) (answersText answers), one-digit a (b .0), answers-long answers (b .1))
 
-pub tick-short : (node : ℕ) (answers : List ℕ) → Bits answers → length answers < 512 → length (tickText node answers) ≤ 1088
-tick-short node answers b h =
-    omega (arith, ap length (tick-is node answers), length-append (decimal node) (answersText answers ++ (10 ∷ [])), length-append (answersText answers) (10 ∷ []), few-digits 10 node, answers-long answers b)
+pub tick-short : (node : ℕ) (answers : List ℕ) → node < 1024 → Bits answers → length answers < 512 → length (tickText node answers) ≤ maxLine
+tick-short node answers n b h =
+    omega (arith, ap length (tick-is node answers), length-append (decimal node) (answersText answers ++ (10 ∷ [])), length-append (answersText answers) (10 ∷ []), digits-few 10 (lit≤ tt) 3 node (omega arith), answers-long answers b)
 
 -- ---- write_answers
 

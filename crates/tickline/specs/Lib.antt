@@ -1,1 +1,4 @@
 pub mod Line
+pub mod Theorems
+pub mod Examples
+pub mod Written

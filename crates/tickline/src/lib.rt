@@ -4,11 +4,12 @@ ghost use mathlib.Core.Path.{_≡_};
 ghost use Prim.Native.Nat.{_+_, _≤_};
 ghost use lib.ListN.{length};
 ghost use Rattle.listing.specs.Written.{Written};
-ghost use Rattle.tickline.specs.Line.{tickText, Rendered, answersText};
+ghost use Rattle.tickline.specs.Line.{tickText};
+ghost use Rattle.tickline.specs.Written.{LineWritten, answersText};
 use witness::Tick;
 
-// No line is longer.
-pub const MAX_LINE: usize = 1088;
+// No line is longer: 4 digits for the node, 511 answers, the line feed.
+pub const MAX_LINE: usize = 1027;
 
 fn wide(answer: u8) -> u64
     ensures { λ r. ⌜ r ≡ answer ⌝ }
@@ -42,9 +43,9 @@ fn write_tick(text: &mut [u8], node: usize, answers: &[u8]) -> usize
 
 // The line of a table, in a text that is long enough for any; its length.
 pub fn render_line(table: &[u8], text: &mut [u8; MAX_LINE]) -> usize
-    ensures { λ r. ⌜ Rendered (now (table .entry)) (now (text .entry)) (now (text .exit)) r ⌝ }
+    ensures { λ r. ⌜ LineWritten (now (table .entry)) (now (text .entry)) (now (text .exit)) r ⌝ }
 {
-    let mut answers = [0u8; witness::MAX_ANSWERS];
+    let mut answers = [0u8; witness::TICK_ANSWERS];
     let tick = witness::find_tick(table, &mut answers);
     match tick {
         Tick::Ends { node, length } => write_tick(text, node, &answers[..length]),

@@ -12,16 +12,16 @@ use Rattle.esterel.specs.Statement.{loop, Stmt, one, size, nodes, loopDepth}
 use Rattle.esterel.specs.Table.{Verdict, passed, refused}
 use Rattle.esterel.specs.Checks.{verdict}
 use Rattle.esterel.specs.Outcome.{statementAt}
-use Rattle.esterel.proofs.Refusals.{Told, told-numbered}
+use Rattle.esterel.proofs.Refusals.{Told, told-numbered, passed-refused, other-number}
 use Rattle.esterel.proofs.Theorems.{loopCheck}
 use Rattle.table.specs.Columns.{onto}
 use Rattle.analysis.specs.Analysis.{checked}
 use Rattle.analysis.proofs.Theorems.{checked-room, checked-passed, checked-told}
-use Rattle.starts.specs.Ticks.{IsShown}
-use Rattle.starts.proofs.Theorems.{shown, faults}
+use Rattle.starts.specs.Ticks.{IsShown, ShownAt, tickAnswers}
+use Rattle.starts.proofs.Theorems.{oneShown, faults}
 use Rattle.witness.specs.declared.Tick.{Tick}
 use Rattle.witness.specs.declared.Tick.the-variants.{Ends, Accepted, Refused}
-use Rattle.witness.specs.Ticks.{maxAnswers, verdictFor, ShownAt, Tells}
+use Rattle.witness.specs.Ticks.{verdictFor, Tells}
 use Rattle.witness.specs.Theorems.{Determined, TicksTold}
 
 -- ---- a table has one list that is shown
@@ -36,12 +36,9 @@ pub shown-once : {t : List ℕ} {node : ℕ} {u v : List ℕ} → ShownAt t node
 shown-once {node = node} {u = u} {v = v} a b =
     let program = same-program (sym (a .reads) ∙ b .reads) in
     let body = same-body (sym (a .isLoop) ∙ ap (λ p. statementAt (nodes p) node) program ∙ b .isLoop) in
-    shown .unique (a .body) (node - size (a .body)) 0 u v (a .shown) (subst (λ p. IsShown (node - size p) p 0 v) (sym body) (b .shown))
+    oneShown .unique (a .body) (node - size (a .body)) 0 u v (a .shown) (subst (λ p. IsShown (node - size p) p 0 v) (sym body) (b .shown))
 
 -- ---- the contract is met by one answer and one content
-
-passed-refused : {v : Verdict} {p : Stmt} {number node : ℕ} → v ≡ passed p → v ≡ refused number node → ⊥
-passed-refused e f = let z : _≡_ {A = ℕ} 0 1 = cc in omega arith
 
 numbers : {v : Verdict} {a b c d : ℕ} → v ≡ refused a b → v ≡ refused c d → (a ≡ c) × (b ≡ d)
 numbers e f = (cc, cc)
@@ -72,16 +69,13 @@ unfolding checked
 eleven true t node e = sym (checked-room t) ∙ e
 eleven false t node e = absurd (go (ltb (2 * maxNodes) (length t)) (eqb (length t) 0 || eqb (length t % 2) 1) e)
   where
-    other : {a : ℕ} → (a ≡ 11 → ⊥) → refused a 0 ≡ refused 11 node → ⊥
-    other d z = d (cc)
-
     go : (a b : Bool) → cond a (refused 1 0) (cond b (refused 2 0) (refused 3 0)) ≡ refused 11 node → ⊥
-    go true b z = other (λ y. omega arith) z
-    go false true z = other (λ y. omega arith) z
-    go false false z = other (λ y. omega arith) z
+    go true b z = other-number (λ y. omega arith) z
+    go false true z = other-number (λ y. omega arith) z
+    go false false z = other-number (λ y. omega arith) z
 
-with-room : (t old : List ℕ) → maxAnswers ≤ length old → verdictFor t old ≡ verdict t
-with-room t old room = ap (λ b. checked b t) (le-leb maxAnswers (length old) room) ∙ checked-room t
+with-room : (t old : List ℕ) → tickAnswers ≤ length old → verdictFor t old ≡ verdict t
+with-room t old room = ap (λ b. checked b t) (le-leb tickAnswers (length old) room) ∙ checked-room t
 
 module _ {t old new : List ℕ} {r : Tick} (o : Tells t old new r) where
   ends-refused : (node n : ℕ) → r ≡ Ends node n → verdict t ≡ refused 11 node
@@ -90,9 +84,9 @@ module _ {t old new : List ℕ} {r : Tick} (o : Tells t old new r) where
       go : Tells t old new r → verdict t ≡ refused 11 node
       go (Tells.accepts p v z w) = let y : _≡_ {A = ℕ} 0 1 = cc in absurd (omega arith)
       go (Tells.refuses a m v d z w) = let y : _≡_ {A = ℕ} 0 1 = cc in absurd (omega arith)
-      go (Tells.shows m u v s z w) = let same : m ≡ node = cc in eleven (leb maxAnswers (length old)) t node (v ∙ ap (refused 11) same)
+      go (Tells.shows m u v s z w) = let same : m ≡ node = cc in eleven (leb tickAnswers (length old)) t node (v ∙ ap (refused 11) same)
 
-  refused-ends : maxAnswers ≤ length old → (node : ℕ) → verdict t ≡ refused 11 node → (n : ℕ) × (r ≡ Ends node n)
+  refused-ends : tickAnswers ≤ length old → (node : ℕ) → verdict t ≡ refused 11 node → (n : ℕ) × (r ≡ Ends node n)
   refused-ends room node e = go o
     where
       is : verdictFor t old ≡ refused 11 node
@@ -104,36 +98,36 @@ module _ {t old new : List ℕ} {r : Tick} (o : Tells t old new r) where
       go (Tells.shows m u v s z w) = (length u, z ∙ ap (λ i. Ends i (length u)) (numbers v is .1))
 
 -- the list that is shown is shorter than the room
-pub list-short : {t : List ℕ} {node : ℕ} {u : List ℕ} → verdict t ≡ refused 11 node → ShownAt t node u → length u < maxAnswers
+pub list-short : {t : List ℕ} {node : ℕ} {u : List ℕ} → verdict t ≡ refused 11 node → ShownAt t node u → length u < tickAnswers
 list-short {t} {node} {u} e s =
     let f = faults t node e in
-    let program = same-program (sym (s .reads) ∙ f .reads) in
-    let body = same-body (sym (s .isLoop) ∙ ap (λ p. statementAt (nodes p) node) program ∙ f .isLoop) in
+    let program = same-program (sym (s .reads) ∙ f .at .reads) in
+    let body = same-body (sym (s .isLoop) ∙ ap (λ p. statementAt (nodes p) node) program ∙ f .at .isLoop) in
     f .short u (subst (λ p. IsShown (node - size p) p 0 u) body (s .shown) .leads)
 
-ends-short : {t old new : List ℕ} {r : Tick} (node n : ℕ) → Tells t old new r → r ≡ Ends node n → n < maxAnswers
+ends-short : {t old new : List ℕ} {r : Tick} (node n : ℕ) → Tells t old new r → r ≡ Ends node n → n < tickAnswers
 ends-short node n (Tells.accepts p v z w) e = let y : _≡_ {A = ℕ} 0 1 = cc in absurd (omega arith)
 ends-short node n (Tells.refuses a m v d z w) e = let y : _≡_ {A = ℕ} 0 1 = cc in absurd (omega arith)
 ends-short {t} {old} node n (Tells.shows m u v s z w) e =
     let same : n ≡ length u = cc in
-    omega (arith, list-short (eleven (leb maxAnswers (length old)) t m v) s)
+    omega (arith, list-short (eleven (leb tickAnswers (length old)) t m v) s)
 
 accepted-is : {t old new : List ℕ} {r : Tick} (n d : ℕ) → Tells t old new r → r ≡ Accepted n d → (p : Stmt) × (verdict t ≡ passed p) × (n ≡ size p) × (d ≡ loopDepth p) × (new ≡ old)
-accepted-is {t} {old} n d (Tells.accepts p v z w) e = (p, checked-passed (leb maxAnswers (length old)) t p v, cc, cc, w)
+accepted-is {t} {old} n d (Tells.accepts p v z w) e = (p, checked-passed (leb tickAnswers (length old)) t p v, cc, cc, w)
 accepted-is n d (Tells.refuses a m v c z w) e = let y : _≡_ {A = ℕ} 0 1 = cc in absurd (omega arith)
 accepted-is n d (Tells.shows m u v s z w) e = let y : _≡_ {A = ℕ} 0 1 = cc in absurd (omega arith)
 
 refused-is : {t old new : List ℕ} {r : Tick} (number node : ℕ) → Tells t old new r → r ≡ Refused number node → (1 ≤ number) × (number ≤ 10) × (node < maxNodes) × (new ≡ old)
 refused-is number node (Tells.accepts p v z w) e = let y : _≡_ {A = ℕ} 0 1 = cc in absurd (omega arith)
 refused-is {t} {old} number node (Tells.refuses a m v d z w) e =
-    let told = told-numbered (subst (Told 11) v (checked-told (leb maxAnswers (length old)) t)) in
+    let told = told-numbered (subst (Told 11) v (checked-told (leb tickAnswers (length old)) t)) in
     let one : a ≡ number = cc in
     let two : m ≡ node = cc in
     let other : number ≡ 11 → ⊥ = λ x. d (one ∙ x) in
     (omega (arith, told .some), omega (arith, told .known), omega (arith, told .within), w)
 refused-is number node (Tells.shows m u v s z w) e = let y : _≡_ {A = ℕ} 0 1 = cc in absurd (omega arith)
 
-refusal-is : {t old new : List ℕ} {r : Tick} (number node : ℕ) → maxAnswers ≤ length old → Tells t old new r → r ≡ Refused number node → verdict t ≡ refused number node
+refusal-is : {t old new : List ℕ} {r : Tick} (number node : ℕ) → tickAnswers ≤ length old → Tells t old new r → r ≡ Refused number node → verdict t ≡ refused number node
 refusal-is number node room (Tells.accepts p v z w) e = let y : _≡_ {A = ℕ} 0 1 = cc in absurd (omega arith)
 refusal-is {t} {old} number node room (Tells.refuses a m v d z w) e =
     let one : a ≡ number = cc in
@@ -145,7 +139,10 @@ pub ticksTold : TicksTold
 ticksTold =
     record {
       tells = λ t old new r room o node. (λ (n, e). ends-refused o node n e, refused-ends o room node);
-      lowest = λ t old new p node n w o. loopCheck .refusesExactly t p w node .0 (ends-refused o node n refl);
+      lowest = λ t old new node n o.
+          (let e = ends-refused o node n refl in
+          let (p, w) = loopCheck .wellFormed t node e in
+          (p, w, loopCheck .refusesExactly t p w node .0 e));
       short = λ t old new node n o. ends-short node n o refl;
       accepts = λ t old new n d o. accepted-is n d o refl;
       refuses = λ t old new number node o. refused-is number node o refl;

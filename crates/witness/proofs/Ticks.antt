@@ -3,13 +3,13 @@ use mathlib.Core.Path.{_≡_, refl, sym, ap, ap₂, subst, _∙_}
 use mathlib.Core.Bool.{Bool, true, false, cond}
 use mathlib.Core.Option.{some}
 use mathlib.Core.Option.{none as nowhere}
-use mathlib.Core.List.{List, [], _++_}
+use mathlib.Core.List.{List, []}
 use Prim.Native.Nat.{ℕ, zero, suc, _+_, _-_, _/_, _≤_, _<_}
 use native.Mathlib.Omega.{arith}
 use borrow.Author.Tests.{ne-eqb, leb-true}
 use lib.Dec.{leb}
-use lib.ListN.{length, getD, set, drop, replicate, getD-replicate}
-use lib.Seq.{sets, sets-eq, getD-set-other}
+use lib.ListN.{length, getD, set, replicate, getD-replicate}
+use lib.Seq.{sets, getD-set-other}
 use Rattle.esterel.specs.Limits.{maxNodes}
 use Rattle.esterel.specs.Statement.{loop, Stmt, one, size}
 use Rattle.esterel.specs.Codes.{empty}
@@ -28,6 +28,7 @@ use Rattle.table.specs.Check.{passIf, lengthCheck}
 use Rattle.table.specs.declared.Check.{Check}
 use Rattle.table.specs.declared.Check.the-variants.{Passed}
 use Rattle.table.specs.declared.Check.the-variants.{Refused as RefusedCheck}
+use Rattle.table.proofs.Buffers.{sets-front}
 use Rattle.table.proofs.Found.{pass-true, length-refusal}
 use Rattle.table.proofs.Surveying.{few-nodes}
 use Rattle.table.proofs.Sizing.{measured}
@@ -35,9 +36,9 @@ use Rattle.analysis.specs.Passes.{Accepting}
 use Rattle.analysis.specs.declared.Acceptance.{Acceptance}
 use Rattle.analysis.proofs.Accepts.{well-sized, read-is}
 use Rattle.analysis.proofs.Analyses.{length-refused, room-refused, room-passed, verdict-refused, nodes-are}
-use Rattle.starts.specs.Summary.{presents}
+use Rattle.starts.specs.Ticks.{tickAnswers, presents}
 use Rattle.starts.specs.Walk.{goal, walk, answersOf, Below}
-use Rattle.starts.specs.Theorems.{Walking as Right}
+use Rattle.starts.specs.Computing.{WalkShows}
 use Rattle.starts.proofs.Agree.{walk-agree}
 use Rattle.starts.proofs.Short.{walk-short}
 use Rattle.starts.proofs.Theorems.{few-tests, walksRight, codes-below}
@@ -47,8 +48,8 @@ use Rattle.rows.proofs.Said.{row-low}
 use Rattle.witness.specs.declared.Walked.{Walked}
 use Rattle.witness.specs.declared.Tick.{Tick}
 use Rattle.witness.specs.declared.Tick.the-variants.{Ends, Accepted, Refused}
-use Rattle.witness.specs.Walks.{Walking, Walks, Goal}
-use Rattle.witness.specs.Ticks.{maxAnswers, verdictFor, Faulty, refusalOf, Showing, Tells}
+use Rattle.witness.specs.Walks.{Walking, Walks, Goal, Faulty, refusalOf, Showing}
+use Rattle.witness.specs.Ticks.{verdictFor, Tells}
 
 -- ---- goal
 
@@ -90,7 +91,7 @@ module _ {t : List ℕ} {node : ℕ} (o : Faulty t node) where
     pub is : stmtAt t node ≡ one loop body
     pub child : stmtAt t (node - 1) ≡ body
     pub below : Below 63 body
-    pub right : Right 63 body 0
+    pub right : WalkShows 63 body 0
     pub some : 0 < node
     pub known : node ≤ size (programOf t)
     pub few-answers : presents body ≤ 511
@@ -122,7 +123,7 @@ module _ {t : List ℕ} {node : ℕ} (o : Faulty t node) where
     pub formed : Formed t sizes
     formed = record { wellFormed = well-formed; measured = measured old readable (omega (arith, few)) s }
 
-    module _ {rows need : List ℕ} (done : RowsTo t node rows) (g : Goal need) {answers : List ℕ} (room : maxAnswers ≤ length answers) where
+    module _ {rows need : List ℕ} (done : RowsTo t node rows) (g : Goal need) {answers : List ℕ} (room : tickAnswers ≤ length answers) where
       pub body-call : Walking t sizes rows need answers (node - 1) 0
       body-call =
           let (body, b) = body-of in
@@ -148,11 +149,8 @@ module _ {t : List ℕ} {node : ℕ} (o : Faulty t node) where
             list = list;
             shown = record { program = programOf t; reads = well-formed .reads; body = body; isLoop = b .is; shown = b .right .shown (node - size body) };
             long = let z : 0 + length list ≡ length list = omega arith in ex ∙ v .after ∙ ap (λ y. 0 + length (answersOf y)) same ∙ z;
-            written = v .written ∙ ap (λ y. sets answers 0 (answersOf y)) same ∙ fronted list (omega (arith, walk-short 63 body (goal 0), b .few-answers));
+            written = v .written ∙ ap (λ y. sets answers 0 (answersOf y)) same ∙ sets-front list answers (omega (arith, walk-short 63 body (goal 0), b .few-answers));
           }
-        where
-          fronted : (u : List ℕ) → length u ≤ length answers → sets answers 0 u ≡ onto u answers
-          fronted u h = let z : 0 + length u ≡ length u = omega arith in sets-eq u answers 0 (omega arith) ∙ ap (λ n. u ++ drop n answers) z
 
 -- ---- find_tick
 
@@ -166,14 +164,14 @@ module _ (old : List ℕ) {t : List ℕ} {c : Check} (e : c ≡ lengthCheck t) w
   length-tells number node z er =
       Tells.refuses number node (length-refused t _ c number node e z) (λ y. omega (arith, length-refusal t number node (sym e ∙ z) .1)) (er ∙ ap refusalOf z) refl
 
-  module _ (z : c ≡ Passed) {b : Check} (eb : b ≡ passIf 3 (leb maxAnswers (length old))) where
+  module _ (z : c ≡ Passed) {b : Check} (eb : b ≡ passIf 3 (leb tickAnswers (length old))) where
     pub room-tells : {r : Tick} (number node : ℕ) → b ≡ RefusedCheck number node → r ≡ refusalOf b → Tells t old old r
     room-tells number node f er =
-        Tells.refuses number node (room-refused t _ c e z b eb number node f) (λ y. omega (arith, room-low (leb maxAnswers (length old)) number node (sym eb ∙ f))) (er ∙ ap refusalOf f) refl
+        Tells.refuses number node (room-refused t _ c e z b eb number node f) (λ y. omega (arith, room-low (leb tickAnswers (length old)) number node (sym eb ∙ f))) (er ∙ ap refusalOf f) refl
 
     module _ (f : b ≡ Passed) {a : Acceptance} (o : Accepting t a) where
-      pub room-is : maxAnswers ≤ length old
-      room-is = leb-true maxAnswers (length old) (pass-true 3 _ (sym eb ∙ f))
+      pub room-is : tickAnswers ≤ length old
+      room-is = leb-true tickAnswers (length old) (pass-true 3 _ (sym eb ∙ f))
 
       verdict-is : verdictFor t old ≡ checkProgram (scan t 0 [])
       verdict-is = room-passed t _ c e z b eb f

@@ -14,13 +14,14 @@ use Rattle.esterel.specs.Codes.{catchCode}
 use Rattle.esterel.specs.Statement.{Leaf, nothing, pause, emit, exit, Unary, signal, suspend, loop, trap, Binary, present, sequence, parallel, Stmt, leaf, one, two, kind, field, size}
 use Rattle.table.specs.Kinds.{kindOf, arityOf, leafOf, leafCode, isTrap, isLoop, isSequence, isPresent}
 use Rattle.table.specs.declared.Kind.{Kind}
-use Rattle.starts.specs.Summary.{upTo, together, least, leastAnswers, presents}
-use Rattle.starts.specs.Walk.{Need, cost, noMore, needFirst, needBody, walked, answersOf, codeOf, answer, recode, andWalk, besideWalk, walk, Below}
+use Rattle.starts.specs.Summary.{withoutEnded, least, leastAnswers}
+use Rattle.starts.specs.Ticks.{presents}
+use Rattle.starts.specs.Walk.{Need, leastTotal, cost, noMore, needFirst, walked, answersOf, codeOf, answer, recode, andWalk, besideWalk, walk, Below}
 use Rattle.starts.specs.Walk.{Walked as WalkedTo}
 use Rattle.starts.proofs.Agree.{Agree, walk-agree, walk-low}
 use Rattle.starts.proofs.Short.{walk-short}
 use Rattle.starts.proofs.Theorems.{codes-below}
-use Rattle.rows.specs.Rows.{valueOf, valuesOf, leastSum, LowRow}
+use Rattle.rows.specs.Rows.{valueOf, valuesOf, maxNumber, leastSum, LowRow}
 use Rattle.rows.specs.Filled.{RowAt}
 use Rattle.table.specs.Program.{programOf}
 use Rattle.table.specs.Columns.{stmtAt}
@@ -50,7 +51,7 @@ module _ (need : List ℕ) where
   abbrev innerNeed : Unary → Need → Need
   innerNeed (signal s) f = f
   innerNeed (suspend s) f = f
-  innerNeed loop f = needBody f
+  innerNeed loop f = withoutEnded least f
   innerNeed trap f = λ k. f (catchCode k)
 
   under-one : (u : Unary) (p : Stmt) (j : ℕ) → valueOf (underAt (kindOf (kind (one u p))) 0 need j) ≡ innerNeed u (valuesOf need) j
@@ -78,11 +79,11 @@ under-low k code need m l j = go (isTrap k) (isLoop k && eqb j 0)
 -- what the second of two and what follows it need, from its row
 cost-is : (row need : List ℕ) (q : Stmt) → valuesOf row ≡ leastAnswers q → leastSum row need ≡ cost 63 q (valuesOf need)
 unfolding cost
-cost-is row need q e = ap (λ f. upTo least (λ k. together _+_ (f k) (valuesOf need k)) 63) e
+cost-is row need q e = ap (λ f. leastTotal 63 f (valuesOf need)) e
 
 beside-is : (row need : List ℕ) (q : Stmt) → valuesOf row ≡ leastAnswers q → (i : ℕ) → firstNeed false row need i ≡ cost 63 q (λ j. valuesOf need (max i j))
 unfolding cost
-beside-is row need q e i = ap (λ f. upTo least (λ k. together _+_ (f k) (valuesOf need (max i k))) 63) e
+beside-is row need q e i = ap (λ f. leastTotal 63 f (λ k. valuesOf need (max i k))) e
 
 sequence-is : (row need : List ℕ) (q : Stmt) → valuesOf row ≡ leastAnswers q → (i : ℕ) → firstNeed true row need i ≡ needFirst (cost 63 q (valuesOf need)) (valuesOf need) i
 sequence-is row need q e zero = cost-is row need q e
@@ -116,7 +117,7 @@ module _ {t sizes rows need answers : List ℕ} {i at : ℕ} (o : Walking t size
   room-at : {w : Stmt} → stmtAt t i ≡ w → at + presents w ≤ length answers
   room-at e = subst (λ w. at + presents w ≤ length answers) e (o .room)
 
-  pub need-low : LowRow 1025 need
+  pub need-low : LowRow maxNumber need
   need-low = record { at = λ j. omega (arith, o .low .at j, o .few) }
 
   -- a call at a child

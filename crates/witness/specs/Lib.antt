@@ -1,4 +1,4 @@
-pub mod Needs
-pub mod Walks
 pub mod Ticks
 pub mod Theorems
+pub mod Needs
+pub mod Walks

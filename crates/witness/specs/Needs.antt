@@ -9,9 +9,9 @@ use lib.ListN.{length, getD}
 use Rattle.esterel.specs.Codes.{catchCode}
 use Rattle.table.specs.Kinds.{isTrap, isLoop}
 use Rattle.table.specs.declared.Kind.{Kind}
-use Rattle.starts.specs.Summary.{upTo, together, least}
-use Rattle.starts.specs.Walk.{noMore, needFirst}
-use Rattle.rows.specs.Rows.{valuesOf, leastSum, LowRow, Holds}
+use Rattle.starts.specs.Summary.{upTo, least}
+use Rattle.starts.specs.Walk.{leastTotal, noMore, needFirst}
+use Rattle.rows.specs.Rows.{valuesOf, maxNumber, leastSum, LowRow, Holds}
 use Rattle.rows.specs.Filled.{RowAt}
 
 -- after the only child, or after the second of two whose first gave a code
@@ -30,15 +30,15 @@ pub record UpRow (row r : List ℕ) : Type 0 where
 -- after the first of two, where `row` is of the second: of a sequence, or of a parallel
 abbrev pub firstNeed : Bool → (row need : List ℕ) → ℕ → Option ℕ
 firstNeed true row need = needFirst (leastSum row need) (valuesOf need)
-firstNeed false row need = λ i. upTo least (λ j. together _+_ (valuesOf row j) (valuesOf need (max i j))) 63
+firstNeed false row need = λ i. leastTotal 63 (valuesOf row) (λ j. valuesOf need (max i j))
 
 pub record First (ordered : Bool) (row need r : List ℕ) : Type 0 where
   pub holds : Holds (firstNeed ordered row need) r
   pub low : (m n : ℕ) → LowRow (suc m) row → LowRow (suc n) need → LowRow (suc (m + n)) r
 
--- no number of node j's row is above 1,025
+-- no number of node j's row is above the largest
 pub record RowLow (rows : List ℕ) (j : ℕ) : Type 0 where
-  pub at : (row : List ℕ) → RowAt rows j row → LowRow 1025 row
+  pub at : (row : List ℕ) → RowAt rows j row → LowRow maxNumber row
 
 -- a test, with the rows of the then branch and of the else branch: whether the second, with what is needed after it, needs no more
 pub record Absent (rows : List ℕ) (first last : ℕ) (need : List ℕ) (r : Bool) : Type 0 where

@@ -11,21 +11,22 @@ use Rattle.esterel.specs.Checks.{verdict}
 use Rattle.esterel.specs.Theorems.{WellFormed, EndsAtOnce, LowestLoop}
 use Rattle.witness.specs.declared.Tick.{Tick}
 use Rattle.witness.specs.declared.Tick.the-variants.{Ends, Accepted, Refused}
-use Rattle.witness.specs.Ticks.{maxAnswers, Tells}
+use Rattle.starts.specs.Ticks.{tickAnswers}
+use Rattle.witness.specs.Ticks.{Tells}
 
 -- The contract leaves nothing open: two calls with the same table and bytes answer and write the same.
 abbrev pub Determined : Type 0
 Determined = (t old new new′ : List ℕ) (r r′ : Tick) → Tells t old new r → Tells t old new′ r′ → (r ≡ r′) × (new ≡ new′)
 
--- With room for the answers, a tick is told exactly if the table is refused by check 11, and of that node: the lowest loop of a table that
--- passes checks 1 to 10 whose body can end at once. Any list is shorter than the room.
+-- With room for the answers, a tick is told exactly if the table is refused by check 11, and of that node. The table then passes checks 1,
+-- 2 and 4 to 10, and the node is the lowest loop whose body can end at once. Any list is shorter than the room.
 pub record TicksTold : Type 0 where
   pub tells :
-      (t old new : List ℕ) (r : Tick) → maxAnswers ≤ length old → Tells t old new r →
+      (t old new : List ℕ) (r : Tick) → tickAnswers ≤ length old → Tells t old new r →
       (node : ℕ) → ((n : ℕ) × (r ≡ Ends node n)) ↔ (verdict t ≡ refused 11 node)
   pub lowest :
-      (t old new : List ℕ) (p : Stmt) (node n : ℕ) → WellFormed t p → Tells t old new (Ends node n) → LowestLoop p EndsAtOnce node
-  pub short : (t old new : List ℕ) (node n : ℕ) → Tells t old new (Ends node n) → n < maxAnswers
+      (t old new : List ℕ) (node n : ℕ) → Tells t old new (Ends node n) → (p : Stmt) × WellFormed t p × LowestLoop p EndsAtOnce node
+  pub short : (t old new : List ℕ) (node n : ℕ) → Tells t old new (Ends node n) → n < tickAnswers
   pub accepts :
       (t old new : List ℕ) (n d : ℕ) → Tells t old new (Accepted n d) →
       (p : Stmt) × (verdict t ≡ passed p) × (n ≡ size p) × (d ≡ loopDepth p) × (new ≡ old)
@@ -34,4 +35,4 @@ pub record TicksTold : Type 0 where
       (t old new : List ℕ) (number node : ℕ) → Tells t old new (Refused number node) →
       (1 ≤ number) × (number ≤ 10) × (node < maxNodes) × (new ≡ old)
   -- with room it is the table's own
-  pub refusal : (t old new : List ℕ) (number node : ℕ) → maxAnswers ≤ length old → Tells t old new (Refused number node) → verdict t ≡ refused number node
+  pub refusal : (t old new : List ℕ) (number node : ℕ) → tickAnswers ≤ length old → Tells t old new (Refused number node) → verdict t ≡ refused number node

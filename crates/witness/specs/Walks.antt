@@ -1,17 +1,24 @@
--- What the walk down a program answers and writes.
+-- What the walk down a program answers and writes, and what else the contracts of the inner functions speak of.
 use Prim.Native.Nat.{ℕ, suc, _+_, _≤_, _<_}
 use mathlib.Core.Path.{_≡_}
 use mathlib.Core.List.{List}
 use lib.ListN.{length}
 use lib.Seq.{sets}
 use Rattle.esterel.specs.Statement.{Stmt, size}
+use Rattle.esterel.specs.Table.{refused}
+use Rattle.esterel.specs.Checks.{verdict}
 use Rattle.table.specs.Program.{programOf}
-use Rattle.table.specs.Columns.{stmtAt}
-use Rattle.starts.specs.Summary.{presents}
+use Rattle.table.specs.Columns.{onto, stmtAt}
+use Rattle.table.specs.declared.Check.{Check}
+use Rattle.table.specs.declared.Check.the-variants.{Passed}
+use Rattle.table.specs.declared.Check.the-variants.{Refused as RefusedCheck}
+use Rattle.starts.specs.Ticks.{ShownAt, presents}
 use Rattle.starts.specs.Walk.{goal, walk, answersOf, codeOf}
 use Rattle.rows.specs.Rows.{valuesOf, LowRow, Holds}
 use Rattle.rows.specs.Filled.{Formed, RowsTo}
 use Rattle.witness.specs.declared.Walked.{Walked}
+use Rattle.witness.specs.declared.Tick.{Tick}
+use Rattle.witness.specs.declared.Tick.the-variants.{Refused}
 
 -- what a walk at a node needs: the rows of the nodes below `top`, what is needed after each code, at most `most`, and room for the answers
 pub record Walking (t sizes rows need answers : List ℕ) (node at : ℕ) : Type 0 where
@@ -36,3 +43,19 @@ pub record Walks (p : Stmt) (need answers answers′ : List ℕ) (at : ℕ) (r :
 pub record Goal (row : List ℕ) : Type 0 where
   pub holds : Holds (goal 0) row
   pub low : LowRow 1 row
+
+-- check 11 refuses the table, at this node
+pub record Faulty (t : List ℕ) (node : ℕ) : Type 0 where
+  pub refuses : verdict t ≡ refused 11 node
+
+-- a check's answer where it refuses
+abbrev pub refusalOf : Check → Tick
+refusalOf Passed = Refused 0 0  -- never asked
+refusalOf (RefusedCheck number node) = Refused number node
+
+-- a list that is shown, of the length r, and the bytes before and after
+pub record Showing (t : List ℕ) (node : ℕ) (old new : List ℕ) (r : ℕ) : Type 0 where
+  pub list : List ℕ
+  pub shown : ShownAt t node list
+  pub long : r ≡ length list
+  pub written : new ≡ onto list old

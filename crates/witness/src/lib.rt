@@ -1,4 +1,5 @@
-// Show me the tick (F-2): after refusal 11, the answers with which the loop's body begins and ends in one instant.
+// Show me the tick (F-2): after refusal 11, the answers with which the loop's body begins and ends in one instant. The cost is
+// linear in the nodes: 64 numbers for each, and a walk that comes to none twice, with a few sweeps over 64 numbers at each.
 ghost use mathlib.Core.Path.{_≡_};
 ghost use mathlib.Core.Bool.{true, false};
 ghost use Prim.Native.Nat.{_+_, _*_, _<_, _≤_};
@@ -7,17 +8,18 @@ ghost use lib.ListN.{length};
 ghost use Rattle.table.specs.Kinds.{leafOf, leafCode};
 ghost use Rattle.table.specs.Check.{passIf};
 ghost use Rattle.table.specs.Columns.{stmtAt};
+ghost use Rattle.starts.specs.Ticks.{tickAnswers};
 ghost use Rattle.starts.specs.Walk.{noMore};
-ghost use Rattle.rows.specs.Rows.{valueOf, LowRow};
+ghost use Rattle.rows.specs.Rows.{valueOf, maxNumber, LowRow};
 ghost use Rattle.witness.specs.Needs.{underAt, Under, UpRow, First, RowLow, Absent};
-ghost use Rattle.witness.specs.Walks.{Walking, Walks, Goal};
-ghost use Rattle.witness.specs.Ticks.{maxAnswers, Faulty, refusalOf, Showing, Tells};
+ghost use Rattle.witness.specs.Walks.{Walking, Walks, Goal, Faulty, refusalOf, Showing};
+ghost use Rattle.witness.specs.Ticks.{Tells};
 use rows::Row;
 use table::Check;
 use table::Kind;
 
-// Room for any list that is shown.
-pub const MAX_ANSWERS: usize = 512;
+// The bytes that are asked for the answers: more than any list has.
+pub const TICK_ANSWERS: usize = 512;
 
 // What is told of a table: the loop whose body ends at once and the length of the list; or the nodes and the loop depth of an
 // accepted one; or the number and the node of the refusal.
@@ -104,7 +106,7 @@ fn up_to(row: Row) -> Row
 
 // What is needed after the first of a sequence: if it ends, what the second needs and what is needed after that.
 fn need_sequence(row: Row, need: Row) -> Row
-    requires { ⌜ LowRow 1025 (row .of) × LowRow 1025 (need .of) × (length (need .of) ≡ 64) ⌝ }
+    requires { ⌜ LowRow maxNumber (row .of) × LowRow maxNumber (need .of) × (length (need .of) ≡ 64) ⌝ }
     ensures { λ r. ⌜ First true (row .of) (need .of) (r .of) ⌝ }
 {
     let mut of = need.of;
@@ -115,7 +117,7 @@ fn need_sequence(row: Row, need: Row) -> Row
 // What is needed after the left of a parallel, for each of its codes: the right gives a code up to it, or one above. One sweep
 // down, with the least of those above.
 fn need_parallel(row: Row, need: Row) -> Row
-    requires { ⌜ LowRow 1025 (row .of) × LowRow 1025 (need .of) × (length (need .of) ≡ 64) ⌝ }
+    requires { ⌜ LowRow maxNumber (row .of) × LowRow maxNumber (need .of) × (length (need .of) ≡ 64) ⌝ }
     ensures { λ r. ⌜ First false (row .of) (need .of) (r .of) ⌝ }
 {
     let upward = up_to(row);
@@ -135,7 +137,7 @@ fn need_parallel(row: Row, need: Row) -> Row
 
 // What is needed after the first of two.
 fn need_first(ordered: bool, row: Row, need: Row) -> Row
-    requires { ⌜ LowRow 1025 (row .of) × LowRow 1025 (need .of) × (length (need .of) ≡ 64) ⌝ }
+    requires { ⌜ LowRow maxNumber (row .of) × LowRow maxNumber (need .of) × (length (need .of) ≡ 64) ⌝ }
     ensures { λ r. ⌜ First ordered (row .of) (need .of) (r .of) ⌝ }
 {
     if ordered {
@@ -146,7 +148,7 @@ fn need_first(ordered: bool, row: Row, need: Row) -> Row
 
 // Whether the else branch of a test needs no more answers than the then branch, with those that are needed after it.
 fn goes_absent(rows: &[u16], first: usize, last: usize, need: Row) -> bool
-    requires { ⌜ (64 * first + 64 ≤ length (now rows)) × (64 * last + 64 ≤ length (now rows)) × RowLow (now rows) first × RowLow (now rows) last × LowRow 1025 (need .of) ⌝ }
+    requires { ⌜ (64 * first + 64 ≤ length (now rows)) × (64 * last + 64 ≤ length (now rows)) × RowLow (now rows) first × RowLow (now rows) last × LowRow maxNumber (need .of) ⌝ }
     ensures { λ r. ⌜ Absent (now (rows .entry)) first last (need .of) r ⌝ }
 {
     let then = rows::least_sum(rows::load(rows, first), need);
@@ -220,7 +222,7 @@ fn goal() -> Row
 
 // The list for the body of a loop that check 11 refuses, at the front of the answers: its length.
 fn show(table: &[u8], node: usize, answers: &mut [u8]) -> usize
-    requires { ⌜ Faulty (now table) node × (maxAnswers ≤ length (now answers)) ⌝ }
+    requires { ⌜ Faulty (now table) node × (tickAnswers ≤ length (now answers)) ⌝ }
     ensures { λ r. ⌜ Showing (now (table .entry)) node (now (answers .entry)) (now (answers .exit)) r ⌝ }
 {
     let mut sizes = [0u16; esterel::MAX_NODES];
@@ -243,9 +245,9 @@ fn refused(check: Check) -> Tick
 
 // Check 3: room for any list that is shown.
 fn check_room(answers: usize) -> Check
-    ensures { λ r. ⌜ r ≡ passIf 3 (leb maxAnswers answers) ⌝ }
+    ensures { λ r. ⌜ r ≡ passIf 3 (leb tickAnswers answers) ⌝ }
 {
-    if MAX_ANSWERS <= answers {
+    if TICK_ANSWERS <= answers {
         return Check::Passed;
     }
     Check::Refused { number: 3, node: 0 }
@@ -272,7 +274,7 @@ pub fn find_tick(table: &[u8], answers: &mut [u8]) -> Tick
         };
     };
     if number != 11 {
-        return refused(check);
+        return Tick::Refused { number, node };
     }
     let length = show(table, node, answers);
     Tick::Ends { node, length }

@@ -4,8 +4,8 @@
 
 use bavzhrono::{analyse, render, resume, start, tick};
 use bavzhrono::{
-    Analysis, Closed, CodeSet, Completion, Mark, Refusal, Tick, MAX_ANSWERS, MAX_NODES, MAX_TEXT,
-    SIGNALS,
+    Analysis, Closed, CodeSet, Completion, Mark, Refusal, Tick, MAX_NODES, MAX_TEXT, SIGNALS,
+    TICK_ANSWERS,
 };
 
 pub const W1: &[u8] = &[2, 0, 3, 7, 9, 0, 8, 0];
@@ -53,7 +53,7 @@ impl Buffers {
             state: vec![FILL; nodes],
             emissions: vec![FILL; SIGNALS + more],
             text: vec![FILL; MAX_TEXT + more],
-            answers: vec![FILL; MAX_ANSWERS + more],
+            answers: vec![FILL; TICK_ANSWERS + more],
         }
     }
 

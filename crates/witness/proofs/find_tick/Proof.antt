@@ -49,11 +49,8 @@ enum-told-5 c = search needs
 returns-3 : tie.Need-returns-3
 returns-3 c = accepted-tells (now (c .before .before .before .before .before .before .before .before .before .before .before .args .answers)) (c .before .before .before .before .before .before .before .before .check-length .ensures) (c .before .before .before .before .before .before .enum-told .given .1) (c .before .before .before .before .before .check-room .ensures) (c .before .before .before .enum-told3 .given .1) (c .before .before .accept .ensures) (c .enum-told5 .given .1) refl refl
 
-refused-requires-3 : tie.Need-refused-requires-3
-refused-requires-3 c κs = search needs
-
 returns-4 : tie.Need-returns-4
-returns-4 c = refused-tells (now (c .before .before .before .before .before .before .before .before .before .before .before .before .before .before .args .answers)) (c .before .before .before .before .before .before .before .before .before .before .before .check-length .ensures) (c .before .before .before .before .before .before .before .before .before .enum-told .given .1) (c .before .before .before .before .before .before .before .before .check-room .ensures) (c .before .before .before .before .before .before .enum-told3 .given .1) (c .before .before .before .before .before .accept .ensures) (c .before .before .before .check .given .1) (c .before .if1 .taken) (c .refused3 .ensures)
+returns-4 c = refused-tells (now (c .before .before .before .before .before .before .before .before .before .before .before .before .before .args .answers)) (c .before .before .before .before .before .before .before .before .before .before .check-length .ensures) (c .before .before .before .before .before .before .before .before .enum-told .given .1) (c .before .before .before .before .before .before .before .check-room .ensures) (c .before .before .before .before .before .enum-told3 .given .1) (c .before .before .before .before .accept .ensures) (c .before .before .check .given .1) (c .if1 .taken) refl
 
 show-requires : tie.Need-show-requires
 show-requires c κs = (faulty (now (c .before .before .before .before .before .before .before .before .before .before .before .before .before .before .args .answers)) (c .before .before .before .before .before .before .before .before .before .before .before .check-length .ensures) (c .before .before .before .before .before .before .before .before .before .enum-told .given .1) (c .before .before .before .before .before .before .before .before .check-room .ensures) (c .before .before .before .before .before .before .enum-told3 .given .1) (c .before .before .before .before .before .accept .ensures) (c .before .before .before .check .given .1) (c .before .if1 .left), room-is (now (c .before .before .before .before .before .before .before .before .before .before .before .before .before .before .args .answers)) (c .before .before .before .before .before .before .before .before .before .before .before .check-length .ensures) (c .before .before .before .before .before .before .before .before .before .enum-told .given .1) (c .before .before .before .before .before .before .before .before .check-room .ensures) (c .before .before .before .before .before .before .enum-told3 .given .1) (c .before .before .before .before .before .accept .ensures))
@@ -82,7 +79,6 @@ find-tick-spec =
     enum-known-check
     enum-told-5
     returns-3
-    refused-requires-3
     returns-4
     show-requires
     same-length

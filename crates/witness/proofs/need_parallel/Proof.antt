@@ -35,7 +35,7 @@ array-read-join-2 : tie.Need-array-read-join-2 Inv-loop μ-loop
 array-read-join-2 c = search needs
 
 join-requires : tie.Need-join-requires Inv-loop μ-loop
-join-requires c κs = (omega (arith, c .before .before .before .before .before .up-to .ensures .low 1025 (c .before .before .before .before .before .before .pre .0) .at (c .before .loop .i - 1)), omega (arith, c .before .before .before .before .before .before .pre .1 .at (c .before .loop .i - 1)))
+join-requires c κs = (omega (arith, c .before .before .before .before .before .up-to .ensures .low 512 (c .before .before .before .before .before .before .pre .0) .at (c .before .loop .i - 1)), omega (arith, c .before .before .before .before .before .before .pre .1 .at (c .before .loop .i - 1)))
 
 lesser-requires : tie.Need-lesser-requires Inv-loop μ-loop
 lesser-requires c κs = search needs

@@ -1,6 +1,6 @@
 -- `witness::refused` meets its contract.
 use mathlib.Core.Path.{sym, ap}
-use Rattle.witness.specs.Ticks.{refusalOf}
+use Rattle.witness.specs.Walks.{refusalOf}
 use borrow.Author.Needs.{needs}
 use Rattle.witness.proofs.refused.Statement.{statement}
 use Rattle.witness.proofs.refused.Tie as tie
