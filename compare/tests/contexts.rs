@@ -5,21 +5,8 @@
 
 use std::collections::BTreeSet;
 
+use compare::support::every::{every_table, DECIDING};
 use compare::Sets;
-
-/// The statements that decide something, with the number of their children:
-/// nothing, pause, two exits, present, loop, sequence, parallel, trap.
-const STATEMENTS: [([u8; 2], usize); 9] = [
-    ([1, 0], 0),
-    ([2, 0], 0),
-    ([4, 0], 0),
-    ([4, 1], 0),
-    ([6, 0], 2),
-    ([8, 0], 1),
-    ([9, 0], 2),
-    ([10, 0], 2),
-    ([11, 0], 1),
-];
 
 const MOST_NODES: usize = 7;
 
@@ -210,31 +197,10 @@ fn bits(codes: &Codes) -> u64 {
     codes.iter().map(|code| 1 << code).sum()
 }
 
-/// All tables that begin with this one, of which so many statements are unused,
-/// and that are one statement at the end, with room for so many more nodes.
-fn every_table_from(
-    table: &mut Vec<u8>,
-    unused: usize,
-    room: usize,
-    visit: &mut impl FnMut(&[u8]),
-) {
-    if unused == 1 {
-        visit(table);
-    }
-    for (letter, children) in STATEMENTS {
-        // Each node still to come can make one of two.
-        if children <= unused && unused + 1 - children <= room {
-            table.extend(letter);
-            every_table_from(table, unused + 1 - children, room - 1, visit);
-            table.truncate(table.len() - 2);
-        }
-    }
-}
-
 #[test]
 fn contexts_and_marks_of_all_small_tables() {
     let mut counts = Counts::default();
-    every_table_from(&mut Vec::new(), 0, MOST_NODES, &mut |table| {
+    every_table(&DECIDING, MOST_NODES, |table| {
         let nodes = table.len() / 2;
         counts.compare(table, nodes);
         if nodes <= MOST_NODES_WITHIN {
@@ -251,7 +217,7 @@ fn contexts_and_marks_of_all_small_tables() {
 #[test]
 fn contexts_and_marks_of_all_small_tables_within_62_traps() {
     let mut counts = Counts::default();
-    every_table_from(&mut Vec::new(), 0, MOST_NODES_WITHIN_TRAPS, &mut |table| {
+    every_table(&DECIDING, MOST_NODES_WITHIN_TRAPS, |table| {
         let table = exits_further_out(table);
         for traps in 60..=62 {
             for around in AROUND_TRAPS {

@@ -6,6 +6,7 @@ use std::thread;
 use compare::support::bodies::Body;
 use compare::support::calls::COMPARE;
 use compare::support::edges::{edges, W1, W2, W8};
+use compare::support::every::{every_table, DECIDING};
 use compare::support::random::Random;
 use compare::support::tick_edges;
 use compare::support::ticks::{even_trees, one_list, table as any_table, NUMBERS};
@@ -50,6 +51,13 @@ struct Counts {
 }
 
 impl Counts {
+    fn of(tables: impl Iterator<Item = Vec<u8>>) -> Counts {
+        let mut counts = Counts::default();
+        tables.for_each(|table| counts.compare(&table));
+        println!("{counts:?}");
+        counts
+    }
+
     /// Runs the body with the list, and looks for the list by runs if there are not too many.
     fn compare(&mut self, table: &[u8]) {
         self.tables += 1;
@@ -92,49 +100,10 @@ fn edges_have_their_lines() {
     assert!(counts.longest == 509 && counts.searched > 50, "{counts:?}");
 }
 
-/// All tables that begin with this one, of which so many statements are unused, and that
-/// are one statement at the end, with room for so many more nodes.
-fn every_table_from(
-    letters: &[([u8; 2], usize)],
-    table: &mut Vec<u8>,
-    unused: usize,
-    room: usize,
-    visit: &mut impl FnMut(&[u8]),
-) {
-    if unused == 1 {
-        visit(table);
-    }
-    for &(letter, children) in letters {
-        // Each node still to come can make one of two.
-        if children <= unused && unused + 1 - children <= room {
-            table.extend(letter);
-            every_table_from(letters, table, unused + 1 - children, room - 1, visit);
-            table.truncate(table.len() - 2);
-        }
-    }
-}
-
-const NOTHING: ([u8; 2], usize) = ([1, 0], 0);
-const PAUSE: ([u8; 2], usize) = ([2, 0], 0);
-const EXIT: ([u8; 2], usize) = ([4, 0], 0);
-const FAR_EXIT: ([u8; 2], usize) = ([4, 1], 0);
-const PRESENT: ([u8; 2], usize) = ([6, 0], 2);
-const LOOP: ([u8; 2], usize) = ([8, 0], 1);
-const SEQUENCE: ([u8; 2], usize) = ([9, 0], 2);
-const PARALLEL: ([u8; 2], usize) = ([10, 0], 2);
-const TRAP: ([u8; 2], usize) = ([11, 0], 1);
-
-fn every_table(letters: &[([u8; 2], usize)], nodes: usize, visit: &mut impl FnMut(&[u8])) {
-    every_table_from(letters, &mut Vec::new(), 0, nodes, visit);
-}
-
 #[test]
 fn all_small_tables() {
-    let letters = [
-        NOTHING, PAUSE, EXIT, FAR_EXIT, PRESENT, LOOP, SEQUENCE, PARALLEL, TRAP,
-    ];
     let mut counts = Counts::default();
-    every_table(&letters, 7, &mut |table| counts.compare(table));
+    every_table(&DECIDING, 7, |table| counts.compare(table));
     println!("{counts:?}");
     assert_eq!(counts.tables, 133_708);
     assert_eq!(counts.searched, counts.ticks);
@@ -143,14 +112,15 @@ fn all_small_tables() {
 /// As bodies of a loop, in traps within it and around it.
 #[test]
 fn all_small_bodies_of_presents_and_parallels() {
-    let letters = [PAUSE, EXIT, FAR_EXIT, PRESENT, PARALLEL, TRAP];
+    let mut letters = DECIDING.to_vec();
+    letters.retain(|([kind, _], _)| [2, 4, 6, 10, 11].contains(kind));
     let traps: [&[u8]; 3] = [
         &[11, 0, 11, 0, 8, 0],
         &[11, 0, 2, 0, 9, 0, 11, 0, 8, 0],
         &[11, 0, 8, 0, 11, 0],
     ];
     let mut counts = Counts::default();
-    every_table(&letters, 8, &mut |body| {
+    every_table(&letters, 8, |body| {
         for around in traps {
             counts.compare(&[body, around].concat());
         }
@@ -164,11 +134,7 @@ fn all_small_bodies_of_presents_and_parallels() {
 #[test]
 fn trees_of_presents_with_lists_of_one_length() {
     let random = &mut Random::new(SEED);
-    let mut counts = Counts::default();
-    for _ in 0..1500 {
-        counts.compare(&even_trees(random));
-    }
-    println!("{counts:?}");
+    let counts = Counts::of((0..1500).map(|_| even_trees(random)));
     assert!(counts.searched > 1000, "{counts:?}");
     assert!(counts.mixed > 400, "{counts:?}");
 }
@@ -176,13 +142,11 @@ fn trees_of_presents_with_lists_of_one_length() {
 #[test]
 fn random_tables() {
     let random = &mut Random::new(SEED);
-    let mut counts = Counts::default();
-    for number in 0..30 * NUMBERS {
+    let counts = Counts::of((0..30 * NUMBERS).map(|number| {
         let most = *random.pick(&[12, 40, 40, 150]);
         let nodes = random.between(2, most);
-        counts.compare(&any_table(random, number, nodes));
-    }
-    println!("{counts:?}");
+        any_table(random, number, nodes)
+    }));
     assert!(counts.searched > 1000, "{counts:?}");
 }
 
@@ -190,12 +154,10 @@ fn random_tables() {
 #[test]
 fn large_tables() {
     let random = &mut Random::new(SEED);
-    let mut counts = Counts::default();
-    for number in 0..3 * NUMBERS {
+    let counts = Counts::of((0..3 * NUMBERS).map(|number| {
         let nodes = random.between(800, 1024);
-        counts.compare(&any_table(random, number, nodes));
-    }
-    println!("{counts:?}");
+        any_table(random, number, nodes)
+    }));
     assert!(counts.ticks > 100, "{counts:?}");
 }
 

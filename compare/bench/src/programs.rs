@@ -5,6 +5,7 @@
 //! and pauses where it paused before, so that the call can be repeated.
 
 use compare::checks::MOST_TRAPS;
+use compare::support::nodes::{EMIT, LOOP, PARALLEL, PAUSE, PRESENT, SEQUENCE, SUSPEND, TRAP};
 use compare::support::programs::balanced;
 
 pub struct Shape {
@@ -54,15 +55,9 @@ impl Shape {
     }
 }
 
-const PAUSE: &[u8] = &[2, 0];
-const EMIT: &[u8] = &[3, 1];
+/// Not the signal of `SUSPEND`, as the shared one is: with one name for both, the text of
+/// a deep program would be cheaper to read.
 const SIGNAL: &[u8] = &[5, 2];
-const PRESENT: &[u8] = &[6, 3];
-const SUSPEND: &[u8] = &[7, 4];
-const LOOP: &[u8] = &[8, 0];
-const SEQUENCE: &[u8] = &[9, 0];
-const PARALLEL: &[u8] = &[10, 0];
-const TRAP: &[u8] = &[11, 0];
 
 /// Signals and suspends by turns, as deep as there are nodes.
 fn deep(nodes: usize) -> Vec<u8> {

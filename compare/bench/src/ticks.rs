@@ -1,6 +1,9 @@
 //! Programs whose ticks are dear to find: a loop around all, whose body can end.
 
 use compare::checks::MOST_TRAPS;
+use compare::support::nodes::{
+    EXIT, LOOP, NOTHING, PARALLEL, PAUSE, PRESENT, SEQUENCE, SIGNAL, TRAP,
+};
 use compare::support::programs::balanced;
 use compare::support::ticks::ending_with;
 
@@ -41,15 +44,6 @@ pub const SHAPES: [Shape; 7] = [
     },
 ];
 
-const NOTHING: &[u8] = &[1, 0];
-const PAUSE: &[u8] = &[2, 0];
-const SIGNAL: &[u8] = &[5, 2];
-const PRESENT: &[u8] = &[6, 3];
-const LOOP: &[u8] = &[8, 0];
-const SEQUENCE: &[u8] = &[9, 0];
-const PARALLEL: &[u8] = &[10, 0];
-const TRAP: &[u8] = &[11, 0];
-
 /// The longest list: presents nested as deep as there are nodes, or, beyond 256 nodes,
 /// three such chains in parallel.
 fn chains(nodes: usize) -> Vec<u8> {
@@ -73,7 +67,7 @@ fn sequences(nodes: usize) -> Vec<u8> {
 /// A balanced tree of parallels in a trap; at its leaves presents of an exit and a pause,
 /// so that each exit ends the body with a list of the same length.
 fn parallels(nodes: usize) -> Vec<u8> {
-    let leaf = [&[4, 0], PAUSE, PRESENT].concat();
+    let leaf = [EXIT, PAUSE, PRESENT].concat();
     let branches = balanced(&leaf, (nodes - 1) / 4, PARALLEL);
     looped([&branches, TRAP].concat(), nodes)
 }

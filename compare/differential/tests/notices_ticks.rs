@@ -22,10 +22,10 @@ fn assert_noticed(tick: Tick, trial: &Finding) {
 
 /// Finds the tick, and changes the list that was written and the figures.
 fn found_then(
-    change: impl FnOnce(&mut [u8], &mut [u64]),
     table: &[u8],
     answers: &mut [u8],
     answer: &mut [u64],
+    change: impl FnOnce(&mut [u8], &mut [u64]),
 ) -> u32 {
     let returned = (COMPARE.tick)(table, answers, answer);
     if returned == 0 && answer[0] == 1 {
@@ -36,20 +36,19 @@ fn found_then(
 
 /// Puts another list that ends the body in the place of the right one, if there is one.
 fn another_list(
-    find: impl FnOnce(&Body) -> Option<Vec<u8>>,
     table: &[u8],
     answers: &mut [u8],
     answer: &mut [u64],
+    find: impl FnOnce(&Body) -> Option<Vec<u8>>,
 ) -> u32 {
     let before = answers.to_vec();
-    let change = |answers: &mut [u8], answer: &mut [u64]| {
+    found_then(table, answers, answer, |answers, answer| {
         if let Some(list) = find(&Body::of(table, answer[1] as usize)) {
             answers.copy_from_slice(&before);
             answers[..list.len()].copy_from_slice(&list);
             answer[2] = list.len() as u64;
         }
-    };
-    found_then(change, table, answers, answer)
+    })
 }
 
 /// Runs that a wrong finder may make.
@@ -58,8 +57,9 @@ const MOST_RUNS: usize = 1000;
 #[test]
 fn present_before_absent() {
     fn tick(table: &[u8], answers: &mut [u8], answer: &mut [u64]) -> u32 {
-        let find = |body: &Body| body.first_ending([1, 0], MOST_RUNS);
-        another_list(find, table, answers, answer)
+        another_list(table, answers, answer, |body| {
+            body.first_ending([1, 0], MOST_RUNS)
+        })
     }
     assert_noticed(tick, &Finding::new(&[1, 0, 1, 0, 6, 0, 8, 0]));
 }
@@ -81,12 +81,11 @@ fn absent_before_shorter() {
         code == 0
     }
     fn tick(table: &[u8], answers: &mut [u8], answer: &mut [u64]) -> u32 {
-        // A large body has too many lists.
-        let find = |body: &Body| {
+        another_list(table, answers, answer, |body| {
             let mut list = Vec::new();
+            // A large body has too many lists.
             (table.len() < 40 && first_of_all(body, &mut list)).then_some(list)
-        };
-        another_list(find, table, answers, answer)
+        })
     }
     let then_is_shorter = [1, 0, 2, 0, 1, 0, 6, 0, 6, 0, 8, 0];
     assert_noticed(tick, &Finding::new(&then_is_shorter));
@@ -95,11 +94,10 @@ fn absent_before_shorter() {
 #[test]
 fn an_answer_that_is_not_taken() {
     fn tick(table: &[u8], answers: &mut [u8], answer: &mut [u64]) -> u32 {
-        let change = |answers: &mut [u8], answer: &mut [u64]| {
+        found_then(table, answers, answer, |answers, answer| {
             answers[answer[2] as usize] = 0;
             answer[2] += 1;
-        };
-        found_then(change, table, answers, answer)
+        })
     }
     assert_noticed(tick, &Finding::new(W6));
 }
@@ -107,11 +105,10 @@ fn an_answer_that_is_not_taken() {
 #[test]
 fn another_byte_for_present() {
     fn tick(table: &[u8], answers: &mut [u8], answer: &mut [u64]) -> u32 {
-        let change = |answers: &mut [u8], answer: &mut [u64]| {
+        found_then(table, answers, answer, |answers, answer| {
             let list = &mut answers[..answer[2] as usize];
             list.iter_mut().for_each(|byte| *byte *= 255);
-        };
-        found_then(change, table, answers, answer)
+        })
     }
     assert_noticed(tick, &Finding::new(W6));
 }
@@ -119,10 +116,9 @@ fn another_byte_for_present() {
 #[test]
 fn answers_past_the_list() {
     fn tick(table: &[u8], answers: &mut [u8], answer: &mut [u64]) -> u32 {
-        let change = |answers: &mut [u8], answer: &mut [u64]| {
+        found_then(table, answers, answer, |answers, answer| {
             answers[answer[2] as usize..].fill(0);
-        };
-        found_then(change, table, answers, answer)
+        })
     }
     assert_noticed(tick, &Finding::new(W8));
     assert_noticed(tick, &Finding::with_answers(W8, 600));
@@ -131,8 +127,7 @@ fn answers_past_the_list() {
 #[test]
 fn the_body_for_the_loop() {
     fn tick(table: &[u8], answers: &mut [u8], answer: &mut [u64]) -> u32 {
-        let change = |_: &mut [u8], answer: &mut [u64]| answer[1] -= 1;
-        found_then(change, table, answers, answer)
+        found_then(table, answers, answer, |_, answer| answer[1] -= 1)
     }
     assert_noticed(tick, &Finding::new(W8));
 }

@@ -39,6 +39,7 @@ use std::process::ExitCode;
 
 use compare::instant::SIGNALS;
 use compare::support::cases::{Case, Outcome};
+use compare::support::files::{self, Files};
 use compare::support::random::Random;
 use compare::support::vectors::{read_instants, InstantVector, Lent};
 use compare::support::{arguments, families, hex, SEED};
@@ -48,29 +49,7 @@ use compare::Refusal;
 const LONGEST_EDGE: usize = 600;
 
 fn main() -> ExitCode {
-    match write_files() {
-        Ok(()) => ExitCode::SUCCESS,
-        Err(message) => {
-            eprintln!("instants: {message}");
-            ExitCode::FAILURE
-        }
-    }
-}
-
-/// The two files as they grow.
-#[derive(Default)]
-struct Files {
-    cases: usize,
-    input: Vec<u8>,
-    expected: String,
-}
-
-impl Files {
-    fn add(&mut self, case: &Case, outcome: &Outcome) {
-        self.cases += 1;
-        self.input.extend(case.encode());
-        self.expected.push_str(&outcome.line(case));
-    }
+    files::exit_code("instants", write_files())
 }
 
 fn write_files() -> Result<(), String> {
@@ -106,16 +85,14 @@ fn write_files() -> Result<(), String> {
         let cases = family(random);
         println!("{name}: {}", cases.len());
         for case in cases {
-            files.add(&case, &case.run());
+            add(&mut files, &case, &case.run());
         }
     }
-    println!(
-        "cases {}, input bytes {}, expected bytes {}",
-        files.cases,
-        files.input.len(),
-        files.expected.len()
-    );
-    arguments.write(&files.input, files.expected.as_bytes())
+    files.write("cases", &arguments)
+}
+
+fn add(files: &mut Files, case: &Case, outcome: &Outcome) {
+    files.add_encoded(&case.encode(), &outcome.line(case));
 }
 
 /// The cases of the file, and some of them again with a short emission buffer.
@@ -154,7 +131,7 @@ fn add_instants_of(
     for vector in read_instants(file) {
         if written.insert(vector.lent()) {
             let case = case_of(random, &vector);
-            files.add(&case, &case.run());
+            add(files, &case, &case.run());
             further += 1;
         }
     }
@@ -182,7 +159,7 @@ fn add_vector(
             ours.line(case)
         ));
     }
-    files.add(case, &expected);
+    add(files, case, &expected);
     Ok(())
 }
 

@@ -18,6 +18,7 @@ use compare::checks::MOST_TRAPS;
 use compare::listing;
 use compare::support::damage::{bad_table, BAD_NUMBERS};
 use compare::support::edges::edges;
+use compare::support::files::{self, Files};
 use compare::support::programs::{accepted, ladder, SHAPES};
 use compare::support::random::Random;
 use compare::support::vectors::{read_listings, ListingVector};
@@ -27,31 +28,7 @@ const ACCEPTED: usize = 250;
 const LADDERS: [usize; 4] = [1, 2, 8, MOST_TRAPS];
 
 fn main() -> ExitCode {
-    match write_files() {
-        Ok(()) => ExitCode::SUCCESS,
-        Err(message) => {
-            eprintln!("tables: {message}");
-            ExitCode::FAILURE
-        }
-    }
-}
-
-/// The two files as they grow.
-#[derive(Default)]
-struct Files {
-    tables: usize,
-    input: Vec<u8>,
-    expected: String,
-}
-
-impl Files {
-    fn add(&mut self, table: &[u8], text: &str) {
-        let length = u16::try_from(table.len()).expect("a length of two bytes");
-        self.tables += 1;
-        self.input.extend(length.to_le_bytes());
-        self.input.extend(table);
-        self.expected.push_str(text);
-    }
+    files::exit_code("tables", write_files())
 }
 
 fn write_files() -> Result<(), String> {
@@ -68,13 +45,7 @@ fn write_files() -> Result<(), String> {
     }
     add_edges(&mut files)?;
     add_random(&mut files);
-    println!(
-        "tables {}, input bytes {}, expected bytes {}",
-        files.tables,
-        files.input.len(),
-        files.expected.len()
-    );
-    arguments.write(&files.input, files.expected.as_bytes())
+    files.write("tables", &arguments)
 }
 
 fn add_vectors(

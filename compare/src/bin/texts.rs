@@ -18,6 +18,7 @@
 use std::path::Path;
 use std::process::ExitCode;
 
+use compare::support::files::{self, Files};
 use compare::support::printer::Printed;
 use compare::support::random::Random;
 use compare::support::text_edges::{self, edges};
@@ -35,31 +36,7 @@ const LONG_RANDOM: usize = 4;
 const RANDOM: usize = 360;
 
 fn main() -> ExitCode {
-    match write_files() {
-        Ok(()) => ExitCode::SUCCESS,
-        Err(message) => {
-            eprintln!("texts: {message}");
-            ExitCode::FAILURE
-        }
-    }
-}
-
-/// The two files as they grow.
-#[derive(Default)]
-struct Files {
-    texts: usize,
-    input: Vec<u8>,
-    expected: String,
-}
-
-impl Files {
-    fn add(&mut self, text: &[u8], line: &str) {
-        let length = u16::try_from(text.len()).expect("a length of two bytes");
-        self.texts += 1;
-        self.input.extend(length.to_le_bytes());
-        self.input.extend(text);
-        self.expected.push_str(line);
-    }
+    files::exit_code("texts", write_files())
 }
 
 fn write_files() -> Result<(), String> {
@@ -72,13 +49,7 @@ fn write_files() -> Result<(), String> {
     }
     add_edges(&mut files)?;
     add_random(&mut files)?;
-    println!(
-        "texts {}, input bytes {}, expected bytes {}",
-        files.texts,
-        files.input.len(),
-        files.expected.len()
-    );
-    arguments.write(&files.input, files.expected.as_bytes())
+    files.write("texts", &arguments)
 }
 
 type Outcome = Result<(Vec<u8>, usize), Refusal>;
@@ -112,7 +83,7 @@ fn add_vectors(files: &mut Files, file: &Path) -> Result<(), String> {
 }
 
 fn add_edges(files: &mut Files) -> Result<(), String> {
-    let before = files.texts;
+    let before = files.count();
     for edge in edges() {
         let outcome = translate(&edge.text);
         if !edge.is_met_by(&outcome) {
@@ -122,17 +93,17 @@ fn add_edges(files: &mut Files) -> Result<(), String> {
             files.add(&edge.text, &line(&outcome));
         }
     }
-    println!("edges {}", files.texts - before);
+    println!("edges {}", files.count() - before);
     Ok(())
 }
 
 /// Printed programs by turns as they are, with a token spoilt, and with a byte spoilt.
 fn add_random(files: &mut Files) -> Result<(), String> {
     let random = &mut Random::new(SEED);
-    let before = files.texts;
+    let before = files.count();
     let mut long = 0;
     for number in 0.. {
-        if files.texts - before == RANDOM {
+        if files.count() - before == RANDOM {
             break;
         }
         // Another one of the three for a kind of program in each round.

@@ -20,6 +20,7 @@
 use std::path::Path;
 use std::process::ExitCode;
 
+use compare::support::files::{self, Files};
 use compare::support::random::Random;
 use compare::support::ticks::{even_trees, one_list, table, NUMBERS};
 use compare::support::vectors::read_ticks;
@@ -36,44 +37,7 @@ const EVEN_TREES: usize = 300;
 const ONE_LIST: usize = 80;
 
 fn main() -> ExitCode {
-    match write_files() {
-        Ok(()) => ExitCode::SUCCESS,
-        Err(message) => {
-            eprintln!("ticks: {message}");
-            ExitCode::FAILURE
-        }
-    }
-}
-
-/// The two files as they grow.
-#[derive(Default)]
-struct Files {
-    tables: usize,
-    input: Vec<u8>,
-    expected: String,
-}
-
-impl Files {
-    fn add(&mut self, table: &[u8], line: &str) {
-        let length = u16::try_from(table.len()).expect("a length of two bytes");
-        self.tables += 1;
-        self.input.extend(length.to_le_bytes());
-        self.input.extend(table);
-        self.expected.push_str(line);
-    }
-
-    /// Adds a table whose line is known.
-    fn add_known(&mut self, name: &str, table: &[u8], line: &str) -> Result<(), String> {
-        let ours = tick_line(table);
-        if ours != line {
-            let table = hex::encode(table);
-            return Err(format!(
-                "{name} disagrees\ntable {table}\nexpected: {line}ours:     {ours}"
-            ));
-        }
-        self.add(table, line);
-        Ok(())
-    }
+    files::exit_code("ticks", write_files())
 }
 
 fn write_files() -> Result<(), String> {
@@ -86,20 +50,27 @@ fn write_files() -> Result<(), String> {
     }
     add_edges(&mut files)?;
     add_random(&mut files)?;
-    println!(
-        "tables {}, input bytes {}, expected bytes {}",
-        files.tables,
-        files.input.len(),
-        files.expected.len()
-    );
-    arguments.write(&files.input, files.expected.as_bytes())
+    files.write("tables", &arguments)
+}
+
+/// Adds a table whose line is known.
+fn add_known(files: &mut Files, name: &str, table: &[u8], line: &str) -> Result<(), String> {
+    let ours = tick_line(table);
+    if ours != line {
+        let table = hex::encode(table);
+        return Err(format!(
+            "{name} disagrees\ntable {table}\nexpected: {line}ours:     {ours}"
+        ));
+    }
+    files.add(table, line);
+    Ok(())
 }
 
 fn add_vectors(files: &mut Files, file: &Path) -> Result<(), String> {
     let vectors = read_ticks(file);
     for (at, vector) in vectors.iter().enumerate() {
         let name = format!("vector line {}", at + 1);
-        files.add_known(&name, &vector.table, &vector.line)?;
+        add_known(files, &name, &vector.table, &vector.line)?;
     }
     println!("vectors {}, all agree", vectors.len());
     Ok(())
@@ -107,14 +78,15 @@ fn add_vectors(files: &mut Files, file: &Path) -> Result<(), String> {
 
 /// The edges of F-2, then those of document 01.
 fn add_edges(files: &mut Files) -> Result<(), String> {
-    let before = files.tables;
+    let before = files.count();
     for edge in tick_edges::edges() {
-        files.add_known(&format!("edge {}", edge.name), &edge.table, &edge.line)?;
+        let name = format!("edge {}", edge.name);
+        add_known(files, &name, &edge.table, &edge.line)?;
     }
     for edge in edges::edges() {
         files.add(&edge.table, &tick_line(&edge.table));
     }
-    println!("edges {}", files.tables - before);
+    println!("edges {}", files.count() - before);
     Ok(())
 }
 
@@ -137,7 +109,7 @@ fn add_random(files: &mut Files) -> Result<(), String> {
         let most = *random.pick(&[20, 60, 200, 1024]);
         let nodes = random.between(2, most);
         let (table, list) = one_list(random, nodes);
-        files.add_known("one list", &table, &line(&table, &list))?;
+        add_known(files, "one list", &table, &line(&table, &list))?;
     }
     println!("bodies that end with one list {ONE_LIST}");
     Ok(())

@@ -1,5 +1,6 @@
 //! What the tests, the generators and the comparisons share: hexadecimal,
-//! random numbers, vector files, tables and instants to try.
+//! random numbers, vector files, tables and instants to try, and how the
+//! generators write them.
 
 pub mod arguments;
 pub mod bodies;
@@ -7,8 +8,11 @@ pub mod calls;
 pub mod cases;
 pub mod damage;
 pub mod edges;
+pub mod every;
 pub mod families;
+pub mod files;
 pub mod hex;
+pub mod nodes;
 pub mod numbers;
 pub mod printer;
 pub mod programs;

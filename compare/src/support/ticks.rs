@@ -2,21 +2,12 @@
 //! programs.
 
 use super::damage::{bad_table, pauses_to_nothing, BAD_NUMBERS};
+use super::nodes::{
+    EXIT, LOOP, NOTHING, PARALLEL, PAUSE, PRESENT, SEQUENCE, SIGNAL, SUSPEND, TRAP,
+};
 use super::programs::{accepted, statement, Room, Shape, SHAPES, SHAPES_OF_PRESENTS};
 use super::random::Random;
 use crate::checks::{MOST_DEPTH, MOST_TRAPS};
-
-const NOTHING: &[u8] = &[1, 0];
-const PAUSE: &[u8] = &[2, 0];
-/// To the innermost trap.
-const EXIT: &[u8] = &[4, 0];
-const SIGNAL: &[u8] = &[5, 4];
-const PRESENT: &[u8] = &[6, 3];
-const SUSPEND: &[u8] = &[7, 4];
-const LOOP: &[u8] = &[8, 0];
-const SEQUENCE: &[u8] = &[9, 0];
-const PARALLEL: &[u8] = &[10, 0];
-const TRAP: &[u8] = &[11, 0];
 
 /// The numbers of `table` that give each kind of table and each shape its share.
 pub const NUMBERS: usize = 7 * ALL_SHAPES;

@@ -1,12 +1,12 @@
 -- What a caller learns of a reading, and one read of it.
 use Prim.Native.Nat.{ℕ, zero, suc, _+_, _-_, _^_, _≤_, _<_}
 use native.Mathlib.Omega.{arith}
-use mathlib.Core.Path.{_≡_, refl, sym, _∙_}
+use mathlib.Core.Path.{_≡_, refl, sym, subst, _∙_}
 use mathlib.Core.List.{List}
 use lib.ListN.{length, take}
-use lib.Seq.{take-take}
+use lib.Seq.{take-take, length-take-le, take-all}
 use borrow.Rule.Slice.PartMut.{putMid, take-put}
-use Rattle.input.specs.Reads.{Within, Fits, stepOf, ReadBehind, Reads, full, over, on}
+use Rattle.input.specs.Reads.{Within, Fits, stepOf, ReadBehind, Reads, full, over, on, OfInput}
 use Rattle.input.specs.declared.Input.{Input}
 use Rattle.input.specs.declared.Input.the-variants.{Bytes, Failed}
 use Rattle.input.specs.declared.Progress.the-variants.{On, Over}
@@ -65,3 +65,19 @@ delivered (over piece k e) = k .front
 delivered {done} {b} {b′} (on {next = next} {c = c} piece k e reads) =
     let more = on-within done (length b - done) piece e (k .came) in
     sym (take-take done next b′ (omega (arith, more .0))) ∙ rw (delivered reads) (take-take done next c (omega (arith, more .0))) ∙ k .front
+
+-- ---- of the whole input
+
+module _ {b b′ : List ℕ} {Said : List ℕ → Type 0} where
+  -- what is said of more than `most` bytes at the front of an input, and so of all of them, is said of the whole input
+  pub of-front :
+      {read : ℕ} (most : ℕ) → most < length b → Reads 0 b b′ (Bytes read) →
+      ((n : ℕ) (input : List ℕ) → most < n → Said (take n input) → Said input) → Said (take read b′) → OfInput b b′ Said
+  of-front {read} most room reads front o =
+      record { read = read; reads = reads; whole = λ input e. front (length b′) input (omega (arith, same-size reads)) (subst Said (sym e) o) }
+
+  -- the input may be what was read and no more
+  pub of-read : (x : OfInput b b′ Said) → Said (take (x .read) b′)
+  of-read x =
+      let n : length (take (x .read) b′) ≤ length b′ = omega (arith, length-take-le (x .read) b′ (within (x .reads)), within (x .reads)) in
+      x .whole (take (x .read) b′) (take-all (length b′) (take (x .read) b′) n)

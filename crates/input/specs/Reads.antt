@@ -43,6 +43,14 @@ pub data Reads : (done : ℕ) (b b′ : List ℕ) (r : Input) → Type 0 where
   -- after a read it goes on
   on : {done next : ℕ} {b c b′ : List ℕ} {r : Input} (piece : Input) → ReadBehind done b c piece → stepOf done piece ≡ On next → Reads next c b′ r → Reads done b b′ r
 
+-- what is said of the whole input where its bytes may not all fit in the buffer
+pub record OfInput (b b′ : List ℕ) (Said : List ℕ → Type 0) : Type 0 where
+  -- so many bytes were read
+  pub read : ℕ
+  pub reads : Reads 0 b b′ (Bytes read)
+  -- whatever the whole input is: if they are as many of its bytes as fit in the buffer
+  pub whole : (input : List ℕ) → take (length b′) input ≡ take read b′ → Said input
+
 -- whether the bytes that came fill a buffer of this length
 abbrev pub isFull : Input → ℕ → Bool
 isFull (Bytes n) room = eqb n room

@@ -2,6 +2,7 @@
 // system delivers, and how many, no contract can say, since `libc::read`'s does not. So the gate runs the programs on inputs
 // of many lengths, whole and in pieces (tools/test_input.sh).
 ghost use mathlib.Core.Path.{_≡_};
+ghost use Prim.Native.Nat.{_+_, _<_, _≤_};
 ghost use lib.ListN.{length};
 ghost use Rattle.input.specs.Reads.{Within, Fits, stepOf, Reads, Fills};
 
@@ -76,4 +77,36 @@ pub fn read_full(buffer: &mut [u8]) -> bool
         Input::Bytes { length } => length == buffer.len(),
         Input::Failed => false,
     }
+}
+
+fn wide(x: u8) -> usize
+    ensures { λ r. ⌜ r ≤ 255 ⌝ }
+{
+    x as usize
+}
+
+// A length in two bytes, lowest first.
+pub fn length_at(head: &[u8], at: usize) -> usize
+    requires { ⌜ at + 1 < length (now head) ⌝ }
+    ensures { λ r. ⌜ r ≤ 65535 ⌝ }
+{
+    wide(head[at]) + 256 * wide(head[at + 1])
+}
+
+// Reads a length and then as many bytes, to the buffer's front. It fails where the input ends before, or they do not fit.
+pub fn read_counted(buffer: &mut [u8]) -> Input
+    ensures { λ r. ⌜ Within r (length (now (buffer .exit))) ⌝ }
+{
+    let mut head = [0u8; 2];
+    if !read_full(&mut head) {
+        return Input::Failed;
+    }
+    let length = length_at(&head, 0);
+    if buffer.len() < length {
+        return Input::Failed;
+    }
+    if !read_full(&mut buffer[..length]) {
+        return Input::Failed;
+    }
+    Input::Bytes { length }
 }

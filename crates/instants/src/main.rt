@@ -10,14 +10,6 @@ fn wide(x: u8) -> usize
     x as usize
 }
 
-// Two bytes, lowest first.
-fn length_at(head: &[u8], at: usize) -> usize
-    requires { ⌜ at + 1 < length (now head) ⌝ }
-    ensures { λ r. ⌜ r ≤ 65535 ⌝ }
-{
-    wide(head[at]) + 256 * wide(head[at + 1])
-}
-
 fn successor(byte: u8) -> u8 {
     if byte == 255 { 0 } else { byte + 1 }
 }
@@ -170,10 +162,10 @@ fn run_next() -> bool {
     if !input::read_full(&mut head) {
         return false;
     }
-    let t = length_at(&head, 1);
-    let a = length_at(&head, 3);
-    let s = length_at(&head, 5);
-    let e = length_at(&head, 7);
+    let t = input::length_at(&head, 1);
+    let a = input::length_at(&head, 3);
+    let s = input::length_at(&head, 5);
+    let e = input::length_at(&head, 7);
     let mut table = io::large_buffer();
     let mut answers = io::large_buffer();
     let mut state = io::large_buffer();

@@ -5,10 +5,10 @@ use mathlib.Core.Logic.{_⊎_, inl, inr}
 use mathlib.Core.Option.{Option, none, some}
 use mathlib.Core.List.{List, [], _∷_, _++_}
 use Prim.Native.Nat.{ℕ, zero, suc, _+_, _≤_, _<_}
+use native.Mathlib.Nat.{eq-or-lt-of-le}
 use native.Mathlib.Omega.{arith}
 use lib.ListN.{length, length-append}
-use lib.Dec.{leb, leb→le, nleb→lt}
-use Rattle.codes.proofs.Bools.{toT, toNot}
+use borrow.Author.Tests.{leb-true, leb-false}
 use Rattle.starts.specs.Ticks.{Bits, Sooner, here, further}
 use Rattle.starts.specs.Summary.{withoutEnded, least}
 use Rattle.starts.specs.Walk.{Need, noMore}
@@ -58,19 +58,23 @@ pub number-of : (S : Lists) (need : Need) (x : Option ℕ) → Costs S need x �
 number-of S need none c j v r s e = absurd (c j v r s e)
 number-of S need (some m) c j v r s e = record { number = m; is = refl; costs = c; small = c .least j v r s e }
 
+-- the least of a set is that of a larger one, where no list comes to less
+pub in-larger : (S T : Lists) (need : Need) {m n : ℕ} → ((k : ℕ) (u : List ℕ) → S k u → T k u) → m ≡ n → ((j : ℕ) (v : List ℕ) (r : ℕ) → T j v → need j ≡ some r → n ≤ length v + r) → Least S need m → Least T need n
+in-larger S T need to same low c =
+    record {
+      code = c .code;
+      used = c .used;
+      left = c .left;
+      is = to (c .code) (c .used) (c .is);
+      needs = c .needs;
+      total = c .total ∙ same;
+      least = low;
+    }
+
 -- Two sets with the same lists.
 module _ (S T : Lists) (need : Need) (to : (k : ℕ) (u : List ℕ) → S k u → T k u) (from : (k : ℕ) (u : List ℕ) → T k u → S k u) where
   pub same-least : {m : ℕ} → Least S need m → Least T need m
-  same-least c =
-      record {
-        code = c .code;
-        used = c .used;
-        left = c .left;
-        is = to (c .code) (c .used) (c .is);
-        needs = c .needs;
-        total = c .total;
-        least = λ j v r s e. c .least j v r (from j v s) e;
-      }
+  same-least c = in-larger S T need to refl (λ j v r s e. c .least j v r (from j v s) e) c
 
   pub same-walks : {m i : ℕ} {u : List ℕ} → Walks S need m u i → Walks T need m u i
   same-walks {i = i} {u = u} c =
@@ -209,19 +213,13 @@ module _ (S₁ S₂ : Lists) (need : Need) where
   test-high m a n d c =
       omega (arith, c .least (d .code) (a ∷ d .used) (d .left) record { head = a; tail = d .used; answers = refl; is = d .is } (d .needs), d .total)
 
-  le-of : (x y : ℕ) → leb x y ≡ true → x ≤ y
-  le-of x y e = leb→le x y (toT (leb x y) e)
-
-  lt-of : (x y : ℕ) → leb x y ≡ false → y < x
-  lt-of x y e = nleb→lt x y (toNot (leb x y) e)
-
   pub absent-cost : (m : ℕ) (x₁ x₂ : Option ℕ) → Costs S₁ need x₁ → Costs S₂ need x₂ → noMore x₂ x₁ ≡ true → Least (Tests S₁ S₂) need m → (n : ℕ) × Least S₂ need n × (m ≡ suc n)
   absent-cost m none none c d e l = absurd (let z = test-low m m (λ j v r s f. absurd (c j v r s f)) (λ j v r s f. absurd (d j v r s f)) l in omega arith)
   absent-cost m none (some n) c d e l =
       (n, d, let z = test-low m n (λ j v r s f. absurd (c j v r s f)) (d .least) l in let w = test-high m 0 n d l in omega arith)
   absent-cost m (some k) none c d e l = let z : _≡_ {A = ℕ} 0 1 = cc in absurd (omega arith)
   absent-cost m (some k) (some n) c d e l =
-      let h = le-of n k e in
+      let h = leb-true n k e in
       (n, d, let z = test-low m n (λ j v r s f. let g = c .least j v r s f in omega arith) (d .least) l in let w = test-high m 0 n d l in omega arith)
 
   pub present-cost : (m : ℕ) (x₁ x₂ : Option ℕ) → Costs S₁ need x₁ → Costs S₂ need x₂ → noMore x₂ x₁ ≡ false → Least (Tests S₁ S₂) need m → (n : ℕ) × Least S₁ need n × (m ≡ suc n) × ((j : ℕ) (v : List ℕ) (r : ℕ) → S₂ j v → need j ≡ some r → n < length v + r)
@@ -234,51 +232,45 @@ module _ (S₁ S₂ : Lists) (need : Need) where
     λ j v r s f. absurd (d j v r s f),
   )
   present-cost m (some k) (some n) c d e l =
-      let h = lt-of n k e in (
+      let h = leb-false n k e in (
         k,
         c,
         let z = test-low m k (c .least) (λ j v r s f. let g = d .least j v r s f in omega arith) l in let w = test-high m 1 k c l in omega arith,
         λ j v r s f. let g = d .least j v r s f in omega arith,
       )
 
-  pub absent-walks : (m n : ℕ) (u : List ℕ) (i : ℕ) → m ≡ suc n → Walks S₂ need n u i → Walks (Tests S₁ S₂) need m (0 ∷ u) i
-  absent-walks m n u i z x =
+  -- an answer, then the walk of its branch, where no list with a smaller answer comes to as few
+  answered-walks : (a m n : ℕ) (u : List ℕ) (i : ℕ) → a ≤ 1 → m ≡ suc n → ((j r b : ℕ) (v : List ℕ) → branch S₁ S₂ b j v → need j ≡ some r → length v + r ≡ n → a ≤ b) → Walks (branch S₁ S₂ a) need n u i → Walks (Tests S₁ S₂) need m (a ∷ u) i
+  answered-walks a m n u i bit z least x =
       record {
-        bits = (omega arith, x .bits);
-        is = record { head = 0; tail = u; answers = refl; is = x .is };
+        bits = (bit, x .bits);
+        is = record { head = a; tail = u; answers = refl; is = x .is };
         left = x .left;
         needs = x .needs;
         total = omega (arith, x .total);
         first = λ j v r s e f. rw (s .answers) (go j r (s .head) (s .tail) (s .is) e (let y = ap length (s .answers) in omega arith));
       }
     where
-      further-on : (j : ℕ) (v : List ℕ) → ((v ≡ u) × (j ≡ i)) ⊎ Sooner u v → ((0 ∷ v ≡ 0 ∷ u) × (j ≡ i)) ⊎ Sooner (0 ∷ u) (0 ∷ v)
-      further-on j v (inl (a, b)) = inl (ap (λ l. 0 ∷ l) a, b)
-      further-on j v (inr q) = inr (further 0 q)
+      further-on : (j : ℕ) (v : List ℕ) → ((v ≡ u) × (j ≡ i)) ⊎ Sooner u v → ((a ∷ v ≡ a ∷ u) × (j ≡ i)) ⊎ Sooner (a ∷ u) (a ∷ v)
+      further-on j v (inl (e, f)) = inl (ap (λ l. a ∷ l) e, f)
+      further-on j v (inr q) = inr (further a q)
 
-      go : (j r a : ℕ) (v : List ℕ) → branch S₁ S₂ a j v → need j ≡ some r → length v + r ≡ n → ((a ∷ v ≡ 0 ∷ u) × (j ≡ i)) ⊎ Sooner (0 ∷ u) (a ∷ v)
-      go j r zero v s e f = further-on j v (x .first j v r s e f)
-      go j r (suc a) v s e f = inr (here 0 (suc a) u v (omega arith))
+      go : (j r b : ℕ) (v : List ℕ) → branch S₁ S₂ b j v → need j ≡ some r → length v + r ≡ n → ((b ∷ v ≡ a ∷ u) × (j ≡ i)) ⊎ Sooner (a ∷ u) (b ∷ v)
+      go j r b v s e f = by (eq-or-lt-of-le (least j r b v s e f)) s
+        where
+          by : (a ≡ b) ⊎ (a < b) → branch S₁ S₂ b j v → ((b ∷ v ≡ a ∷ u) × (j ≡ i)) ⊎ Sooner (a ∷ u) (b ∷ v)
+          by (inl y) t = rw (sym y) (further-on j v (x .first j v r (subst (λ c. branch S₁ S₂ c j v) (sym y) t) e f))
+          by (inr l) t = inr (here a b u v l)
+
+  pub absent-walks : (m n : ℕ) (u : List ℕ) (i : ℕ) → m ≡ suc n → Walks S₂ need n u i → Walks (Tests S₁ S₂) need m (0 ∷ u) i
+  absent-walks m n u i z x = answered-walks 0 m n u i (omega arith) z (λ j r b v s e f. omega arith) x
 
   pub present-walks : (m n : ℕ) (u : List ℕ) (i : ℕ) → m ≡ suc n → ((j : ℕ) (v : List ℕ) (r : ℕ) → S₂ j v → need j ≡ some r → n < length v + r) → Walks S₁ need n u i → Walks (Tests S₁ S₂) need m (1 ∷ u) i
-  present-walks m n u i z more x =
-      record {
-        bits = (omega arith, x .bits);
-        is = record { head = 1; tail = u; answers = refl; is = x .is };
-        left = x .left;
-        needs = x .needs;
-        total = omega (arith, x .total);
-        first = λ j v r s e f. rw (s .answers) (go j r (s .head) (s .tail) (s .is) e (let y = ap length (s .answers) in omega arith));
-      }
+  present-walks m n u i z more x = answered-walks 1 m n u i (omega arith) z least x
     where
-      further-on : (j : ℕ) (v : List ℕ) → ((v ≡ u) × (j ≡ i)) ⊎ Sooner u v → ((1 ∷ v ≡ 1 ∷ u) × (j ≡ i)) ⊎ Sooner (1 ∷ u) (1 ∷ v)
-      further-on j v (inl (a, b)) = inl (ap (λ l. 1 ∷ l) a, b)
-      further-on j v (inr q) = inr (further 1 q)
-
-      go : (j r a : ℕ) (v : List ℕ) → branch S₁ S₂ a j v → need j ≡ some r → length v + r ≡ n → ((a ∷ v ≡ 1 ∷ u) × (j ≡ i)) ⊎ Sooner (1 ∷ u) (a ∷ v)
-      go j r zero v s e f = absurd (omega (arith, more j v r s e))
-      go j r (suc zero) v s e f = further-on j v (x .first j v r s e f)
-      go j r (suc (suc a)) v s e f = inr (here 1 (suc (suc a)) u v (omega arith))
+      least : (j r b : ℕ) (v : List ℕ) → branch S₁ S₂ b j v → need j ≡ some r → length v + r ≡ n → 1 ≤ b
+      least j r zero v s e f = absurd (omega (arith, more j v r s e))
+      least j r (suc b) v s e f = omega arith
 
 -- The codes turned by a function.
 pub record Image (f : ℕ → ℕ) (S : Lists) (k : ℕ) (u : List ℕ) : Type 0 where

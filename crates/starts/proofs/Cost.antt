@@ -12,7 +12,7 @@ use Rattle.starts.specs.Summary.{Starts, Gives, upTo, either, together, 
 use Rattle.starts.specs.Walk.{Need, cost, Low, Below}
 use Rattle.starts.proofs.Exact.{Exact, least-weighs}
 use Rattle.starts.proofs.Triples.{exact, in-start}
-use Rattle.starts.proofs.Bind.{Lists, Least, Costs, same-least}
+use Rattle.starts.proofs.Bind.{Lists, Least, Costs, in-larger, same-least}
 
 -- the lists of a statement
 abbrev pub Says : (ℕ → Starts) → Lists
@@ -29,30 +29,12 @@ union-costs S T U need f g out none none c d = λ j v r s e. go j v r e (out j v
     go : (j : ℕ) (v : List ℕ) (r : ℕ) → need j ≡ some r → S j v ⊎ T j v → ⊥
     go j v r e (inl s) = c j v r s e
     go j v r e (inr s) = d j v r s e
-union-costs S T U need f g out none (some n) c d =
-    record {
-      code = d .code;
-      used = d .used;
-      left = d .left;
-      is = g (d .code) (d .used) (d .is);
-      needs = d .needs;
-      total = d .total;
-      least = λ j v r s e. go j v r e (out j v s);
-    }
+union-costs S T U need f g out none (some n) c d = in-larger T U need g refl (λ j v r s e. go j v r e (out j v s)) d
   where
     go : (j : ℕ) (v : List ℕ) (r : ℕ) → need j ≡ some r → S j v ⊎ T j v → n ≤ length v + r
     go j v r e (inl s) = absurd (c j v r s e)
     go j v r e (inr s) = d .least j v r s e
-union-costs S T U need f g out (some m) none c d =
-    record {
-      code = c .code;
-      used = c .used;
-      left = c .left;
-      is = f (c .code) (c .used) (c .is);
-      needs = c .needs;
-      total = c .total;
-      least = λ j v r s e. go j v r e (out j v s);
-    }
+union-costs S T U need f g out (some m) none c d = in-larger S U need f refl (λ j v r s e. go j v r e (out j v s)) c
   where
     go : (j : ℕ) (v : List ℕ) (r : ℕ) → need j ≡ some r → S j v ⊎ T j v → m ≤ length v + r
     go j v r e (inl s) = c .least j v r s e
@@ -60,30 +42,12 @@ union-costs S T U need f g out (some m) none c d =
 union-costs S T U need f g out (some m) (some n) c d = pick (decLe m n)
   where
     go : (j : ℕ) (v : List ℕ) (r : ℕ) → need j ≡ some r → S j v ⊎ T j v → min m n ≤ length v + r
-    go j v r e (inl s) = let h = c .least j v r s e in omega arith
-    go j v r e (inr s) = let h = d .least j v r s e in omega arith
+    go j v r e (inl s) = omega (arith, c .least j v r s e)
+    go j v r e (inr s) = omega (arith, d .least j v r s e)
 
     pick : Dec (m ≤ n) → Least U need (min m n)
-    pick (yes h) =
-        record {
-          code = c .code;
-          used = c .used;
-          left = c .left;
-          is = f (c .code) (c .used) (c .is);
-          needs = c .needs;
-          total = omega (arith, c .total);
-          least = λ j v r s e. go j v r e (out j v s);
-        }
-    pick (no h) =
-        record {
-          code = d .code;
-          used = d .used;
-          left = d .left;
-          is = g (d .code) (d .used) (d .is);
-          needs = d .needs;
-          total = omega (arith, d .total);
-          least = λ j v r s e. go j v r e (out j v s);
-        }
+    pick (yes h) = in-larger S U need f (omega arith) (λ j v r s e. go j v r e (out j v s)) c
+    pick (no h) = in-larger T U need g (omega arith) (λ j v r s e. go j v r e (out j v s)) d
 
 module _ (G : ℕ → Starts) (L : ℕ → Option ℕ) (exact : (k : ℕ) → Exact (λ u n. length u) (λ x y. x ≤ y) (L k) (G k)) (need : Need) where
   abbrev At : ℕ → Lists

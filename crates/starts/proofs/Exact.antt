@@ -85,31 +85,27 @@ module _ {A : Type 0} {pick join : A → A → A} {weigh : List ℕ → ℕ → 
             (w .keeps x _ x′ _ (o .first (b .before) (b .entriesBefore) (b .first)) (d .first (b .after) (b .entriesAfter) (b .second)));
       }
 
-  absents : Reached weigh Le (weigh (0 ∷ []) 0) (Took IsAbsent)
-  absents =
+  -- one answer, where it weighs no more than any other of its kind
+  took : {Is : ℕ → Type 0} (a : ℕ) → a ≤ 1 → Is a → ((b : ℕ) → Is b → Le (weigh (a ∷ []) 0) (weigh (b ∷ []) 0)) → Reached weigh Le (weigh (a ∷ []) 0) (Took Is)
+  took a bit is least =
       record {
-        used = 0 ∷ [];
+        used = a ∷ [];
         many = 0;
-        bits = (omega arith, tt);
-        is = record { answer = 0; is = tt; answers = refl; entries = refl };
+        bits = (bit, tt);
+        is = record { answer = a; is = is; answers = refl; entries = refl };
         weight = refl;
-        first = λ u n b. rw (b .answers, b .entries) (go (b .answer) (b .is));
+        first = λ u n b. rw (b .answers, b .entries) (least (b .answer) (b .is));
       }
+
+  absents : Reached weigh Le (weigh (0 ∷ []) 0) (Took IsAbsent)
+  absents = took 0 (omega arith) tt go
     where
       go : (a : ℕ) → IsAbsent a → Le (weigh (0 ∷ []) 0) (weigh (a ∷ []) 0)
       go zero o = w .same _
       go (suc a) o = absurd o
 
   presents : Reached weigh Le (weigh (1 ∷ []) 0) (Took IsPresent)
-  presents =
-      record {
-        used = 1 ∷ [];
-        many = 0;
-        bits = (omega arith, tt);
-        is = record { answer = 1; is = tt; answers = refl; entries = refl };
-        weight = refl;
-        first = λ u n b. rw (b .answers, b .entries) (go (b .answer) (b .is));
-      }
+  presents = took 1 (omega arith) tt go
     where
       go : (a : ℕ) → IsPresent a → Le (weigh (1 ∷ []) 0) (weigh (a ∷ []) 0)
       go zero o = absurd o

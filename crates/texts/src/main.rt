@@ -2,6 +2,7 @@
 // bytes. For each a line is written: `ok`, the nodes, the signals and the bytes of the table; or the refusal. The expected output
 // comes from another program (compare/).
 ghost use Prim.Native.Nat.{_≤_};
+use input::Input;
 use text::Reading;
 
 fn wide(x: u8) -> usize
@@ -45,13 +46,12 @@ fn read_one(text: &[u8]) -> bool {
 
 // Reads the next text; false at the end of the input.
 fn read_next() -> bool {
-    let mut head = [0u8; 2];
-    if !input::read_full(&mut head) {
-        return false;
-    }
-    let length = wide(head[0]) + 256 * wide(head[1]);
     let mut text = io::large_buffer();
-    input::read_full(&mut text[..length]) && read_one(&text[..length])
+    let input = input::read_counted(&mut text);
+    let Input::Bytes { length } = input else {
+        return false;
+    };
+    read_one(&text[..length])
 }
 
 // A proved loop has to end, so the texts are counted down from more than there are.

@@ -34,6 +34,5 @@ module _ (room : ℕ) (t : List ℕ) (h : 2 * maxNodes < room) where
       by false e = subst (λ x. IsLine x line) (take-all room t (ltb-false room (length t) e)) o
       by true e = go (ltb-true room (length t) e) o
 
-  -- x is what fits in the room
-  pub written-of-front : {x old new : List ℕ} {r : ℕ} → take room t ≡ x → LineWritten x old new r → LineWritten t old new r
-  written-of-front e o = record { line = o .line; is = line-of-front (subst (λ y. IsLine y (o .line)) (sym e) (o .is)); whole = o .whole }
+  pub written-of-front : {old new : List ℕ} {r : ℕ} → LineWritten (take room t) old new r → LineWritten t old new r
+  written-of-front o = record { line = o .line; is = line-of-front (o .is); whole = o .whole }

@@ -6,11 +6,11 @@ use mathlib.Core.Bool.{Bool, true, false, cond}
 use mathlib.Core.List.{List, _++_}
 use lib.Dec.{leb}
 use lib.ListN.{length, take, drop, length-append}
-use lib.Seq.{length-take-le, take-all}
 use Rattle.grammar.specs.Limits.{maxSource}
 use Rattle.input.specs.Reads.{Reads}
 use Rattle.input.specs.declared.Input.the-variants.{Bytes}
-use Rattle.input.proofs.Reading.{same-size, within}
+use Rattle.input.proofs.Reading.{of-front}
+use Rattle.input.proofs.Reading as I
 use Rattle.listing.specs.Rendering.{Rendering}
 use Rattle.listing.specs.declared.Rendered.the-variants.{Whole, TooShort}
 use Rattle.text.specs.Reading.{ReadAs}
@@ -22,18 +22,12 @@ use Rattle.translate.specs.Translates.{ReadsInput}
 
 module _ {b b′ t t′ : List ℕ} where
   pub whole : {read : ℕ} (r : Reading) → maxSource < length b → Reads 0 b b′ (Bytes read) → ReadAs (take read b′) t t′ r → ReadsInput b b′ t t′ r
-  whole {read} r room reads o = record {
-    read = read;
-    reads = reads;
-    whole = λ input e. read-of-front (length b′) input (omega (arith, same-size reads)) t t′ r (rw (← e) at o);
-  }
+  whole r room reads = of-front maxSource room reads (λ n input h. read-of-front n input h t t′ r)
 
-  -- the input may be what was read and no more, so the table lies within its buffer
+  -- the table lies within its buffer
   pub table-within : (end nodes signals : ℕ) → end ≡ 2 * nodes → ReadsInput b b′ t t′ (Done nodes signals) → end ≤ length t′
   table-within end nodes signals e x =
-      let n : length (take (x .read) b′) ≤ length b′ = omega (arith, length-take-le (x .read) b′ (within (x .reads)), within (x .reads)) in
-      let o = x .whole (take (x .read) b′) (take-all (length b′) (take (x .read) b′) n) in
-      let w = of-read .done (take (x .read) b′) t t′ nodes signals o in
+      let w = of-read .done (take (x .read) b′) t t′ nodes signals (I.of-read x) in
       omega (arith, written-long (take (x .read) b′) t t′ nodes signals w)
 
 -- a line that was written lies within its buffer

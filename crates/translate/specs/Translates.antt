@@ -2,9 +2,7 @@
 use Prim.Native.Nat.{ℕ, _*_}
 use mathlib.Core.Path.{_≡_}
 use mathlib.Core.List.{List}
-use lib.ListN.{length, take}
-use Rattle.input.specs.Reads.{Reads}
-use Rattle.input.specs.declared.Input.the-variants.{Bytes}
+use Rattle.input.specs.Reads.{Reads, OfInput}
 use Rattle.input.specs.declared.Input.the-variants.{Failed as FailedRead}
 use Rattle.text.specs.Reading.{ReadAs}
 use Rattle.text.specs.declared.Reading.{Reading}
@@ -13,12 +11,9 @@ use Rattle.text.specs.declared.Reading.the-variants.{Refused as RefusedText}
 use Rattle.translate.specs.declared.Translated.{Translated}
 use Rattle.translate.specs.declared.Translated.the-variants.{Table, Refused, Failed}
 
-pub record ReadsInput (b b′ t t′ : List ℕ) (reading : Reading) : Type 0 where
-  -- so many bytes were read
-  pub read : ℕ
-  pub reads : Reads 0 b b′ (Bytes read)
-  -- whatever the whole input is: if they are as many of its bytes as fit in the buffer, the whole input is read so
-  pub whole : (input : List ℕ) → take (length b′) input ≡ take read b′ → ReadAs input t t′ reading
+-- the whole input is read so
+abbrev pub ReadsInput : (b b′ t t′ : List ℕ) → Reading → Type 0
+ReadsInput b b′ t t′ reading = OfInput b b′ (λ input. ReadAs input t t′ reading)
 
 -- where a read fails, the table stays as it was
 abbrev pub Translates : (b b′ t t′ : List ℕ) → Translated → Type 0

@@ -31,7 +31,7 @@ use Rattle.table.proofs.Views.{Over, Both, in-place, kind-is, leaf-of, one-of, 
 use Rattle.rows.proofs.Said.{row-low, said-is, said-low, said-few}
 use Rattle.witness.specs.declared.Walked.{Walked}
 use Rattle.witness.specs.Needs.{underAt, Under, firstNeed, First, RowLow, Absent}
-use Rattle.witness.specs.Walks.{Walking, Walks}
+use Rattle.witness.specs.Walks.{Leaves, Walking, Walks}
 
 -- a walk that is known otherwise
 module _ {p : Stmt} {need answers answers′ : List ℕ} {at : ℕ} {r : Walked} where
@@ -174,39 +174,26 @@ module _ {t sizes rows need answers : List ℕ} {i at : ℕ} (o : Walking t size
     agrees-one : (u : Unary) (p : Stmt) → stmtAt t i ≡ one u p → Agree 63 (valuesOf under) (innerNeed need u (valuesOf need))
     agrees-one u p e j h = ap valueOf (d .at j (omega arith) ∙ ap (λ x. underAt x 0 need j) (kind-at e)) ∙ under-one need u p j
 
-    module _ {answers′ : List ℕ} {inner : Walked} (w : Walks (stmtAt t (i - 1)) under answers answers′ at inner) {tr : Bool} (et : tr ≡ isTrap k) where
+    module _ {answers′ : List ℕ} {inner : Walked} (w : Walks (stmtAt t (i - 1)) under answers answers′ at inner) where
       -- the walk of the child, with what is needed after it
       inner-is : (u : Unary) (p : Stmt) → Over t i (getD sizes (i - 1) 0) u p → Walks p under answers answers′ at inner × (walk 63 p (valuesOf under) ≡ walk 63 p (innerNeed need u (valuesOf need)))
       inner-is u p v = (at-stmt (sym (v .child)) w, walk-agree 63 p (below-at (v .is) .1) (valuesOf under) (innerNeed need u (valuesOf need)) (agrees-one u p (v .is)))
 
-      pub trap-returns : {c : ℕ} {r : Walked} → tr ≡ true → c ≡ catchCode (inner .code) → r .code ≡ c → r .at ≡ inner .at → Walks (stmtAt t i) need answers answers′ at r
+      pub one-returns : {r : Walked} → Leaves k inner r → Walks (stmtAt t i) need answers answers′ at r
       unfolding kindOf
-      trap-returns {r = r} y ec er ea =
+      one-returns {r} l =
           let (u, p, v) = one-of (o .formed .measured) (inside o) ek en refl z in
           let (w′, same) = inner-is u p v in
-          go u p v w′ same (sym (et ∙ ap isTrap (kind-at (v .is))) ∙ y)
+          go u p v w′ same (l .code ∙ ap (λ c. cond (isTrap c) (catchCode (inner .code)) (inner .code)) (kind-at (v .is)))
         where
-          go : (u : Unary) (p : Stmt) → Over t i (getD sizes (i - 1) 0) u p → Walks p under answers answers′ at inner → walk 63 p (valuesOf under) ≡ walk 63 p (innerNeed need u (valuesOf need)) → isTrap (kindOf (kind (one u p))) ≡ true → Walks (stmtAt t i) need answers answers′ at r
-          go (signal s) p v w′ same x = let q : _≡_ {A = ℕ} 0 1 = cc in absurd (omega arith)
-          go (suspend s) p v w′ same x = let q : _≡_ {A = ℕ} 0 1 = cc in absurd (omega arith)
-          go loop p v w′ same x = let q : _≡_ {A = ℕ} 0 1 = cc in absurd (omega arith)
-          go trap p v w′ same x =
+          go : (u : Unary) (p : Stmt) → Over t i (getD sizes (i - 1) 0) u p → Walks p under answers answers′ at inner → walk 63 p (valuesOf under) ≡ walk 63 p (innerNeed need u (valuesOf need)) → r .code ≡ cond (isTrap (kindOf (kind (one u p)))) (catchCode (inner .code)) (inner .code) → Walks (stmtAt t i) need answers answers′ at r
+          go (signal s) p v w′ same e = at-stmt (v .is) (walks-as (walk 63 p (valuesOf under)) (sym same) (e ∙ w′ .code) (l .at ∙ w′ .after) (w′ .written))
+          go (suspend s) p v w′ same e = at-stmt (v .is) (walks-as (walk 63 p (valuesOf under)) (sym same) (e ∙ w′ .code) (l .at ∙ w′ .after) (w′ .written))
+          go loop p v w′ same e = at-stmt (v .is) (walks-as (walk 63 p (valuesOf under)) (sym same) (e ∙ w′ .code) (l .at ∙ w′ .after) (w′ .written))
+          go trap p v w′ same e =
               at-stmt (v .is)
               (walks-as (recode catchCode (walk 63 p (valuesOf under))) (ap (recode catchCode) (sym same))
-              (er ∙ ec ∙ ap catchCode (w′ .code)) (ea ∙ w′ .after) (w′ .written))
-
-      pub plain-returns : tr ≡ false → Walks (stmtAt t i) need answers answers′ at inner
-      unfolding kindOf
-      plain-returns y =
-          let (u, p, v) = one-of (o .formed .measured) (inside o) ek en refl z in
-          let (w′, same) = inner-is u p v in
-          go u p v w′ same (sym (et ∙ ap isTrap (kind-at (v .is))) ∙ y)
-        where
-          go : (u : Unary) (p : Stmt) → Over t i (getD sizes (i - 1) 0) u p → Walks p under answers answers′ at inner → walk 63 p (valuesOf under) ≡ walk 63 p (innerNeed need u (valuesOf need)) → isTrap (kindOf (kind (one u p))) ≡ false → Walks (stmtAt t i) need answers answers′ at inner
-          go (signal s) p v w′ same x = at-stmt (v .is) (walks-as (walk 63 p (valuesOf under)) (sym same) (w′ .code) (w′ .after) (w′ .written))
-          go (suspend s) p v w′ same x = at-stmt (v .is) (walks-as (walk 63 p (valuesOf under)) (sym same) (w′ .code) (w′ .after) (w′ .written))
-          go loop p v w′ same x = at-stmt (v .is) (walks-as (walk 63 p (valuesOf under)) (sym same) (w′ .code) (w′ .after) (w′ .written))
-          go trap p v w′ same x = let q : _≡_ {A = ℕ} 0 1 = cc in absurd (omega arith)
+              (e ∙ ap catchCode (w′ .code)) (l .at ∙ w′ .after) (w′ .written))
 
   -- ---- two children; s is the size of the second
   module _ (z : n ≡ 0 → ⊥) (y : n ≡ 1 → ⊥) {s : ℕ} (es : s ≡ getD sizes (i - 1) 0) where
@@ -270,27 +257,23 @@ module _ {t sizes rows need answers : List ℕ} {i at : ℕ} (o : Walking t size
           chosen : (b : Binary) (p q : Stmt) → Both t i s b p q → {x : Bool} → ab ≡ x → noMore (cost 63 q (valuesOf need)) (cost 63 p (valuesOf need)) ≡ x
           chosen b p q v e = sym (g .is ∙ ap₂ noMore (cost-is (g .other) need q (last-is b p q v (g .of-last))) (cost-is (g .then) need p (first-is b p q v (g .of-first)))) ∙ e
 
-          pub absent-returns : {answers′ : List ℕ} {r : Walked} → ab ≡ true → Walks (stmtAt t (i - 1)) need (set answers at 0) answers′ (at + 1) r → Walks (stmtAt t i) need answers answers′ at r
-          unfolding kindOf
-          absent-returns {answers′} {r} e w = let (b, p, q, v) = two-of (o .formed .measured) (inside o) ek en es z y in go b p q v (present-is b p q v f)
-            where
-              go : (b : Binary) (p q : Stmt) → Both t i s b p q → isPresent (kindOf (kind (two b p q))) ≡ true → Walks (stmtAt t i) need answers answers′ at r
-              go (present g′) p q v x =
-                  at-stmt (v .is)
-                  (answered (two (present g′) p q) q 0 (ap (λ c. cond c (answer 0 (walk 63 q (valuesOf need))) (answer 1 (walk 63 p (valuesOf need)))) (chosen (present g′) p q v e)) (at-stmt (sym (v .right)) w))
-              go sequence p q v x = let c : _≡_ {A = ℕ} 0 1 = cc in absurd (omega arith)
-              go parallel p q v x = let c : _≡_ {A = ℕ} 0 1 = cc in absurd (omega arith)
+          -- what the walk of the test is
+          told : (g′ : ℕ) (p q : Stmt) → Both t i s (present g′) p q → {x : Bool} → ab ≡ x → walk 63 (two (present g′) p q) (valuesOf need) ≡ cond x (answer 0 (walk 63 q (valuesOf need))) (answer 1 (walk 63 p (valuesOf need)))
+          told g′ p q v e = ap (λ c. cond c (answer 0 (walk 63 q (valuesOf need))) (answer 1 (walk 63 p (valuesOf need)))) (chosen (present g′) p q v e)
 
-          pub present-returns : {answers′ : List ℕ} {r : Walked} → ab ≡ false → Walks (stmtAt t (i - 1 - s)) need (set answers at 1) answers′ (at + 1) r → Walks (stmtAt t i) need answers answers′ at r
+          -- absent and the else branch, or present and the then branch
+          pub test-returns : {answers′ : List ℕ} {r : Walked} (x : Bool) → ab ≡ x → Walks (stmtAt t (cond x (i - 1) (i - 1 - s))) need (set answers at (cond x 0 1)) answers′ (at + 1) r → Walks (stmtAt t i) need answers answers′ at r
           unfolding kindOf
-          present-returns {answers′} {r} e w = let (b, p, q, v) = two-of (o .formed .measured) (inside o) ek en es z y in go b p q v (present-is b p q v f)
+          test-returns {answers′} {r} x e w = let (b, p, q, v) = two-of (o .formed .measured) (inside o) ek en es z y in go b p q v (present-is b p q v f)
             where
+              taken : (g′ : ℕ) (p q : Stmt) → Both t i s (present g′) p q → (c : Bool) → ab ≡ c → Walks (stmtAt t (cond c (i - 1) (i - 1 - s))) need (set answers at (cond c 0 1)) answers′ (at + 1) r → Walks (two (present g′) p q) need answers answers′ at r
+              taken g′ p q v true e w = answered (two (present g′) p q) q 0 (told g′ p q v e) (at-stmt (sym (v .right)) w)
+              taken g′ p q v false e w = answered (two (present g′) p q) p 1 (told g′ p q v e) (at-stmt (sym (v .left)) w)
+
               go : (b : Binary) (p q : Stmt) → Both t i s b p q → isPresent (kindOf (kind (two b p q))) ≡ true → Walks (stmtAt t i) need answers answers′ at r
-              go (present g′) p q v x =
-                  at-stmt (v .is)
-                  (answered (two (present g′) p q) p 1 (ap (λ c. cond c (answer 0 (walk 63 q (valuesOf need))) (answer 1 (walk 63 p (valuesOf need)))) (chosen (present g′) p q v e)) (at-stmt (sym (v .left)) w))
-              go sequence p q v x = let c : _≡_ {A = ℕ} 0 1 = cc in absurd (omega arith)
-              go parallel p q v x = let c : _≡_ {A = ℕ} 0 1 = cc in absurd (omega arith)
+              go (present g′) p q v y = at-stmt (v .is) (taken g′ p q v x e w)
+              go sequence p q v y = let c : _≡_ {A = ℕ} 0 1 = cc in absurd (omega arith)
+              go parallel p q v y = let c : _≡_ {A = ℕ} 0 1 = cc in absurd (omega arith)
 
       -- ---- a sequence or a parallel
       module _ (f : ip ≡ false) {or : Bool} (eo : or ≡ isSequence k) {row before : List ℕ} (a : RowAt rows (i - 1) row) (d : First or row need before) where

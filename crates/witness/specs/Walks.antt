@@ -1,14 +1,18 @@
 -- What the walk down a program answers and writes, and what else the contracts of the inner functions speak of.
 use Prim.Native.Nat.{ℕ, suc, _+_, _≤_, _<_}
 use mathlib.Core.Path.{_≡_}
+use mathlib.Core.Bool.{cond}
 use mathlib.Core.List.{List}
 use lib.ListN.{length}
 use lib.Seq.{sets}
+use Rattle.esterel.specs.Codes.{catchCode}
 use Rattle.esterel.specs.Statement.{Stmt, size}
 use Rattle.esterel.specs.Table.{refused}
 use Rattle.esterel.specs.Checks.{verdict}
+use Rattle.table.specs.Kinds.{isTrap}
 use Rattle.table.specs.Program.{programOf}
 use Rattle.table.specs.Columns.{onto, stmtAt}
+use Rattle.table.specs.declared.Kind.{Kind}
 use Rattle.table.specs.declared.Check.{Check}
 use Rattle.table.specs.declared.Check.the-variants.{Passed}
 use Rattle.table.specs.declared.Check.the-variants.{Refused as RefusedCheck}
@@ -19,6 +23,11 @@ use Rattle.rows.specs.Filled.{Formed, RowsTo}
 use Rattle.witness.specs.declared.Walked.{Walked}
 use Rattle.witness.specs.declared.Tick.{Tick}
 use Rattle.witness.specs.declared.Tick.the-variants.{Refused}
+
+-- a node with one child is left: a trap changes the code
+pub record Leaves (k : Kind) (inner r : Walked) : Type 0 where
+  pub code : r .code ≡ cond (isTrap k) (catchCode (inner .code)) (inner .code)
+  pub at : r .at ≡ inner .at
 
 -- what a walk at a node needs: the rows of the nodes below `top`, what is needed after each code, at most `most`, and room for the answers
 pub record Walking (t sizes rows need answers : List ℕ) (node at : ℕ) : Type 0 where

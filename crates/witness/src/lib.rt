@@ -12,7 +12,7 @@ ghost use Rattle.starts.specs.Ticks.{tickAnswers};
 ghost use Rattle.starts.specs.Walk.{noMore};
 ghost use Rattle.rows.specs.Rows.{valueOf, maxNumber, LowRow};
 ghost use Rattle.witness.specs.Needs.{underAt, Under, UpRow, First, RowLow, Absent};
-ghost use Rattle.witness.specs.Walks.{Walking, Walks, Goal, Faulty, refusalOf, Showing};
+ghost use Rattle.witness.specs.Walks.{Leaves, Walking, Walks, Goal, Faulty, refusalOf, Showing};
 ghost use Rattle.witness.specs.Ticks.{Tells};
 use rows::Row;
 use table::Check;
@@ -156,6 +156,19 @@ fn goes_absent(rows: &[u16], first: usize, last: usize, need: Row) -> bool
     no_more(other, then)
 }
 
+// A node with one child is left: a trap changes the code.
+fn leave(kind: Kind, inner: Walked) -> Walked
+    ensures { λ r. ⌜ Leaves kind inner r ⌝ }
+{
+    if table::is_trap(kind) {
+        return Walked {
+            code: codes::catch_code(inner.code),
+            at: inner.at,
+        };
+    }
+    inner
+}
+
 // Down the statement at a node: at a test the branch that needs less is taken, absent if equal. The answers are written from
 // `at` on.
 fn walk_at(
@@ -180,13 +193,7 @@ fn walk_at(
     if children == 1 {
         let under = need_under(kind, 0, need);
         let inner = walk_at(table, sizes, rows, last, under, answers, at);
-        if table::is_trap(kind) {
-            return Walked {
-                code: codes::catch_code(inner.code),
-                at: inner.at,
-            };
-        }
-        return inner;
+        return leave(kind, inner);
     }
     let first = last - table::size_at(sizes, last);
     if table::is_present(kind) {

@@ -2,14 +2,15 @@
 //! state of bytes 0 and 1, and every list of answers that it can take.
 
 use compare::support::cases::Call;
+use compare::support::every::{every_table, Letter};
 use compare::support::random::Random;
 
 use crate::tally::{Difference, Tally};
 use crate::trials::{Analysis, Finding, Instant, Rendering};
 
-/// All kinds, with the number of their children; an emit of the first and of
-/// the last signal; exits to the first three traps.
-const STATEMENTS: [([u8; 2], usize); 14] = [
+/// All kinds; an emit of the first and of the last signal; exits to the first three
+/// traps.
+const STATEMENTS: [Letter; 14] = [
     ([1, 0], 0),
     ([2, 0], 0),
     ([3, 0], 0),
@@ -50,7 +51,14 @@ pub fn all(tally: &mut Tally, _random: &mut Random) -> Result<(), Difference> {
 }
 
 pub fn whole(tally: &mut Tally, _random: &mut Random) -> Result<(), Difference> {
-    whole_from(&mut Vec::new(), 0, &mut |table| every_call(tally, table))
+    let mut outcome = Ok(());
+    every_whole(|table| {
+        // The first difference is the one that counts.
+        if outcome.is_ok() {
+            outcome = every_call(tally, table);
+        }
+    });
+    outcome
 }
 
 type Visit<'a> = &'a mut dyn FnMut(&[u8]) -> Result<(), Difference>;
@@ -70,22 +78,13 @@ fn all_from(table: &mut Vec<u8>, visit: Visit) -> Result<(), Difference> {
     Ok(())
 }
 
-/// All tables that begin with this one, of which so many statements are unused,
-/// and in which one is left at the end.
-fn whole_from(table: &mut Vec<u8>, unused: usize, visit: Visit) -> Result<(), Difference> {
-    let missing = WHOLE_NODES - table.len() / 2;
-    if missing == 0 {
-        return visit(table);
-    }
-    for (letter, children) in STATEMENTS {
-        // Each node still to come can make one of two.
-        if children <= unused && unused + 1 - children <= missing {
-            table.extend(letter);
-            whole_from(table, unused + 1 - children, visit)?;
-            table.truncate(table.len() - 2);
+/// Of this size alone: smaller ones are among those of `all`.
+fn every_whole(mut visit: impl FnMut(&[u8])) {
+    every_table(&STATEMENTS, WHOLE_NODES, |table| {
+        if table.len() == 2 * WHOLE_NODES {
+            visit(table);
         }
-    }
-    Ok(())
+    });
 }
 
 fn every_call(tally: &mut Tally, table: &[u8]) -> Result<(), Difference> {
@@ -139,12 +138,10 @@ mod tests {
         assert_eq!(tables, 1_118_481);
 
         let mut tables = 0;
-        let mut count = |table: &[u8]| {
+        every_whole(|table| {
             tables += 1;
             assert!(compare::table::read(table).is_ok());
-            Ok(())
-        };
-        whole_from(&mut Vec::new(), 0, &mut count).expect("nothing is compared");
+        });
         assert_eq!(tables, 224_728);
     }
 }

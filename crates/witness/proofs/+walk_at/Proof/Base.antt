@@ -5,18 +5,17 @@ use borrow.Fn.PlainCycle.{Measures, is, falls, and}
 use Rattle.witness.proofs.walk_at.Reads as walk-at
 use Rattle.witness.proofs.walk_at.Kinds as walk-at-kinds
 use Rattle.witness.proofs.+walk_at.Lts-walk_at as walk-at-lts
-use Rattle.codes.proofs.catch_code.Reads as catch-code-reads
 use Rattle.rows.proofs.load.Reads as load-reads
 use Rattle.table.proofs.arity.Reads as arity-reads
 use Rattle.table.proofs.field_at.Reads as field-at-reads
 use Rattle.table.proofs.is_present.Reads as is-present-reads
 use Rattle.table.proofs.is_sequence.Reads as is-sequence-reads
-use Rattle.table.proofs.is_trap.Reads as is-trap-reads
 use Rattle.table.proofs.kind_at.Reads as kind-at-reads
 use Rattle.table.proofs.larger.Reads as larger-reads
 use Rattle.table.proofs.size_at.Reads as size-at-reads
 use Rattle.witness.proofs.goes_absent.Reads as goes-absent-reads
 use Rattle.witness.proofs.leaf_code.Reads as leaf-code-reads
+use Rattle.witness.proofs.leave.Reads as leave-reads
 use Rattle.witness.proofs.need_first.Reads as need-first-reads
 use Rattle.witness.proofs.need_under.Reads as need-under-reads
 
@@ -30,4 +29,4 @@ abbrev pub walk-at-below : ℕ → In 4 walk-at-kinds.ps
 walk-at-below t = and 4 walk-at-kinds.ps (falls 4 walk-at-kinds.ps _<_ μ-walk-at t) walk-at.Pre
 
 abbrev pub walk-at-calls : ℕ → walk-at-lts.Claims
-walk-at-calls t = (kind-at-reads.Asked, kind-at-reads.Learnt, arity-reads.Asked, arity-reads.Learnt, field-at-reads.Asked, field-at-reads.Learnt, leaf-code-reads.Asked, leaf-code-reads.Learnt, need-under-reads.Asked, need-under-reads.Learnt, walk-at-below t, walk-at.Post, is-trap-reads.Asked, is-trap-reads.Learnt, catch-code-reads.Asked, catch-code-reads.Learnt, size-at-reads.Asked, size-at-reads.Learnt, is-present-reads.Asked, is-present-reads.Learnt, goes-absent-reads.Asked, goes-absent-reads.Learnt, is-sequence-reads.Asked, is-sequence-reads.Learnt, load-reads.Asked, load-reads.Learnt, need-first-reads.Asked, need-first-reads.Learnt, larger-reads.Asked, larger-reads.Learnt)
+walk-at-calls t = (kind-at-reads.Asked, kind-at-reads.Learnt, arity-reads.Asked, arity-reads.Learnt, field-at-reads.Asked, field-at-reads.Learnt, leaf-code-reads.Asked, leaf-code-reads.Learnt, need-under-reads.Asked, need-under-reads.Learnt, walk-at-below t, walk-at.Post, leave-reads.Asked, leave-reads.Learnt, size-at-reads.Asked, size-at-reads.Learnt, is-present-reads.Asked, is-present-reads.Learnt, goes-absent-reads.Asked, goes-absent-reads.Learnt, is-sequence-reads.Asked, is-sequence-reads.Learnt, load-reads.Asked, load-reads.Learnt, need-first-reads.Asked, need-first-reads.Learnt, larger-reads.Asked, larger-reads.Learnt)

@@ -2,12 +2,13 @@
 use borrow.Author.Needs.{needs}
 use Prim.Native.Nat.{ℕ}
 use mathlib.Core.Path.{refl}
+use mathlib.Core.Bool.{true, false}
 use native.Mathlib.Omega.{arith}
 use denote.Ref.{now}
 use lib.ListN.{length-set}
 use Rattle.table.proofs.Views.{in-table, has-last, first-le}
-use Rattle.witness.proofs.Walks.{inside, need-low, leaf-returns, one-call, trap-returns, plain-returns}
-use Rattle.witness.proofs.Walks.{last-room, first-room, last-low, first-low, answer-room, last-call, first-call, absent-returns, present-returns}
+use Rattle.witness.proofs.Walks.{inside, need-low, leaf-returns, one-call, one-returns}
+use Rattle.witness.proofs.Walks.{last-room, first-room, last-low, first-low, answer-room, last-call, first-call, test-returns}
 use Rattle.witness.proofs.Walks.{left-call, left-low, left-returns, right-call, both-returns, stays, goes-on}
 use Rattle.witness.proofs.walk_at.Reads as walk-at
 use Rattle.witness.proofs.+walk_at.Lts-walk_at as walk-at-lts
@@ -38,23 +39,14 @@ module _ (t : ℕ) where
   walk-at-requires : walk-at-lts.Need-walk-at-requires (walk-at-calls t) (walk-at-at t) walk-at.Post
   walk-at-requires c κs = (omega (arith, c .before .before .before .before .before .before .before .before .before .before .pre .0, has-last (c .before .before .before .before .before .before .before .before .before .before .pre .1 .formed .measured) (inside (c .before .before .before .before .before .before .before .before .before .before .pre .1)) (c .before .before .before .before .before .kind-at .ensures) (c .before .before .before .before .arity .ensures) (c .before .before .before .if1 .left)), one-call (c .before .before .before .before .before .before .before .before .before .before .pre .1) (c .before .before .before .before .before .kind-at .ensures) (c .before .before .before .before .arity .ensures) (c .before .before .if2 .taken) (c .before .need-under .ensures))
 
-  is-trap-requires : walk-at-lts.Need-is-trap-requires (walk-at-calls t) (walk-at-at t) walk-at.Post
-  is-trap-requires c κs = search needs
-
-  catch-code-requires : walk-at-lts.Need-catch-code-requires (walk-at-calls t) (walk-at-at t) walk-at.Post
-  catch-code-requires c κs = search needs
+  leave-requires : walk-at-lts.Need-leave-requires (walk-at-calls t) (walk-at-at t) walk-at.Post
+  leave-requires c κs = search needs
 
   same-length : walk-at-lts.Need-same-length (walk-at-calls t) (walk-at-at t) walk-at.Post
   same-length c = search needs
 
   returns-2 : walk-at-lts.Need-returns-2 (walk-at-calls t) (walk-at-at t) walk-at.Post
-  returns-2 c = trap-returns (c .before .before .before .before .before .before .before .before .before .before .before .before .before .before .before .before .pre .1) (c .before .before .before .before .before .before .before .before .before .before .before .kind-at .ensures) (c .before .before .before .before .before .before .before .before .before .before .arity .ensures) (c .before .before .before .before .before .before .before .before .if2 .taken) (c .before .before .before .before .before .before .before .need-under .ensures) (c .before .before .before .before .before .walk-at .ensures) (c .before .before .is-trap .ensures) (c .before .if3 .taken) (c .catch-code .ensures) refl refl
-
-  same-length-2 : walk-at-lts.Need-same-length-2 (walk-at-calls t) (walk-at-at t) walk-at.Post
-  same-length-2 c = search needs
-
-  returns-3 : walk-at-lts.Need-returns-3 (walk-at-calls t) (walk-at-at t) walk-at.Post
-  returns-3 c = plain-returns (c .before .before .before .before .before .before .before .before .before .before .before .before .before .before .before .pre .1) (c .before .before .before .before .before .before .before .before .before .before .kind-at .ensures) (c .before .before .before .before .before .before .before .before .before .arity .ensures) (c .before .before .before .before .before .before .before .if2 .taken) (c .before .before .before .before .before .before .need-under .ensures) (c .before .before .before .before .walk-at .ensures) (c .before .is-trap .ensures) (c .if3 .left)
+  returns-2 c = one-returns (c .before .before .before .before .before .before .before .before .before .before .before .before .before .before .pre .1) (c .before .before .before .before .before .before .before .before .before .kind-at .ensures) (c .before .before .before .before .before .before .before .before .arity .ensures) (c .before .before .before .before .before .before .if2 .taken) (c .before .before .before .before .before .need-under .ensures) (c .before .before .before .walk-at .ensures) (c .leave .ensures)
 
   size-at-requires : walk-at-lts.Need-size-at-requires (walk-at-calls t) (walk-at-at t) walk-at.Post
   size-at-requires c κs = search needs
@@ -69,34 +61,34 @@ module _ (t : ℕ) where
   goes-absent-requires c κs = (first-room (c .before .before .before .before .before .before .before .before .before .before .before .pre .1) (c .before .before .before .before .before .before .kind-at .ensures) (c .before .before .before .before .before .arity .ensures) (c .before .before .before .before .if1 .left) (c .before .before .before .if2 .left) (c .before .before .size-at .ensures), last-room (c .before .before .before .before .before .before .before .before .before .before .before .pre .1) (c .before .before .before .before .before .before .kind-at .ensures) (c .before .before .before .before .before .arity .ensures) (c .before .before .before .before .if1 .left) (c .before .before .before .if2 .left) (c .before .before .size-at .ensures), first-low (c .before .before .before .before .before .before .before .before .before .before .before .pre .1) (c .before .before .before .before .before .before .kind-at .ensures) (c .before .before .before .before .before .arity .ensures) (c .before .before .before .before .if1 .left) (c .before .before .before .if2 .left) (c .before .before .size-at .ensures), last-low (c .before .before .before .before .before .before .before .before .before .before .before .pre .1) (c .before .before .before .before .before .before .kind-at .ensures) (c .before .before .before .before .before .arity .ensures) (c .before .before .before .before .if1 .left) (c .before .before .before .if2 .left) (c .before .before .size-at .ensures), need-low (c .before .before .before .before .before .before .before .before .before .before .before .pre .1) (c .before .before .before .before .before .before .kind-at .ensures) (c .before .before .before .before .before .arity .ensures))
 
   slice-write-answers : walk-at-lts.Need-slice-write-answers (walk-at-calls t) (walk-at-at t) walk-at.Post
-  slice-write-answers c = answer-room (c .before .before .before .before .before .before .before .before .before .before .before .before .before .pre .1) (c .before .before .before .before .before .before .before .before .kind-at .ensures) (c .before .before .before .before .before .before .before .arity .ensures) (c .before .before .before .before .before .before .if1 .left) (c .before .before .before .before .before .if2 .left) (c .before .before .before .before .size-at .ensures) (c .before .before .before .is-present .ensures) (c .before .before .if4 .taken)
+  slice-write-answers c = answer-room (c .before .before .before .before .before .before .before .before .before .before .before .before .before .pre .1) (c .before .before .before .before .before .before .before .before .kind-at .ensures) (c .before .before .before .before .before .before .before .arity .ensures) (c .before .before .before .before .before .before .if1 .left) (c .before .before .before .before .before .if2 .left) (c .before .before .before .before .size-at .ensures) (c .before .before .before .is-present .ensures) (c .before .before .if3 .taken)
 
   add-walk-at : walk-at-lts.Need-add-walk-at (walk-at-calls t) (walk-at-at t) walk-at.Post
   add-walk-at c = search needs
 
   walk-at-requires-2 : walk-at-lts.Need-walk-at-requires-2 (walk-at-calls t) (walk-at-at t) walk-at.Post
-  walk-at-requires-2 c κs = (omega (arith, c .before .before .before .before .before .before .before .before .before .before .before .before .before .before .pre .0, has-last (c .before .before .before .before .before .before .before .before .before .before .before .before .before .before .pre .1 .formed .measured) (inside (c .before .before .before .before .before .before .before .before .before .before .before .before .before .before .pre .1)) (c .before .before .before .before .before .before .before .before .before .kind-at .ensures) (c .before .before .before .before .before .before .before .before .arity .ensures) (c .before .before .before .before .before .before .before .if1 .left)), last-call (c .before .before .before .before .before .before .before .before .before .before .before .before .before .before .pre .1) (c .before .before .before .before .before .before .before .before .before .kind-at .ensures) (c .before .before .before .before .before .before .before .before .arity .ensures) (c .before .before .before .before .before .before .before .if1 .left) (c .before .before .before .before .before .before .if2 .left) (c .before .before .before .before .before .size-at .ensures) (c .before .before .before .before .is-present .ensures) (c .before .before .before .if4 .taken) 0)
+  walk-at-requires-2 c κs = (omega (arith, c .before .before .before .before .before .before .before .before .before .before .before .before .before .before .pre .0, has-last (c .before .before .before .before .before .before .before .before .before .before .before .before .before .before .pre .1 .formed .measured) (inside (c .before .before .before .before .before .before .before .before .before .before .before .before .before .before .pre .1)) (c .before .before .before .before .before .before .before .before .before .kind-at .ensures) (c .before .before .before .before .before .before .before .before .arity .ensures) (c .before .before .before .before .before .before .before .if1 .left)), last-call (c .before .before .before .before .before .before .before .before .before .before .before .before .before .before .pre .1) (c .before .before .before .before .before .before .before .before .before .kind-at .ensures) (c .before .before .before .before .before .before .before .before .arity .ensures) (c .before .before .before .before .before .before .before .if1 .left) (c .before .before .before .before .before .before .if2 .left) (c .before .before .before .before .before .size-at .ensures) (c .before .before .before .before .is-present .ensures) (c .before .before .before .if3 .taken) 0)
 
-  same-length-3 : walk-at-lts.Need-same-length-3 (walk-at-calls t) (walk-at-at t) walk-at.Post
-  same-length-3 c = omega (arith, c .before .answers2 .given, length-set (now (c .before .before .before .before .before .before .before .before .before .before .before .before .before .before .before .before .before .args .answers)) (c .before .before .before .before .before .before .before .before .before .before .before .before .before .before .before .before .before .args .at) 0)
+  same-length-2 : walk-at-lts.Need-same-length-2 (walk-at-calls t) (walk-at-at t) walk-at.Post
+  same-length-2 c = omega (arith, c .before .answers2 .given, length-set (now (c .before .before .before .before .before .before .before .before .before .before .before .before .before .before .before .before .before .args .answers)) (c .before .before .before .before .before .before .before .before .before .before .before .before .before .before .before .before .before .args .at) 0)
 
-  returns-4 : walk-at-lts.Need-returns-4 (walk-at-calls t) (walk-at-at t) walk-at.Post
-  returns-4 c = absent-returns (c .before .before .before .before .before .before .before .before .before .before .before .before .before .before .before .before .before .pre .1) (c .before .before .before .before .before .before .before .before .before .before .before .before .kind-at .ensures) (c .before .before .before .before .before .before .before .before .before .before .before .arity .ensures) (c .before .before .before .before .before .before .before .before .before .before .if1 .left) (c .before .before .before .before .before .before .before .before .before .if2 .left) (c .before .before .before .before .before .before .before .before .size-at .ensures) (c .before .before .before .before .before .before .before .is-present .ensures) (c .before .before .before .before .before .before .if4 .taken) (c .before .before .before .before .before .goes-absent .ensures) (c .before .before .before .before .if5 .taken) (c .before .before .walk-at2 .ensures)
+  returns-3 : walk-at-lts.Need-returns-3 (walk-at-calls t) (walk-at-at t) walk-at.Post
+  returns-3 c = test-returns (c .before .before .before .before .before .before .before .before .before .before .before .before .before .before .before .before .before .pre .1) (c .before .before .before .before .before .before .before .before .before .before .before .before .kind-at .ensures) (c .before .before .before .before .before .before .before .before .before .before .before .arity .ensures) (c .before .before .before .before .before .before .before .before .before .before .if1 .left) (c .before .before .before .before .before .before .before .before .before .if2 .left) (c .before .before .before .before .before .before .before .before .size-at .ensures) (c .before .before .before .before .before .before .before .is-present .ensures) (c .before .before .before .before .before .before .if3 .taken) (c .before .before .before .before .before .goes-absent .ensures) true (c .before .before .before .before .if4 .taken) (c .before .before .walk-at2 .ensures)
 
   slice-write-answers-2 : walk-at-lts.Need-slice-write-answers-2 (walk-at-calls t) (walk-at-at t) walk-at.Post
-  slice-write-answers-2 c = answer-room (c .before .before .before .before .before .before .before .before .before .before .before .before .before .pre .1) (c .before .before .before .before .before .before .before .before .kind-at .ensures) (c .before .before .before .before .before .before .before .arity .ensures) (c .before .before .before .before .before .before .if1 .left) (c .before .before .before .before .before .if2 .left) (c .before .before .before .before .size-at .ensures) (c .before .before .before .is-present .ensures) (c .before .before .if4 .taken)
+  slice-write-answers-2 c = answer-room (c .before .before .before .before .before .before .before .before .before .before .before .before .before .pre .1) (c .before .before .before .before .before .before .before .before .kind-at .ensures) (c .before .before .before .before .before .before .before .arity .ensures) (c .before .before .before .before .before .before .if1 .left) (c .before .before .before .before .before .if2 .left) (c .before .before .before .before .size-at .ensures) (c .before .before .before .is-present .ensures) (c .before .before .if3 .taken)
 
   add-walk-at-2 : walk-at-lts.Need-add-walk-at-2 (walk-at-calls t) (walk-at-at t) walk-at.Post
   add-walk-at-2 c = search needs
 
   walk-at-requires-3 : walk-at-lts.Need-walk-at-requires-3 (walk-at-calls t) (walk-at-at t) walk-at.Post
-  walk-at-requires-3 c κs = (omega (arith, c .before .before .before .before .before .before .before .before .before .before .before .before .before .before .pre .0, has-last (c .before .before .before .before .before .before .before .before .before .before .before .before .before .before .pre .1 .formed .measured) (inside (c .before .before .before .before .before .before .before .before .before .before .before .before .before .before .pre .1)) (c .before .before .before .before .before .before .before .before .before .kind-at .ensures) (c .before .before .before .before .before .before .before .before .arity .ensures) (c .before .before .before .before .before .before .before .if1 .left)), first-call (c .before .before .before .before .before .before .before .before .before .before .before .before .before .before .pre .1) (c .before .before .before .before .before .before .before .before .before .kind-at .ensures) (c .before .before .before .before .before .before .before .before .arity .ensures) (c .before .before .before .before .before .before .before .if1 .left) (c .before .before .before .before .before .before .if2 .left) (c .before .before .before .before .before .size-at .ensures) (c .before .before .before .before .is-present .ensures) (c .before .before .before .if4 .taken) 1)
+  walk-at-requires-3 c κs = (omega (arith, c .before .before .before .before .before .before .before .before .before .before .before .before .before .before .pre .0, has-last (c .before .before .before .before .before .before .before .before .before .before .before .before .before .before .pre .1 .formed .measured) (inside (c .before .before .before .before .before .before .before .before .before .before .before .before .before .before .pre .1)) (c .before .before .before .before .before .before .before .before .before .kind-at .ensures) (c .before .before .before .before .before .before .before .before .arity .ensures) (c .before .before .before .before .before .before .before .if1 .left)), first-call (c .before .before .before .before .before .before .before .before .before .before .before .before .before .before .pre .1) (c .before .before .before .before .before .before .before .before .before .kind-at .ensures) (c .before .before .before .before .before .before .before .before .arity .ensures) (c .before .before .before .before .before .before .before .if1 .left) (c .before .before .before .before .before .before .if2 .left) (c .before .before .before .before .before .size-at .ensures) (c .before .before .before .before .is-present .ensures) (c .before .before .before .if3 .taken) 1)
 
-  same-length-4 : walk-at-lts.Need-same-length-4 (walk-at-calls t) (walk-at-at t) walk-at.Post
-  same-length-4 c = omega (arith, c .before .answers3 .given, length-set (now (c .before .before .before .before .before .before .before .before .before .before .before .before .before .before .before .before .before .args .answers)) (c .before .before .before .before .before .before .before .before .before .before .before .before .before .before .before .before .before .args .at) 1)
+  same-length-3 : walk-at-lts.Need-same-length-3 (walk-at-calls t) (walk-at-at t) walk-at.Post
+  same-length-3 c = omega (arith, c .before .answers3 .given, length-set (now (c .before .before .before .before .before .before .before .before .before .before .before .before .before .before .before .before .before .args .answers)) (c .before .before .before .before .before .before .before .before .before .before .before .before .before .before .before .before .before .args .at) 1)
 
-  returns-5 : walk-at-lts.Need-returns-5 (walk-at-calls t) (walk-at-at t) walk-at.Post
-  returns-5 c = present-returns (c .before .before .before .before .before .before .before .before .before .before .before .before .before .before .before .before .before .pre .1) (c .before .before .before .before .before .before .before .before .before .before .before .before .kind-at .ensures) (c .before .before .before .before .before .before .before .before .before .before .before .arity .ensures) (c .before .before .before .before .before .before .before .before .before .before .if1 .left) (c .before .before .before .before .before .before .before .before .before .if2 .left) (c .before .before .before .before .before .before .before .before .size-at .ensures) (c .before .before .before .before .before .before .before .is-present .ensures) (c .before .before .before .before .before .before .if4 .taken) (c .before .before .before .before .before .goes-absent .ensures) (c .before .before .before .before .if5 .left) (c .before .before .walk-at3 .ensures)
+  returns-4 : walk-at-lts.Need-returns-4 (walk-at-calls t) (walk-at-at t) walk-at.Post
+  returns-4 c = test-returns (c .before .before .before .before .before .before .before .before .before .before .before .before .before .before .before .before .before .pre .1) (c .before .before .before .before .before .before .before .before .before .before .before .before .kind-at .ensures) (c .before .before .before .before .before .before .before .before .before .before .before .arity .ensures) (c .before .before .before .before .before .before .before .before .before .before .if1 .left) (c .before .before .before .before .before .before .before .before .before .if2 .left) (c .before .before .before .before .before .before .before .before .size-at .ensures) (c .before .before .before .before .before .before .before .is-present .ensures) (c .before .before .before .before .before .before .if3 .taken) (c .before .before .before .before .before .goes-absent .ensures) false (c .before .before .before .before .if4 .left) (c .before .before .walk-at3 .ensures)
 
   is-sequence-requires : walk-at-lts.Need-is-sequence-requires (walk-at-calls t) (walk-at-at t) walk-at.Post
   is-sequence-requires c κs = search needs
@@ -108,28 +100,28 @@ module _ (t : ℕ) where
   need-first-requires c κs = (last-low (c .before .before .before .before .before .before .before .before .before .before .before .before .before .pre .1) (c .before .before .before .before .before .before .before .before .kind-at .ensures) (c .before .before .before .before .before .before .before .arity .ensures) (c .before .before .before .before .before .before .if1 .left) (c .before .before .before .before .before .if2 .left) (c .before .before .before .before .size-at .ensures) .at _ (c .load .ensures), need-low (c .before .before .before .before .before .before .before .before .before .before .before .before .before .pre .1) (c .before .before .before .before .before .before .before .before .kind-at .ensures) (c .before .before .before .before .before .before .before .arity .ensures), c .before .before .before .before .before .before .before .before .before .before .before .before .before .pre .1 .long)
 
   walk-at-requires-4 : walk-at-lts.Need-walk-at-requires-4 (walk-at-calls t) (walk-at-at t) walk-at.Post
-  walk-at-requires-4 c κs = (omega (arith, c .before .before .before .before .before .before .before .before .before .before .before .before .before .before .before .pre .0, has-last (c .before .before .before .before .before .before .before .before .before .before .before .before .before .before .before .pre .1 .formed .measured) (inside (c .before .before .before .before .before .before .before .before .before .before .before .before .before .before .before .pre .1)) (c .before .before .before .before .before .before .before .before .before .before .kind-at .ensures) (c .before .before .before .before .before .before .before .before .before .arity .ensures) (c .before .before .before .before .before .before .before .before .if1 .left)), left-call (c .before .before .before .before .before .before .before .before .before .before .before .before .before .before .before .pre .1) (c .before .before .before .before .before .before .before .before .before .before .kind-at .ensures) (c .before .before .before .before .before .before .before .before .before .arity .ensures) (c .before .before .before .before .before .before .before .before .if1 .left) (c .before .before .before .before .before .before .before .if2 .left) (c .before .before .before .before .before .before .size-at .ensures) (c .before .before .before .before .before .is-present .ensures) (c .before .before .before .before .if4 .left) (c .before .before .before .is-sequence .ensures) (c .before .before .load .ensures) (c .before .need-first .ensures))
+  walk-at-requires-4 c κs = (omega (arith, c .before .before .before .before .before .before .before .before .before .before .before .before .before .before .before .pre .0, has-last (c .before .before .before .before .before .before .before .before .before .before .before .before .before .before .before .pre .1 .formed .measured) (inside (c .before .before .before .before .before .before .before .before .before .before .before .before .before .before .before .pre .1)) (c .before .before .before .before .before .before .before .before .before .before .kind-at .ensures) (c .before .before .before .before .before .before .before .before .before .arity .ensures) (c .before .before .before .before .before .before .before .before .if1 .left)), left-call (c .before .before .before .before .before .before .before .before .before .before .before .before .before .before .before .pre .1) (c .before .before .before .before .before .before .before .before .before .before .kind-at .ensures) (c .before .before .before .before .before .before .before .before .before .arity .ensures) (c .before .before .before .before .before .before .before .before .if1 .left) (c .before .before .before .before .before .before .before .if2 .left) (c .before .before .before .before .before .before .size-at .ensures) (c .before .before .before .before .before .is-present .ensures) (c .before .before .before .before .if3 .left) (c .before .before .before .is-sequence .ensures) (c .before .before .load .ensures) (c .before .need-first .ensures))
+
+  same-length-4 : walk-at-lts.Need-same-length-4 (walk-at-calls t) (walk-at-at t) walk-at.Post
+  same-length-4 c = search needs
+
+  returns-5 : walk-at-lts.Need-returns-5 (walk-at-calls t) (walk-at-at t) walk-at.Post
+  returns-5 c = left-returns (c .before .before .before .before .before .before .before .before .before .before .before .before .before .before .before .before .before .before .before .before .pre .1) (c .before .before .before .before .before .before .before .before .before .before .before .before .before .before .before .kind-at .ensures) (c .before .before .before .before .before .before .before .before .before .before .before .before .before .before .arity .ensures) (c .before .before .before .before .before .before .before .before .before .before .before .before .before .if1 .left) (c .before .before .before .before .before .before .before .before .before .before .before .before .if2 .left) (c .before .before .before .before .before .before .before .before .before .before .before .size-at .ensures) (c .before .before .before .before .before .before .before .before .before .before .is-present .ensures) (c .before .before .before .before .before .before .before .before .before .if3 .left) (c .before .before .before .before .before .before .before .before .is-sequence .ensures) (c .before .before .before .before .before .before .before .load .ensures) (c .before .before .before .before .before .before .need-first .ensures) (c .before .before .before .before .walk-at4 .ensures) (stays (c .before .before .before .before .before .before .before .before .is-sequence .result) (c .before .before .before .before .walk-at4 .result .code) (c .if5 .taken) .0) (stays (c .before .before .before .before .before .before .before .before .is-sequence .result) (c .before .before .before .before .walk-at4 .result .code) (c .if5 .taken) .1)
+
+  need-under-requires-2 : walk-at-lts.Need-need-under-requires-2 (walk-at-calls t) (walk-at-at t) walk-at.Post
+  need-under-requires-2 c κs = left-low (c .before .before .before .before .before .before .before .before .before .before .before .before .before .before .before .before .before .before .before .before .pre .1) (c .before .before .before .before .before .before .before .before .before .before .before .before .before .before .before .kind-at .ensures) (c .before .before .before .before .before .before .before .before .before .before .before .before .before .before .arity .ensures) (c .before .before .before .before .before .before .before .before .before .before .before .before .before .if1 .left) (c .before .before .before .before .before .before .before .before .before .before .before .before .if2 .left) (c .before .before .before .before .before .before .before .before .before .before .before .size-at .ensures) (c .before .before .before .before .before .before .before .before .before .before .is-present .ensures) (c .before .before .before .before .before .before .before .before .before .if3 .left) (c .before .before .before .before .before .before .before .before .is-sequence .ensures) (c .before .before .before .before .before .before .before .load .ensures) (c .before .before .before .before .before .before .need-first .ensures) (c .before .before .before .before .walk-at4 .ensures)
+
+  walk-at-requires-5 : walk-at-lts.Need-walk-at-requires-5 (walk-at-calls t) (walk-at-at t) walk-at.Post
+  walk-at-requires-5 c κs = (omega (arith, c .before .before .before .before .before .before .before .before .before .before .before .before .before .before .before .before .before .before .before .before .before .before .pre .0, has-last (c .before .before .before .before .before .before .before .before .before .before .before .before .before .before .before .before .before .before .before .before .before .before .pre .1 .formed .measured) (inside (c .before .before .before .before .before .before .before .before .before .before .before .before .before .before .before .before .before .before .before .before .before .before .pre .1)) (c .before .before .before .before .before .before .before .before .before .before .before .before .before .before .before .before .before .kind-at .ensures) (c .before .before .before .before .before .before .before .before .before .before .before .before .before .before .before .before .arity .ensures) (c .before .before .before .before .before .before .before .before .before .before .before .before .before .before .before .if1 .left)), right-call (c .before .before .before .before .before .before .before .before .before .before .before .before .before .before .before .before .before .before .before .before .before .before .pre .1) (c .before .before .before .before .before .before .before .before .before .before .before .before .before .before .before .before .before .kind-at .ensures) (c .before .before .before .before .before .before .before .before .before .before .before .before .before .before .before .before .arity .ensures) (c .before .before .before .before .before .before .before .before .before .before .before .before .before .before .before .if1 .left) (c .before .before .before .before .before .before .before .before .before .before .before .before .before .before .if2 .left) (c .before .before .before .before .before .before .before .before .before .before .before .before .before .size-at .ensures) (c .before .before .before .before .before .before .before .before .before .before .before .before .is-present .ensures) (c .before .before .before .before .before .before .before .before .before .before .before .if3 .left) (c .before .before .before .before .before .before .before .before .before .before .is-sequence .ensures) (c .before .before .before .before .before .before .before .before .before .load .ensures) (c .before .before .before .before .before .before .before .before .need-first .ensures) (c .before .before .before .before .before .before .walk-at4 .ensures) (c .before .need-under2 .ensures))
+
+  larger-requires : walk-at-lts.Need-larger-requires (walk-at-calls t) (walk-at-at t) walk-at.Post
+  larger-requires c κs = search needs
 
   same-length-5 : walk-at-lts.Need-same-length-5 (walk-at-calls t) (walk-at-at t) walk-at.Post
   same-length-5 c = search needs
 
   returns-6 : walk-at-lts.Need-returns-6 (walk-at-calls t) (walk-at-at t) walk-at.Post
-  returns-6 c = left-returns (c .before .before .before .before .before .before .before .before .before .before .before .before .before .before .before .before .before .before .before .before .pre .1) (c .before .before .before .before .before .before .before .before .before .before .before .before .before .before .before .kind-at .ensures) (c .before .before .before .before .before .before .before .before .before .before .before .before .before .before .arity .ensures) (c .before .before .before .before .before .before .before .before .before .before .before .before .before .if1 .left) (c .before .before .before .before .before .before .before .before .before .before .before .before .if2 .left) (c .before .before .before .before .before .before .before .before .before .before .before .size-at .ensures) (c .before .before .before .before .before .before .before .before .before .before .is-present .ensures) (c .before .before .before .before .before .before .before .before .before .if4 .left) (c .before .before .before .before .before .before .before .before .is-sequence .ensures) (c .before .before .before .before .before .before .before .load .ensures) (c .before .before .before .before .before .before .need-first .ensures) (c .before .before .before .before .walk-at4 .ensures) (stays (c .before .before .before .before .before .before .before .before .is-sequence .result) (c .before .before .before .before .walk-at4 .result .code) (c .if6 .taken) .0) (stays (c .before .before .before .before .before .before .before .before .is-sequence .result) (c .before .before .before .before .walk-at4 .result .code) (c .if6 .taken) .1)
-
-  need-under-requires-2 : walk-at-lts.Need-need-under-requires-2 (walk-at-calls t) (walk-at-at t) walk-at.Post
-  need-under-requires-2 c κs = left-low (c .before .before .before .before .before .before .before .before .before .before .before .before .before .before .before .before .before .before .before .before .pre .1) (c .before .before .before .before .before .before .before .before .before .before .before .before .before .before .before .kind-at .ensures) (c .before .before .before .before .before .before .before .before .before .before .before .before .before .before .arity .ensures) (c .before .before .before .before .before .before .before .before .before .before .before .before .before .if1 .left) (c .before .before .before .before .before .before .before .before .before .before .before .before .if2 .left) (c .before .before .before .before .before .before .before .before .before .before .before .size-at .ensures) (c .before .before .before .before .before .before .before .before .before .before .is-present .ensures) (c .before .before .before .before .before .before .before .before .before .if4 .left) (c .before .before .before .before .before .before .before .before .is-sequence .ensures) (c .before .before .before .before .before .before .before .load .ensures) (c .before .before .before .before .before .before .need-first .ensures) (c .before .before .before .before .walk-at4 .ensures)
-
-  walk-at-requires-5 : walk-at-lts.Need-walk-at-requires-5 (walk-at-calls t) (walk-at-at t) walk-at.Post
-  walk-at-requires-5 c κs = (omega (arith, c .before .before .before .before .before .before .before .before .before .before .before .before .before .before .before .before .before .before .before .before .before .before .pre .0, has-last (c .before .before .before .before .before .before .before .before .before .before .before .before .before .before .before .before .before .before .before .before .before .before .pre .1 .formed .measured) (inside (c .before .before .before .before .before .before .before .before .before .before .before .before .before .before .before .before .before .before .before .before .before .before .pre .1)) (c .before .before .before .before .before .before .before .before .before .before .before .before .before .before .before .before .before .kind-at .ensures) (c .before .before .before .before .before .before .before .before .before .before .before .before .before .before .before .before .arity .ensures) (c .before .before .before .before .before .before .before .before .before .before .before .before .before .before .before .if1 .left)), right-call (c .before .before .before .before .before .before .before .before .before .before .before .before .before .before .before .before .before .before .before .before .before .before .pre .1) (c .before .before .before .before .before .before .before .before .before .before .before .before .before .before .before .before .before .kind-at .ensures) (c .before .before .before .before .before .before .before .before .before .before .before .before .before .before .before .before .arity .ensures) (c .before .before .before .before .before .before .before .before .before .before .before .before .before .before .before .if1 .left) (c .before .before .before .before .before .before .before .before .before .before .before .before .before .before .if2 .left) (c .before .before .before .before .before .before .before .before .before .before .before .before .before .size-at .ensures) (c .before .before .before .before .before .before .before .before .before .before .before .before .is-present .ensures) (c .before .before .before .before .before .before .before .before .before .before .before .if4 .left) (c .before .before .before .before .before .before .before .before .before .before .is-sequence .ensures) (c .before .before .before .before .before .before .before .before .before .load .ensures) (c .before .before .before .before .before .before .before .before .need-first .ensures) (c .before .before .before .before .before .before .walk-at4 .ensures) (c .before .need-under2 .ensures))
-
-  larger-requires : walk-at-lts.Need-larger-requires (walk-at-calls t) (walk-at-at t) walk-at.Post
-  larger-requires c κs = search needs
-
-  same-length-6 : walk-at-lts.Need-same-length-6 (walk-at-calls t) (walk-at-at t) walk-at.Post
-  same-length-6 c = search needs
-
-  returns-7 : walk-at-lts.Need-returns-7 (walk-at-calls t) (walk-at-at t) walk-at.Post
-  returns-7 c = both-returns (c .before .before .before .before .before .before .before .before .before .before .before .before .before .before .before .before .before .before .before .before .before .before .before .before .before .before .pre .1) (c .before .before .before .before .before .before .before .before .before .before .before .before .before .before .before .before .before .before .before .before .before .kind-at .ensures) (c .before .before .before .before .before .before .before .before .before .before .before .before .before .before .before .before .before .before .before .before .arity .ensures) (c .before .before .before .before .before .before .before .before .before .before .before .before .before .before .before .before .before .before .before .if1 .left) (c .before .before .before .before .before .before .before .before .before .before .before .before .before .before .before .before .before .before .if2 .left) (c .before .before .before .before .before .before .before .before .before .before .before .before .before .before .before .before .before .size-at .ensures) (c .before .before .before .before .before .before .before .before .before .before .before .before .before .before .before .before .is-present .ensures) (c .before .before .before .before .before .before .before .before .before .before .before .before .before .before .before .if4 .left) (c .before .before .before .before .before .before .before .before .before .before .before .before .before .before .is-sequence .ensures) (c .before .before .before .before .before .before .before .before .before .before .before .before .before .load .ensures) (c .before .before .before .before .before .before .before .before .before .before .before .before .need-first .ensures) (c .before .before .before .before .before .before .before .before .before .before .walk-at4 .ensures) (c .before .before .before .before .before .need-under2 .ensures) (c .before .before .before .walk-at5 .ensures) (c .larger .ensures) refl refl (goes-on (c .before .before .before .before .before .before .before .before .before .before .before .before .before .before .is-sequence .result) (c .before .before .before .before .before .before .before .before .before .before .walk-at4 .result .code) (c .before .before .before .before .before .before .if6 .left))
+  returns-6 c = both-returns (c .before .before .before .before .before .before .before .before .before .before .before .before .before .before .before .before .before .before .before .before .before .before .before .before .before .before .pre .1) (c .before .before .before .before .before .before .before .before .before .before .before .before .before .before .before .before .before .before .before .before .before .kind-at .ensures) (c .before .before .before .before .before .before .before .before .before .before .before .before .before .before .before .before .before .before .before .before .arity .ensures) (c .before .before .before .before .before .before .before .before .before .before .before .before .before .before .before .before .before .before .before .if1 .left) (c .before .before .before .before .before .before .before .before .before .before .before .before .before .before .before .before .before .before .if2 .left) (c .before .before .before .before .before .before .before .before .before .before .before .before .before .before .before .before .before .size-at .ensures) (c .before .before .before .before .before .before .before .before .before .before .before .before .before .before .before .before .is-present .ensures) (c .before .before .before .before .before .before .before .before .before .before .before .before .before .before .before .if3 .left) (c .before .before .before .before .before .before .before .before .before .before .before .before .before .before .is-sequence .ensures) (c .before .before .before .before .before .before .before .before .before .before .before .before .before .load .ensures) (c .before .before .before .before .before .before .before .before .before .before .before .before .need-first .ensures) (c .before .before .before .before .before .before .before .before .before .before .walk-at4 .ensures) (c .before .before .before .before .before .need-under2 .ensures) (c .before .before .before .walk-at5 .ensures) (c .larger .ensures) refl refl (goes-on (c .before .before .before .before .before .before .before .before .before .before .before .before .before .before .is-sequence .result) (c .before .before .before .before .before .before .before .before .before .before .walk-at4 .result .code) (c .before .before .before .before .before .before .if5 .left))
 
   pub part : {M : Type 1} → walk-at-lts.Closed (walk-at-calls t) (walk-at-at t) walk-at.Post M
-  part = walk-at-lts.spec (walk-at-calls t) (walk-at-at t) walk-at.Post kind-at-requires arity-requires field-at-requires leaf-code-requires returns sub-last need-under-requires walk-at-requires is-trap-requires catch-code-requires same-length returns-2 same-length-2 returns-3 size-at-requires sub-first is-present-requires goes-absent-requires slice-write-answers add-walk-at walk-at-requires-2 same-length-3 returns-4 slice-write-answers-2 add-walk-at-2 walk-at-requires-3 same-length-4 returns-5 is-sequence-requires load-requires need-first-requires walk-at-requires-4 same-length-5 returns-6 need-under-requires-2 walk-at-requires-5 larger-requires same-length-6 returns-7
+  part = walk-at-lts.spec (walk-at-calls t) (walk-at-at t) walk-at.Post kind-at-requires arity-requires field-at-requires leaf-code-requires returns sub-last need-under-requires walk-at-requires leave-requires same-length returns-2 size-at-requires sub-first is-present-requires goes-absent-requires slice-write-answers add-walk-at walk-at-requires-2 same-length-2 returns-3 slice-write-answers-2 add-walk-at-2 walk-at-requires-3 same-length-3 returns-4 is-sequence-requires load-requires need-first-requires walk-at-requires-4 same-length-4 returns-5 need-under-requires-2 walk-at-requires-5 larger-requires same-length-5 returns-6
