@@ -121,6 +121,9 @@ line-a (at d t S q) = refl
 pub line-s : (x : Place) → sOf (lineOf x) ≡ word (contextOf x)
 line-s (at d t S q) = refl
 
+pub line-mark : (x : Place) → markOf (lineOf x) ≡ mark x
+line-mark (at d t S q) = refl
+
 starts-column : (p : Stmt) → map kOf (listing p) ≡ wordsOf false p
 unfolding wordsOf
 starts-column p =
@@ -137,10 +140,7 @@ contexts-column p = map-lines sOf contextWord line-s (placesOf p)
 
 marks-column : (p : Stmt) → map markOf (listing p) ≡ marksOf p
 unfolding marksOf
-marks-column p = map-lines markOf mark by (placesOf p)
-  where
-    by : (x : Place) → markOf (lineOf x) ≡ mark x
-    by (at d t S q) = refl
+marks-column p = map-lines markOf mark line-mark (placesOf p)
 
 column-is : (f : Line → ℕ) (p : Stmt) (v : Verdict) (c old : List ℕ) → v ≡ passed p → map f (listing p) ≡ c → onto c old ≡ column f v old
 unfolding column

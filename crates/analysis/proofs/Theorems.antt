@@ -30,7 +30,7 @@ use Rattle.analysis.specs.Theorems.{Lent, ByLoops, ExactSets, Unchanged,
 use Rattle.analysis.specs.declared.Analysed.{Analysed}
 use Rattle.analysis.specs.declared.Analysed.the-variants.{Done, Refused}
 use Rattle.analysis.proofs.Contexts.{length-by-place, by-place-at}
-use Rattle.analysis.proofs.Analyses.{map-lines, line-k, line-a, line-s}
+use Rattle.analysis.proofs.Analyses.{map-lines, line-k, line-a, line-s, line-mark}
 
 -- ---- the call's verdict and the table's
 
@@ -42,6 +42,11 @@ pub checked-passed : (room : Bool) (t : List ℕ) (p : Stmt) → checked room t 
 unfolding checked
 checked-passed true t p e = sym (checked-room t) ∙ e
 checked-passed false t p e = let z = length-passed t (refused 3 0) p e in cc
+
+pub checked-suffices : (room : Bool) (t : List ℕ) (p : Stmt) → checked room t ≡ passed p → room ≡ true
+unfolding checked
+checked-suffices true t p e = refl
+checked-suffices false t p e = let z = length-passed t (refused 3 0) p e in cc
 
 -- a refusal of checks 1 to 11
 pub checked-told : (room : Bool) (t : List ℕ) → Told 11 (checked room t)
@@ -135,6 +140,7 @@ module _ {t k a s m k′ a′ s′ m′ : List ℕ} {n d : ℕ} (o : Analysis t 
             rw (place-statement p i) at (entry-represents aOf (λ x. anyInstantSet (stmtOf x)) line-a p a (o .anysAre ∙ ap (λ x. column aOf x a) v) i (omega arith) (kept i h .wordA));
         contextWords = λ i h. entry-represents sOf contextOf line-s p s (o .contextsAre ∙ ap (λ x. column sOf x s) v) i (omega arith) (kept i h .wordS);
         noneLost = kept;
+        nodeMarks = λ i h. ap (λ l. getD l i 0) (o .marksAre ∙ ap (λ x. column markOf x m) v) ∙ entry-is markOf p m i (omega arith) ∙ line-mark (placeAt p i);
       }
 
 -- ---- refusals

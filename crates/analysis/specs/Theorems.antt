@@ -10,7 +10,7 @@ use Rattle.codes.specs.Words.{_∋_}
 use Rattle.esterel.specs.Limits.{maxNodes}
 use Rattle.esterel.specs.Statement.{Stmt, size, nodes, loopDepth}
 use Rattle.esterel.specs.Codes.{Represents}
-use Rattle.esterel.specs.Sets.{startSet, anyInstantSet, contextOf, placeAt}
+use Rattle.esterel.specs.Sets.{startSet, anyInstantSet, contextOf, placeAt, mark}
 use Rattle.esterel.specs.Table.{passed}
 use Rattle.esterel.specs.Checks.{verdict}
 use Rattle.esterel.specs.Instant.{start}
@@ -40,7 +40,8 @@ pub record ByLoops (p : Stmt) (r : Analysed) : Type 0 where
 
 -- after Done the table is that of an accepted program; bit k of entry i of the start sets is 1 exactly if some answers make the
 -- statement at node i, started, finish with code k; the contexts and marks are those of document 004's Figure 9 and its footnote; and entry i
--- of each buffer represents the set of node i, which has no code above 1 + the traps around it, hence none above 63 (F-7)
+-- of each buffer of sets represents the set of node i, which has no code above 1 + the traps around it, hence none above 63 (F-7); entry i of
+-- the marks is the mark of node i
 pub record ExactSets (t contexts marks starts′ anys′ contexts′ marks′ : List ℕ) (n d : ℕ) : Type 0 where
   pub program : Stmt
   pub accepted : verdict t ≡ passed program
@@ -55,6 +56,7 @@ pub record ExactSets (t contexts marks starts′ anys′ contexts′ marks′ : 
   pub anyWords : (i : ℕ) → i < n → Represents (getD anys′ i 0) (anyInstantSet (statementAt (nodes program) i))
   pub contextWords : (i : ℕ) → i < n → Represents (getD contexts′ i 0) (contextOf (placeAt program i))
   pub noneLost : (i : ℕ) → i < n → NoneLost (placeAt program i)
+  pub nodeMarks : (i : ℕ) → i < n → getD marks′ i 0 ≡ mark (placeAt program i)
 
 -- a refusal has a number from 1 to 11 and a node that a table can have, and no lent buffer has changed
 pub record Unchanged (number node : ℕ) (starts anys contexts marks starts′ anys′ contexts′ marks′ : List ℕ) : Type 0 where

@@ -49,64 +49,89 @@ apart-right (present s) x = rw and-false
 apart-right sequence x = rw and-false
 apart-right parallel x = refl
 
--- the bytes of a statement's nodes: each 1 stands at a pause, none is above 1, and what must be apart is
-pub data Fits : Stmt → List ℕ → Type 0 where
-  fits-leaf : (l : Leaf) → Fits (leaf l) (0 ∷ [])
-  fits-pause : Fits (leaf pause) (1 ∷ [])
-  fits-one : {p : Stmt} {h : List ℕ} (u : Unary) → Fits p h → Fits (one u p) (h ++ (0 ∷ []))
-  fits-two : {p q : Stmt} {h g : List ℕ} (b : Binary) → Fits p h → Fits q g → apart b (holds h) (holds g) ≡ true → Fits (two b p q) ((h ++ g) ++ (0 ∷ []))
-
-pub fits-length : {p : Stmt} {h : List ℕ} → Fits p h → length h ≡ size p
-fits-length (fits-leaf l) = refl
-fits-length fits-pause = refl
-fits-length (fits-one u f) = simp length-append (omega (arith, fits-length f))
-fits-length (fits-two b f g z) = simp length-append (omega (arith, fits-length f, fits-length g))
-
--- the children's bytes
-pub first-one : {p : Stmt} {h : List ℕ} → Fits p h → first p (h ++ (0 ∷ [])) ≡ h
-first-one {p} {h} f = take-at h (0 ∷ []) (size p) (fits-length f)
-
-module _ {p q : Stmt} {h g : List ℕ} (f : Fits p h) (e : Fits q g) where
-  pub first-two : first p ((h ++ g) ++ (0 ∷ [])) ≡ h
-  first-two = rw (append-assoc, take-at h (g ++ (0 ∷ [])) (size p) (fits-length f))
-
-  pub second-two : second p q ((h ++ g) ++ (0 ∷ [])) ≡ g
-  second-two = rw (append-assoc, drop-at h (g ++ (0 ∷ [])) (size p) (fits-length f), take-at g (0 ∷ []) (size q) (fits-length e))
-
-pub child-fits : {u : Unary} {p : Stmt} {h : List ℕ} → Fits (one u p) h → Fits p (first p h)
-child-fits (fits-one u f) = rw (first-one f) f
-
-pub left-fits : {b : Binary} {p q : Stmt} {h : List ℕ} → Fits (two b p q) h → Fits p (first p h)
-left-fits (fits-two b f g z) = rw (first-two f g) f
-
-pub right-fits : {b : Binary} {p q : Stmt} {h : List ℕ} → Fits (two b p q) h → Fits q (second p q h)
-right-fits (fits-two b f g z) = rw (second-two f g) g
-
--- what a statement holds, its children hold
-pub child-holds : {u : Unary} {p : Stmt} {h : List ℕ} → Fits (one u p) h → holds h ≡ true → holds (first p h) ≡ true
-child-holds (fits-one u f) e = rw (first-one f) (rw (holds-append, or-false) at e)
-
-pub right-holds : {b : Binary} {p q : Stmt} {h : List ℕ} → Fits (two b p q) h → holds h ≡ true → holds (first p h) ≡ false → holds (second p q h) ≡ true
-right-holds (fits-two {h = h} {g = g} b f e z) s n =
-    rw (second-two f e) (rw (holds-append (h ++ g) (0 ∷ []), or-false, holds-append h g, rw (first-two f e) at n) at s)
-
--- only a pause holds among the statements without a child
-pub leaf-holds : {A : Type 0} {l : Leaf} {h : List ℕ} → Fits (leaf l) h → holds h ≡ true → (l ≡ pause → A) → A
-leaf-holds (fits-leaf l) e f = let z : _≡_ {A = ℕ} 0 1 = cc in absurd (omega arith)
-leaf-holds fits-pause e f = f refl
-
-zeros-snoc : (n : ℕ) → zeros (suc n) ≡ zeros n ++ (0 ∷ [])
+pub zeros-snoc : (n : ℕ) → zeros (suc n) ≡ zeros n ++ (0 ∷ [])
 zeros-snoc zero = refl
 zeros-snoc (suc n) = ap {B = List ℕ} (λ l. 0 ∷ l) (zeros-snoc n)
 
-zeros-two : (n m : ℕ) → zeros (suc (n + m)) ≡ (zeros n ++ zeros m) ++ (0 ∷ [])
+pub zeros-two : (n m : ℕ) → zeros (suc (n + m)) ≡ (zeros n ++ zeros m) ++ (0 ∷ [])
 zeros-two n m = rw (zeros-snoc, replicate-append-replicate)
 
--- nothing held fits
+-- the bytes of a statement's nodes: each 1 stands at a pause, none is above 1, and J is true of the children p and q of each b, of which the
+-- first holds if x, the second if y
+abbrev pub Joint : Type 1
+Joint = Binary → Stmt → Stmt → (x y : Bool) → Type 0
+
+pub data Shaped (J : Joint) : Stmt → List ℕ → Type 0 where
+  fits-leaf : (l : Leaf) → Shaped J (leaf l) (0 ∷ [])
+  fits-pause : Shaped J (leaf pause) (1 ∷ [])
+  fits-one : {p : Stmt} {h : List ℕ} (u : Unary) → Shaped J p h → Shaped J (one u p) (h ++ (0 ∷ []))
+  fits-two : {p q : Stmt} {h g : List ℕ} (b : Binary) → Shaped J p h → Shaped J q g → J b p q (holds h) (holds g) → Shaped J (two b p q) ((h ++ g) ++ (0 ∷ []))
+
+module _ {J : Joint} where
+  pub fits-length : {p : Stmt} {h : List ℕ} → Shaped J p h → length h ≡ size p
+  fits-length (fits-leaf l) = refl
+  fits-length fits-pause = refl
+  fits-length (fits-one u f) = simp length-append (omega (arith, fits-length f))
+  fits-length (fits-two b f g z) = simp length-append (omega (arith, fits-length f, fits-length g))
+
+  -- the children's bytes
+  pub first-one : {p : Stmt} {h : List ℕ} → Shaped J p h → first p (h ++ (0 ∷ [])) ≡ h
+  first-one {p} {h} f = take-at h (0 ∷ []) (size p) (fits-length f)
+
+  module _ {p q : Stmt} {h g : List ℕ} (f : Shaped J p h) (e : Shaped J q g) where
+    pub first-two : first p ((h ++ g) ++ (0 ∷ [])) ≡ h
+    first-two = rw (append-assoc, take-at h (g ++ (0 ∷ [])) (size p) (fits-length f))
+
+    pub second-two : second p q ((h ++ g) ++ (0 ∷ [])) ≡ g
+    second-two = rw (append-assoc, drop-at h (g ++ (0 ∷ [])) (size p) (fits-length f), take-at g (0 ∷ []) (size q) (fits-length e))
+
+  pub child-fits : {u : Unary} {p : Stmt} {h : List ℕ} → Shaped J (one u p) h → Shaped J p (first p h)
+  child-fits (fits-one u f) = rw (first-one f) f
+
+  pub left-fits : {b : Binary} {p q : Stmt} {h : List ℕ} → Shaped J (two b p q) h → Shaped J p (first p h)
+  left-fits (fits-two b f g z) = rw (first-two f g) f
+
+  pub right-fits : {b : Binary} {p q : Stmt} {h : List ℕ} → Shaped J (two b p q) h → Shaped J q (second p q h)
+  right-fits (fits-two b f g z) = rw (second-two f g) g
+
+  pub joint : {b : Binary} {p q : Stmt} {h : List ℕ} → Shaped J (two b p q) h → J b p q (holds (first p h)) (holds (second p q h))
+  joint (fits-two b f g z) = rw (first-two f g, second-two f g) z
+
+  -- what a statement holds, its children hold
+  pub child-holds : {u : Unary} {p : Stmt} {h : List ℕ} → Shaped J (one u p) h → holds h ≡ true → holds (first p h) ≡ true
+  child-holds (fits-one u f) e = rw (first-one f) (rw (holds-append, or-false) at e)
+
+  some-holds : {b : Binary} {p q : Stmt} {h : List ℕ} → Shaped J (two b p q) h → holds h ≡ true → (holds (first p h) || holds (second p q h)) ≡ true
+  some-holds (fits-two {h = h} {g = g} b f e z) s =
+      rw (first-two f e, second-two f e) (rw (holds-append (h ++ g) (0 ∷ []), or-false, holds-append h g) at s)
+
+  pub right-holds : {b : Binary} {p q : Stmt} {h : List ℕ} → Shaped J (two b p q) h → holds h ≡ true → holds (first p h) ≡ false → holds (second p q h) ≡ true
+  right-holds k s n = rw n at (some-holds k s)
+
+  pub left-holds : {b : Binary} {p q : Stmt} {h : List ℕ} → Shaped J (two b p q) h → holds h ≡ true → holds (second p q h) ≡ false → holds (first p h) ≡ true
+  left-holds k s n = rw (n, or-false) at (some-holds k s)
+
+  -- only a pause holds among the statements without a child
+  pub leaf-holds : {A : Type 0} {l : Leaf} {h : List ℕ} → Shaped J (leaf l) h → holds h ≡ true → (l ≡ pause → A) → A
+  leaf-holds (fits-leaf l) e f = let z : _≡_ {A = ℕ} 0 1 = cc in absurd (omega arith)
+  leaf-holds fits-pause e f = f refl
+
+  -- nothing held
+  pub shaped-zeros : ((b : Binary) (p q : Stmt) (x y : Bool) → x ≡ false → y ≡ false → J b p q x y) → (p : Stmt) → Shaped J p (zeros (size p))
+  shaped-zeros none (leaf l) = fits-leaf l
+  shaped-zeros none (one u p) = rw zeros-snoc (fits-one u (shaped-zeros none p))
+  shaped-zeros none (two b p q) =
+      rw zeros-two (fits-two b (shaped-zeros none p) (shaped-zeros none q) (none b p q _ _ (holds-zeros (size p)) (holds-zeros (size q))))
+
+-- the states that fit a statement: what must be apart is
+abbrev pub Apart : Joint
+Apart b p q x y = apart b x y ≡ true
+
+abbrev pub Fits : Stmt → List ℕ → Type 0
+Fits = Shaped Apart
+
 pub fits-zeros : (p : Stmt) → Fits p (zeros (size p))
-fits-zeros (leaf l) = fits-leaf l
-fits-zeros (one u p) = rw zeros-snoc (fits-one u (fits-zeros p))
-fits-zeros (two b p q) = rw zeros-two (fits-two b (fits-zeros p) (fits-zeros q) (rw holds-zeros (apart-left b _)))
+fits-zeros = shaped-zeros (λ b p q x y e f. rw e (apart-left b y))
 
 -- and so does what one child holds, beside another that holds nothing
 pub fits-ended : {p q : Stmt} {h g : List ℕ} (b : Binary) → Fits p h → Fits q g → holds h ≡ false → Fits (two b p q) ((h ++ g) ++ (0 ∷ []))

@@ -2,6 +2,7 @@ pub mod TableW
 pub mod Lock
 pub mod Sizes
 pub mod Held
+pub mod Parts
 pub mod Nodes
 pub mod Run
 pub mod Start
@@ -20,3 +21,4 @@ pub mod Subtrees
 pub mod Children
 pub mod Theorems
 pub mod Figure9
+pub mod Reentry

@@ -8,6 +8,7 @@ use lib.Seq.{getD-at}
 use Rattle.esterel.specs.Statement.{nothing, Unary, Binary, Stmt, leaf, one, two, size, nodes}
 use Rattle.esterel.specs.Outcome.{statementAt}
 use Rattle.esterel.proofs.Sizes.{length-nodes}
+use Rattle.esterel.proofs.Ranges.{Over, over-join, over-last}
 
 -- p's nodes stand in ps from n on
 abbrev pub Sits : List Stmt → ℕ → Stmt → Type 0
@@ -57,6 +58,14 @@ module _ (ps : List Stmt) where
   root (leaf l) n w j e = let z : j ≡ n = omega arith in rw z w
   root (one u p) n w j e = let z : j ≡ n + size p = omega arith in rw z (w .1)
   root (two b p q) n w j e = let z : j ≡ n + (size p + size q) = omega arith in rw z (w .2)
+
+  -- the subtree of each of p's nodes is within p's
+  pub within : (p : Stmt) (n : ℕ) → Sits ps n p → Over (λ c. n + size (statementAt ps c) ≤ suc c) n (size p)
+  within (leaf l) n w = over-last _ n 0 (λ i lo hi. absurd (omega arith)) (let z : n + 0 ≡ n = omega arith in rw (z, w) (omega arith))
+  within (one u p) n w = over-last _ n (size p) (within p n (w .0)) (rw (w .1) (omega arith))
+  within (two b p q) n w =
+      over-last _ n (size p + size q)
+      (over-join _ n (size p) (size q) (within p n (w .0)) (λ i lo hi. let z = within q (n + size p) (w .1) i lo hi in omega arith)) (rw (w .2) (omega arith))
 
 -- a program's nodes stand in its own list from 0 on
 pub part-own : (p : Stmt) → Part (nodes p) 0 (nodes p)

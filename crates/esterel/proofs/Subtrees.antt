@@ -44,7 +44,7 @@ module _ (p : Stmt) (i : ℕ) where
   piece-at h = pieces (nodes p) p 0 (part-own p) i (omega arith) (omega arith)
 
   -- a node past the program is `nothing`, so one with children is a node of it
-  inside : (w : Stmt) → statementAt (nodes p) i ≡ w → (leaf nothing ≡ w → ⊥) → i < size p
+  pub inside : (w : Stmt) → statementAt (nodes p) i ≡ w → (leaf nothing ≡ w → ⊥) → i < size p
   inside w e f = go (decLt i (size p))
     where
       go : Dec (i < size p) → i < size p

@@ -6,7 +6,9 @@ pub mod Table
 pub mod Checks
 pub mod Instant
 pub mod Outcome
+pub mod Reentry
 pub mod Theorems
 pub mod Figure9
 pub mod TableW
 pub mod Lock
+pub mod Reentries

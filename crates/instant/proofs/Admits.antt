@@ -13,10 +13,10 @@ use Rattle.codes.proofs.Bools.{both, left, right}
 use Rattle.esterel.specs.Statement.{Binary, Stmt, leaf, one, two, size, nodes}
 use Rattle.esterel.specs.Instant.{holds, first, second, apart, atPauses, oneBranch, admitted}
 use Rattle.esterel.specs.Outcome.{statementAt}
+use Rattle.esterel.proofs.Parts.{part-at}
 use Rattle.esterel.proofs.Nodes.{Sits, sits-own}
 use Rattle.esterel.proofs.Ranges.{Over, over-join, over-last}
 use Rattle.esterel.proofs.Sizes.{length-nodes}
-use Rattle.instant.proofs.Bytes.{part-at}
 use Rattle.instant.specs.Admission.{countHeld, Counted, byteFits, childrenApart, nodeFits}
 
 -- counts and holds

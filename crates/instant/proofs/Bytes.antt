@@ -6,22 +6,12 @@ use Prim.Native.Nat.{ℕ, zero, suc, _+_, _-_, _<_, _≤_}
 use native.Mathlib.Omega.{arith}
 use lib.Dec.{ltb}
 use lib.ListN.{length, getD, take, drop, length-append}
-use lib.Seq.{sets, set-getD, drop-cons, take-take, drop-drop, getD-take, getD-drop, getD-at}
+use lib.Seq.{sets, set-getD, drop-cons, getD-take, getD-drop, getD-at}
 use borrow.Author.Tests.{lt-ltb, le-ltb}
 use Rattle.esterel.specs.Statement.{Unary, Binary, Stmt, one, two, size}
 use Rattle.esterel.specs.Instant.{holds}
 use Rattle.esterel.proofs.Held.{Fits, fits-one, fits-two, fits-length}
 use Rattle.instant.proofs.Sets.{Zero, none-at}
-
--- a part of a part
-pub part-in : (a b n : ℕ) (l : List ℕ) → a + b ≤ n → take b (drop a (take n l)) ≡ take b (drop a l)
-part-in zero b n l le = take-take b n l (omega arith)
-part-in (suc a) b zero l le = absurd (omega arith)
-part-in (suc a) b (suc n) [] le = refl
-part-in (suc a) b (suc n) (x ∷ l) le = part-in a b n l (omega arith)
-
-pub part-at : (f a b n : ℕ) (l : List ℕ) → a + b ≤ n → take b (drop a (take n (drop f l))) ≡ take b (drop (f + a) l)
-part-at f a b n l le = part-in a b n (drop f l) le ∙ ap (take b) (drop-drop a f l)
 
 -- the elements that stand there already
 pub sets-same : (l : List ℕ) (f n : ℕ) → f + n ≤ length l → sets l f (take n (drop f l)) ≡ l

@@ -12,7 +12,8 @@ use Rattle.codes.proofs.Bools.{right}
 use Rattle.esterel.specs.Statement.{pause, Unary, Binary, present, sequence, parallel, Stmt, leaf, one, two, kind, size}
 use Rattle.esterel.specs.Instant.{resumed, entry, first, second, holds, apart, resume, admitted}
 use Rattle.esterel.proofs.Sizes.{load}
-use Rattle.esterel.proofs.Held.{Fits, fits-two, first-two, second-two, child-fits, child-holds, left-fits, right-fits, right-holds, leaf-holds}
+use Rattle.esterel.proofs.Parts.{part-at}
+use Rattle.esterel.proofs.Held.{Fits, joint, child-fits, child-holds, left-fits, right-fits, right-holds, leaf-holds}
 use Rattle.esterel.proofs.Admitted.{admitted-fits, admitted-holds, admits}
 use Rattle.table.specs.Kinds.{kindOf, arityOf, isLoop, isSequence, isSuspend}
 use Rattle.table.specs.Program.{programOf}
@@ -23,7 +24,7 @@ use Rattle.instant.specs.Run.{stmtAt, firstAt, bytesAt, Runnable, Room, 
 use Rattle.instant.specs.declared.Ran.{Ran}
 use Rattle.instant.specs.declared.Ran.the-variants.{Closed, Starved}
 use Rattle.instant.proofs.Sets.{Zero}
-use Rattle.instant.proofs.Bytes.{part-at, sets-same, zero-part, own-one-at, own-two-at, holds-counted}
+use Rattle.instant.proofs.Bytes.{sets-same, zero-part, own-one-at, own-two-at, holds-counted}
 use Rattle.instant.proofs.Algebra.{Sized, Quiet, entries-le, held-behind, drop-behind, ended-zero}
 use Rattle.instant.proofs.Nodes.{load-le, start-sized, resume-sized, resume-few, resume-quiet}
 use Rattle.table.proofs.Views.{spans, Over, Both, kind-is, leaf-of, one-of, two-of}
@@ -58,10 +59,7 @@ state-of b ew o = rw ew at o
 state-in : (w : Stmt) {b b′ : List ℕ} → b ≡ b′ → admitted w b ≡ true → admitted w b′ ≡ true
 state-in w eb o = rw eb at o
 
--- children that must be apart are; after a first that holds a pause, the second of a sequence holds none, and another that runs too holds one
-apart-of : {b : Binary} {p q : Stmt} {h : List ℕ} → Fits (two b p q) h → apart b (holds (first p h)) (holds (second p q h)) ≡ true
-apart-of (fits-two b f e z) = rw (first-two f e, second-two f e) z
-
+-- after a first that holds a pause, the second of a sequence holds none, and another that runs too holds one
 sequence-none : (b : Binary) (p q : Stmt) (x : Bool) → apart b true x ≡ true → isSequence (kindOf (kind (two b p q))) ≡ true → x ≡ false
 unfolding kindOf
 sequence-none (present g) p q x a s = cc
@@ -280,7 +278,7 @@ module _ {t sizes counts answers held em : List ℕ} {node taken : ℕ} (ok : Ru
             done-as v e = ap₂ (λ i g. doneAfter i x g) (kind-is (ok .measured) (room .within) ek en (v .is)) (second-test v) ∙ e
 
             apart-as : {b : Binary} {p q : Stmt} (v : Both t node s b p q) → apart b true (holds (second p q (part (firstAt t node) (two b p q) held))) ≡ true
-            apart-as {b = b} {p = p} {q = q} v = ap (λ g. apart b g (holds (second p q (part (firstAt t node) (two b p q) held)))) (sym (holds-left v ∙ h)) ∙ apart-of (here-fits (v .is))
+            apart-as {b = b} {p = p} {q = q} v = ap (λ g. apart b g (holds (second p q (part (firstAt t node) (two b p q) held)))) (sym (holds-left v ∙ h)) ∙ joint (here-fits (v .is))
 
             pub done-returns : {r : Ran} → doneAfter k x d ≡ true → r ≡ oneMore x → Resumed t answers held mid em emid node taken r
             done-returns dn er =

@@ -5,13 +5,15 @@ use mathlib.Core.Bool.{Bool, true, false, cond}
 use mathlib.Core.List.{List}
 use Prim.Native.Nat.{ℕ, _/_, _≤_, _<_}
 use native.Mathlib.Omega.{arith}
-use borrow.Author.Tests.{le-leb}
+use borrow.Author.Tests.{le-leb, leb-true}
+use lib.Dec.{leb}
 use lib.ListN.{length, take, drop, length-append, length-drop}
 use lib.Seq.{take-at, drop-at}
-use Rattle.codes.proofs.Bools.{both}
+use Rattle.codes.proofs.Bools.{both, left, right}
 use Rattle.esterel.specs.Limits.{maxNodes, signals}
 use Rattle.esterel.specs.Statement.{Stmt, size, nodes}
 use Rattle.esterel.specs.Table.{Verdict, passed, refused}
+use Rattle.esterel.specs.Checks.{verdict}
 use Rattle.esterel.specs.Instant.{Entry, Result, closed, starved, stuck, start, resume, admitted}
 use Rattle.esterel.specs.Outcome.{emitted, emissionBytes, outcome}
 use Rattle.esterel.specs.Theorems.{Accepted, Closes, NeedsMore}
@@ -20,7 +22,7 @@ use Rattle.esterel.proofs.Accepted.{acceptance}
 use Rattle.esterel.proofs.Refusals.{Numbered, Told, told-numbered}
 use Rattle.esterel.proofs.Theorems.{demand3, starving}
 use Rattle.analysis.specs.Analysis.{checked}
-use Rattle.analysis.proofs.Theorems.{checked-room, checked-passed, checked-told}
+use Rattle.analysis.proofs.Theorems.{checked-room, checked-passed, checked-suffices, checked-told}
 use Rattle.instant.specs.declared.Reaction.{Reaction}
 use Rattle.instant.specs.declared.Reaction.the-variants.{Closed, Refused}
 use Rattle.instant.specs.Calls.{roomFor, verdictFor, Call, closing, refuses, answerOf, stateAfter, emissionsAfter, startCall, resumeCall, Reacts, Starting, Resuming}
@@ -29,17 +31,45 @@ use Rattle.instant.specs.Theorems.{Lent, Ends, closes, starves, Instant,
 use Rattle.instant.proofs.Emissions.{length-emissions}
 use Rattle.instant.proofs.Closing.{held-length, reacts-as}
 
-module _ {t state emissions : List ℕ} {p : Stmt} (l : Lent t p state emissions) where
-  nodes-are : length t / 2 ≡ size p
-  nodes-are = omega (arith, ap length (acceptance t p (l .accepted) .0), length-postfix p)
+nodes-are : (t : List ℕ) (p : Stmt) → verdict t ≡ passed p → length t / 2 ≡ size p
+nodes-are t p e = omega (arith, ap length (acceptance t p e .0), length-postfix p)
 
+module _ {t state emissions : List ℕ} {p : Stmt} (l : Lent t p state emissions) where
   passes : verdictFor t (length state) (length emissions) ≡ passed p
   passes =
-      let enough : roomFor (length t / 2) (length state) (length emissions) ≡ true = both (le-leb (length t / 2) (length state) (omega (arith, nodes-are, l .places))) (le-leb signals (length emissions) (l .marks)) in
+      let enough : roomFor (length t / 2) (length state) (length emissions) ≡ true = both (le-leb (length t / 2) (length state) (omega (arith, nodes-are t p (l .accepted), l .places))) (le-leb signals (length emissions) (l .marks)) in
       ap (λ b. checked b t) enough ∙ checked-room t ∙ l .accepted
 
   sound : Accepted p
   sound = acceptance t p (l .accepted) .1
+
+-- a call that passes checks 1 to 11
+lent-of : (t state emissions : List ℕ) (p : Stmt) → verdictFor t (length state) (length emissions) ≡ passed p → Lent t p state emissions
+lent-of t state emissions p e =
+    let accepted = checked-passed _ t p e in
+    let room = checked-suffices _ t p e in
+    record {
+      accepted = accepted;
+      places = omega (arith, nodes-are t p accepted, leb-true (length t / 2) (length state) (left (leb (length t / 2) (length state)) (leb signals (length emissions)) room));
+      marks = leb-true signals (length emissions) (right (leb (length t / 2) (length state)) room);
+    }
+
+module _ (t answers state emissions : List ℕ) (code k entries : ℕ) where
+  started-lent : Closed code k entries ≡ answerOf (startCall (verdictFor t (length state) (length emissions)) answers) → (p : Stmt) × Lent t p state emissions
+  unfolding startCall
+  started-lent = go (verdictFor t (length state) (length emissions)) refl
+    where
+      go : (v : Verdict) → verdictFor t (length state) (length emissions) ≡ v → Closed code k entries ≡ answerOf (startCall v answers) → (p : Stmt) × Lent t p state emissions
+      go (passed p) e z = (p, lent-of t state emissions p e)
+      go (refused a b) e z = let y : _≡_ {A = ℕ} 0 1 = cc in absurd (omega arith)
+
+  resumed-lent : Closed code k entries ≡ answerOf (resumeCall (verdictFor t (length state) (length emissions)) state answers) → (p : Stmt) × Lent t p state emissions
+  unfolding resumeCall
+  resumed-lent = go (verdictFor t (length state) (length emissions)) refl
+    where
+      go : (v : Verdict) → verdictFor t (length state) (length emissions) ≡ v → Closed code k entries ≡ answerOf (resumeCall v state answers) → (p : Stmt) × Lent t p state emissions
+      go (passed p) e z = (p, lent-of t state emissions p e)
+      go (refused a b) e z = let y : _≡_ {A = ℕ} 0 1 = cc in absurd (omega arith)
 
 -- a call that comes to the rules' outcome of x
 module _ (p : Stmt) (run : List ℕ → Result) (answers state emissions state′ emissions′ : List ℕ) (room : size p ≤ length state) where
@@ -177,6 +207,8 @@ unchanged {call} {state} {emissions} {state′} {emissions′} {number} {node} t
 pub demand3OfCalls : Demand3OfCalls
 demand3OfCalls =
     record {
+      startLent = λ t answers state emissions state′ emissions′ code k entries o. started-lent t answers state emissions code k entries (o .answer);
+      resumeLent = λ t answers state emissions state′ emissions′ code k entries o. resumed-lent t answers state emissions code k entries (o .answer);
       starts = starts-instant;
       resumes = resumes-instant;
       refuses = resumes-refused;

@@ -68,6 +68,13 @@ pub record Unchanged (number node : ℕ) (state emissions state′ emissions′ 
   pub sameEmissions : emissions′ ≡ emissions
 
 pub record Demand3OfCalls : Type 0 where
+  -- a call that closes was lent the table of an accepted program and buffers that suffice
+  pub startLent :
+      (t answers state emissions state′ emissions′ : List ℕ) (code k entries : ℕ) →
+      Starting t answers state emissions state′ emissions′ (Closed code k entries) → (p : Stmt) × Lent t p state emissions
+  pub resumeLent :
+      (t answers state emissions state′ emissions′ : List ℕ) (code k entries : ℕ) →
+      Resuming t answers state emissions state′ emissions′ (Closed code k entries) → (p : Stmt) × Lent t p state emissions
   pub starts :
       (t answers state emissions state′ emissions′ : List ℕ) (p : Stmt) (r : Reaction) →
       Lent t p state emissions →

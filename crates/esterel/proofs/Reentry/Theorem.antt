@@ -1,0 +1,224 @@
+-- No unmarked reentry, and the runs of an accepted program: the theorems of specs/Theorems.antt.
+use mathlib.Core.Path.{_≡_, refl, sym, ap, _∙_, subst}
+use mathlib.Core.Bool.{true}
+use mathlib.Core.List.{List, [], _∷_, _++_, append-assoc}
+use Prim.Native.Nat.{ℕ, _≤_}
+use native.Mathlib.Omega.{arith}
+use lib.Seq.{take-all}
+use lib.ListN.{take}
+use Rattle.esterel.specs.Statement.{Stmt, size, nodes}
+use Rattle.esterel.specs.Codes.{empty, bit}
+use Rattle.esterel.specs.Sets.{Place, at, contextOf, stmtOf, placesOf, placeAt, mark, anyInstantSet}
+use Rattle.esterel.specs.Instant.{Mode, started, resumed, Entry, entry, Result, closed, holds, admitted}
+use Rattle.esterel.specs.Outcome.{statementAt}
+use Rattle.esterel.specs.Reentry.{Reached, fresh, onward, Happens, starts, resumes, markAt, Twice, Entered, Dropped, Reentered, Holding, Started, StartedUnresumed, DroppedUnentered}
+use Rattle.esterel.specs.Theorems.{Accepted, Closes, Invariant, Runs, NoUnmarkedReentry}
+use Rattle.esterel.proofs.Every.{Every}
+use Rattle.esterel.proofs.Held.{fits-length}
+use Rattle.esterel.proofs.Low.{any-low}
+use Rattle.esterel.proofs.Admitted.{admitted-fits}
+use Rattle.esterel.proofs.Accepted.{place-statement, passes}
+use Rattle.esterel.proofs.Theorems.{demand3}
+use Rattle.esterel.proofs.Nodes.{sits-own}
+use Rattle.esterel.proofs.Caught.{Caught, caught-at}
+use Rattle.esterel.proofs.Reentry.Trails.{every-map, Pairs, pairs-two}
+use Rattle.esterel.proofs.Reentry.Contexts.{meets-in}
+use Rattle.esterel.proofs.Reentry.Places.{placed-own}
+use Rattle.esterel.proofs.Reentry.Kept.{Kept}
+use Rattle.esterel.proofs.Reentry.Invariant.{invariant, holding-inside, none-holding}
+use Rattle.esterel.proofs.Reentry.Went.{Went, went}
+use Rattle.esterel.proofs.Reentry.Seen.{nodeOf, modeOf, InA, InS, Again}
+use Rattle.esterel.proofs.Reentry.Start.{start-went}
+use Rattle.esterel.proofs.Reentry.Resume.{resume-went}
+use Rattle.esterel.proofs.Reentry.Tracks.{Tracked, tracked, Revisits, member-of, entered, entered-before, Later, later}
+use Rattle.esterel.proofs.Reentry.Words.{Full, Gone, gone-further, start-track, resume-track}
+use Rattle.esterel.proofs.Reentry.Suspended.{Fate, met, rests, Met, Rests, fate}
+
+-- what a closed result leaves: its trail, and after code 1 its bytes
+module _ {R : Entry → Entry → Type 0} {s : ℕ} {B : List ℕ → Type 0} {C : ℕ → Type 0} {E : ℕ → Entry → Type 0} {t : List Entry} {h r : List ℕ} where
+  left-held : Went R s B C E (closed 1 t h r) → B h × (holds h ≡ true)
+  left-held (went _ _ _ _ c z e l) = (z .kept (omega arith), z .shown)
+
+  trail-of : {F : Entry → Type 0} (k : ℕ) → ((e : Entry) → E k e → F e) → Went R s B C E (closed k t h r) → Every F t × Pairs R t
+  trail-of k f (went _ _ _ _ c z e l) = (every-map f e, l)
+
+track-of : {Z : ℕ → List Entry → Type 0} {k : ℕ} {t : List Entry} {h r : List ℕ} → Tracked Z (closed k t h r) → Z k t
+track-of (tracked _ _ _ _ z) = z
+
+resumed-started : resumed ≡ started → ⊥
+resumed-started e = let z : _≡_ {A = ℕ} 0 1 = cc in omega arith
+
+-- what is gone before it is started again
+goes : {p : Stmt} {held : List ℕ} {t : List Entry} → Happens p held t → Revisits (Gone p) t
+goes {p} (starts ans k t h r e) = track-of (rw e at (start-track p (Gone p) (gone-further p) p 0 ans (sits-own p))) .0 .pairs
+goes {p} (resumes before ans k t h r o e) = track-of (rw e at (resume-track p p 0 before ans (sits-own p))) .0 .pairs
+
+mark-in : (x : Place) (k : ℕ) → k ≤ 63 → anyInstantSet (stmtOf x) k ≡ true → contextOf x k ≡ true → mark x ≡ 1
+mark-in (at d t S p) k h a c = ap bit (meets-in (anyInstantSet p) S k h a c)
+
+-- Reached states are admitted.
+closed-admitted : (p : Stmt) (answers : List ℕ) {x : Result} {trail : List Entry} {held rest : List ℕ} → Closes p answers x → x ≡ closed 1 trail held rest → admitted p held ≡ true
+closed-admitted p answers {trail = trail} {held} {rest} c e = let z : Closes p answers (closed 1 trail held rest) = rw e at c in z .paused refl
+
+reached-admitted : (p : Stmt) → Accepted p → (held : List ℕ) → Reached p held → admitted p held ≡ true
+reached-admitted p a _ (fresh answers trail held rest e) = closed-admitted p answers (demand3 .starts p a answers) e
+reached-admitted p a _ (onward before answers trail held rest o e) =
+    closed-admitted p answers (demand3 .resumes p a before answers (reached-admitted p a before o)) e
+
+module _ (p : Stmt) (a : Accepted p) where
+  caught : (i : ℕ) → Caught (placeAt p i)
+  caught = caught-at p (passes p a .traps) (passes p a .exits)
+
+  -- the invariant of reached states
+  reached-kept : {h : List ℕ} → Reached p h → Kept p h × (holds h ≡ true)
+  reached-kept (fresh ans t h r e) = left-held (rw e at (start-went (placesOf p) caught p 0 1 0 empty ans (placed-own p)))
+  reached-kept (onward before ans t h r o e) =
+      let z = reached-kept o in
+      left-held (rw e at (resume-went (placesOf p) caught p 0 1 0 empty before ans (placed-own p) (z .0) (z .1)))
+
+  keeps : (held : List ℕ) → Reached p held → Invariant p held
+  keeps held o = invariant p held (reached-kept o .0) (admitted-fits p held (reached-admitted p a held o))
+
+  -- each code of a trail is in A, and in S if the node is entered again
+  trails : {held : List ℕ} {t : List Entry} → Happens p held t → Every (InA (placesOf p)) t × Pairs (Again (placesOf p)) t
+  trails (starts ans k t h r e) = trail-of k (λ y o. o .0 .any) (rw e at (start-went (placesOf p) caught p 0 1 0 empty ans (placed-own p)))
+  trails (resumes before ans k t h r o e) =
+      let z = reached-kept o in
+      trail-of k (λ y o. o .any) (rw e at (resume-went (placesOf p) caught p 0 1 0 empty before ans (placed-own p) (z .0) (z .1)))
+
+  -- a node that is held is resumed, or beneath a suspend that pauses
+  fates : {held : List ℕ} {t : List Entry} → Happens p held t → (n : ℕ) → Holding p held n → Fate p n t
+  fates (starts ans k t h r e) n y = none-holding p (size p) n y
+  fates (resumes held ans k t h r o e) n y =
+      let f = admitted-fits p held (reached-admitted p a held o) in
+      let whole : take (size p) held ≡ held = take-all (size p) held (omega (arith, fits-length f)) in
+      track-of (rw e at (fate p caught held p 0 1 0 empty held ans (sits-own p) (placed-own p) (sym whole) f n (omega arith) (omega (arith, holding-inside p held f n y)) y))
+
+  marks : (n k : ℕ) → anyInstantSet (stmtOf (placeAt p n)) k ≡ true → contextOf (placeAt p n) k ≡ true → markAt p n ≡ 1
+  marks n k i c =
+      let x = placeAt p n in
+      let few : k ≤ 63 = omega (arith, any-low (stmtOf x) _ (caught n .exits) k i, caught n .few) in
+      mark-in x k few i c
+
+  paused-in : {held : List ℕ} {t : List Entry} → Happens p held t → (n : ℕ) → Holding p held n → anyInstantSet (statementAt (nodes p) n) 1 ≡ true
+  paused-in (starts ans k t h r e) n y = none-holding p (size p) n y
+  paused-in (resumes held ans k t h r o e) n y = keeps held o .paused n y
+
+  module _ (held : List ℕ) (t : List Entry) (o : Happens p held t) where
+    code-in : (before : List Entry) (n : ℕ) (m : Mode) (k : ℕ) (after : List Entry) → t ≡ before ++ (entry n m k ∷ after) → anyInstantSet (statementAt (nodes p) n) k ≡ true
+    code-in before n m k after e = rw (← place-statement p n) (member-of before (entry n m k) after e (trails o .0))
+
+    module _ (n : ℕ) (w : Twice t n) where
+      is-back : InS (placesOf p) (entry n (w .mode) (w .code)) × (w .again ≡ started)
+      is-back = pairs-two (w .before) _ (w .between) (entry n (w .again) (w .codeAgain)) (w .after) (rw (w .is) at (trails o .1)) refl
+
+      is-marked : markAt p n ≡ 1
+      is-marked = marks n (w .code) (member-of (w .before) (entry n (w .mode) (w .code)) _ (w .is) (trails o .0)) (is-back .0)
+
+      -- the request's words
+      words : Reentered p t n
+      words =
+          let z : w .again ≡ started = is-back .1 in
+          record {
+            before = w .before;
+            mode = w .mode;
+            code = w .code;
+            between = w .between;
+            codeAgain = w .codeAgain;
+            after = w .after;
+            is = rw z at (w .is);
+            gone = goes o (w .before) (entry n (w .mode) (w .code)) (w .between) (entry n (w .again) (w .codeAgain)) (w .after) (w .is) refl;
+          }
+
+    -- the suspend beneath which n is held is entered again before n is
+    module _ (n : ℕ) (y : Rests p n t) (m : List Entry) (e : Entry) (z : List Entry) (w : y .after ≡ m ++ (e ∷ z)) (q : nodeOf e ≡ n) where
+      next : Entered (y .pauser) m
+      next = y .returns m e z w q .0
+
+      pauser-again : t ≡ y .before ++ (entry (y .pauser) resumed 1 ∷ (next .before ++ (entry (y .pauser) (next .mode) (next .code) ∷ (next .after ++ (e ∷ z)))))
+      pauser-again = y .is ∙ ap (λ l. y .before ++ (entry (y .pauser) resumed 1 ∷ l)) (w ∙ ap (λ l. l ++ (e ∷ z)) (next .is) ∙ append-assoc (next .before) _ (e ∷ z))
+
+      rested-marked : Holding p held n → markAt p n ≡ 1
+      rested-marked h =
+          let back = pairs-two (y .before) _ (next .before) _ (next .after ++ (e ∷ z)) (rw pauser-again at (trails o .1)) refl in
+          marks n 1 (rw (place-statement p n) (paused-in o n h)) (y .returns m e z w q .1 (back .0))
+
+      pauser-gone : Dropped p (y .pauser) (y .before) m
+      pauser-gone =
+          let d = goes o (y .before) (entry (y .pauser) resumed 1) (next .before) _ (next .after ++ (e ∷ z)) pauser-again refl refl in
+          record { caught = d .caught; next = d .next; outside = d .outside; over = subst (Entered (d .next)) (sym (next .is)) (entered-before _ (d .over)) }
+
+    -- n is held and started
+    module _ (n : ℕ) (h : Holding p held n) (b : List Entry) (k : ℕ) (z : List Entry) (w : t ≡ b ++ (entry n started k ∷ z)) where
+      after-met : (y : Met p n t) → Later (y .before) (entry n resumed (y .code)) (y .after) b (entry n started k) z
+      after-met y = later (y .before) (entry n resumed (y .code)) (y .after) b (entry n started k) z (sym (y .is) ∙ w) (y .unentered) (λ e. resumed-started (ap modeOf e))
+
+      after-rest : (y : Rests p n t) → Later (y .before) (entry (y .pauser) resumed 1) (y .after) b (entry n started k) z
+      after-rest y = later (y .before) (entry (y .pauser) resumed 1) (y .after) b (entry n started k) z (sym (y .is) ∙ w) (y .unentered) (λ e. resumed-started (ap modeOf e))
+
+      held-marked : Fate p n t → markAt p n ≡ 1
+      held-marked (met y) =
+          let l = after-met y in
+          is-marked n
+          record {
+            before = y .before;
+            mode = resumed;
+            code = y .code;
+            between = l .between;
+            again = started;
+            codeAgain = k;
+            after = z;
+            is = y .is ∙ ap (λ u. y .before ++ (entry n resumed (y .code) ∷ u)) (l .back);
+          }
+      held-marked (rests y) = let l = after-rest y in rested-marked n y (l .between) (entry n started k) z (l .back) refl h
+
+      -- where it is not entered before
+      unresumed : (Entered n b → ⊥) → Fate p n t → DroppedUnentered p held t n
+      unresumed first (met y) =
+          let l = after-met y in
+          absurd (first (entered (y .before) (entry n resumed (y .code)) (l .between) refl (l .front)))
+      unresumed first (rests y) =
+          let l = after-rest y in
+          record {
+            holding = h;
+            pauser = y .pauser;
+            isSuspend = y .isSuspend;
+            around = y .around;
+            before = y .before;
+            between = l .between;
+            code = k;
+            after = z;
+            is = y .is ∙ ap (λ u. y .before ++ (entry (y .pauser) resumed 1 ∷ u)) (l .back);
+            unentered = λ e. first (subst (Entered n) (sym (l .front)) e);
+            gone = pauser-gone n y (l .between) (entry n started k) z (l .back) refl;
+          }
+
+twice-of : {p : Stmt} {t : List Entry} {n : ℕ} → Reentered p t n → Twice t n
+twice-of o = record { before = o .before; mode = o .mode; code = o .code; between = o .between; again = started; codeAgain = o .codeAgain; after = o .after; is = o .is }
+
+pub runs : Runs
+runs = record { admits = reached-admitted; keeps = keeps; inA = code-in }
+
+unresumed-of : {p : Stmt} {held : List ℕ} {t : List Entry} {n : ℕ} → DroppedUnentered p held t n → StartedUnresumed p held t n
+unresumed-of o =
+    record {
+      holding = o .holding;
+      before = o .before ++ (entry (o .pauser) resumed 1 ∷ o .between);
+      code = o .code;
+      after = o .after;
+      is = o .is ∙ sym (append-assoc (o .before) (entry (o .pauser) resumed 1 ∷ o .between) _);
+      unentered = o .unentered;
+    }
+
+pub noUnmarkedReentry : NoUnmarkedReentry
+noUnmarkedReentry =
+    record {
+      marked = is-marked;
+      inWords = λ p a held t o n. (words p a held t o n, twice-of);
+      heldMarked = λ p a held t o n h s. held-marked p a held t o n h (s .before) (s .code) (s .after) (s .is) (fates p a o n h);
+      heldInWords = λ p a held t o n.
+          (λ s. unresumed p a held t o n (s .holding) (s .before) (s .code) (s .after) (s .is) (s .unentered) (fates p a o n (s .holding)), unresumed-of);
+      startsOnce = λ p answers k t h r e n w.
+          track-of (rw e at (start-track p (λ b e m. ⊥) (λ x b e m y. y) p 0 answers (sits-own p))) .0 .pairs
+          (w .before) (entry n (w .mode) (w .code)) (w .between) (entry n (w .again) (w .codeAgain)) (w .after) (w .is) refl;
+    }
