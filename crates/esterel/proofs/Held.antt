@@ -1,13 +1,13 @@
 -- Held bytes: what they say of a code, and the states that fit a statement.
-use mathlib.Core.Path.{_≡_, refl, sym, ap, _∙_, subst}
-use mathlib.Core.Bool.{Bool, true, false, not, _&&_, _||_, or-false, and-false}
+use mathlib.Core.Path.{_≡_, refl, ap}
+use mathlib.Core.Bool.{Bool, true, false, _||_, or-false, and-false}
 use mathlib.Core.List.{List, [], _∷_, _++_, append-assoc}
 use Prim.Native.Nat.{ℕ, zero, suc, _+_, max}
 use native.Mathlib.Nat.{zero-max, max-zero, suc-max-suc}
 use native.Mathlib.Omega.{arith}
-use lib.ListN.{length, take, drop, replicate, length-append, replicate-append-replicate}
+use lib.ListN.{length, length-append, replicate-append-replicate}
 use lib.Seq.{take-at, drop-at}
-use Rattle.esterel.specs.Statement.{Leaf, nothing, pause, emit, exit, Unary, Binary, present, sequence, parallel, Stmt, leaf, one, two, size}
+use Rattle.esterel.specs.Statement.{Leaf, pause, Unary, Binary, present, sequence, parallel, Stmt, leaf, one, two, size}
 use Rattle.esterel.specs.Instant.{zeros, holds, first, second, apart}
 
 pub holds-append : (a b : List ℕ) → holds (a ++ b) ≡ (holds a || holds b)

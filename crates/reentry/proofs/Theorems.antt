@@ -10,7 +10,7 @@ use Rattle.esterel.specs.Codes.{empty}
 use Rattle.esterel.specs.Sets.{placesOf, outside, placeAt, mark}
 use Rattle.esterel.specs.Table.{passed}
 use Rattle.esterel.specs.Checks.{verdict}
-use Rattle.esterel.specs.Instant.{Result, zeros, start, resume}
+use Rattle.esterel.specs.Instant.{Result, start, resume}
 use Rattle.esterel.specs.Reentry.{Reached, Happens, markAt}
 use Rattle.esterel.specs.Theorems.{Accepted}
 use Rattle.esterel.proofs.Accepted.{acceptance, length-places}

@@ -1,11 +1,11 @@
 -- Where a statement's places stand in the program's list.
-use mathlib.Core.Path.{_≡_, refl, sym, ap, _∙_}
+use mathlib.Core.Path.{_≡_, refl}
 use mathlib.Core.List.{List, [], _∷_, _++_, append-assoc, append-nil}
 use Prim.Native.Nat.{ℕ, suc, _+_}
 use native.Mathlib.Omega.{arith}
-use lib.ListN.{length, getD, length-append, length-map}
+use lib.ListN.{length, getD, length-append}
 use lib.Seq.{getD-at}
-use Rattle.esterel.specs.Statement.{nothing, Stmt, leaf, one, two, size, trapsUnder}
+use Rattle.esterel.specs.Statement.{Stmt, leaf, one, two, size, trapsUnder}
 use Rattle.esterel.specs.Codes.{Codes, empty}
 use Rattle.esterel.specs.Sets.{Place, at, places, placesOf, outside, under, underLeft, underRight}
 use Rattle.esterel.proofs.Accepted.{length-places}

@@ -1,16 +1,15 @@
 -- A node that is held when an instant begins is resumed, or stands beneath a suspend that is resumed and pauses. In the second case it is
 -- entered only after that suspend is entered again.
 use mathlib.Core.Path.{_≡_, refl, sym, ap, _∙_}
-use mathlib.Core.Bool.{true, false, cond}
+use mathlib.Core.Bool.{true, cond}
 use mathlib.Core.List.{List, [], _∷_, _++_, append-assoc}
 use mathlib.Core.Logic.{⊎-elim}
 use Prim.Native.Nat.{ℕ, zero, suc, _+_, _-_, _≤_, _<_}
-use native.Mathlib.Decide.{decLt}
 use native.Mathlib.Omega.{arith}
-use Rattle.esterel.specs.Statement.{nothing, pause, emit, exit, Unary, signal, suspend, loop, trap, Binary, present, sequence, parallel, Stmt, leaf, one, two, kind, size, nodes}
+use Rattle.esterel.specs.Statement.{nothing, pause, emit, exit, signal, suspend, loop, trap, present, sequence, parallel, Stmt, leaf, one, two, kind, size, nodes}
 use Rattle.esterel.specs.Codes.{Codes, catchCode}
-use Rattle.esterel.specs.Sets.{placesOf, placeAt, under, underLeft, underRight}
-use Rattle.esterel.specs.Instant.{resumed, Entry, entry, Result, closed, starved, stuck, enter, start, resume, idle, holds, first, second}
+use Rattle.esterel.specs.Sets.{placesOf, placeAt}
+use Rattle.esterel.specs.Instant.{resumed, Entry, entry, Result, start, resume, idle, holds, first, second}
 use Rattle.esterel.specs.Outcome.{statementAt}
 use Rattle.esterel.specs.Reentry.{Beneath, Entered, Holding}
 use Rattle.esterel.proofs.Every.{Every, none, also}

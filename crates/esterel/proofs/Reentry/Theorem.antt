@@ -1,7 +1,7 @@
 -- No unmarked reentry, and the runs of an accepted program: the theorems of specs/Theorems.antt.
 use mathlib.Core.Path.{_≡_, refl, sym, ap, _∙_, subst}
 use mathlib.Core.Bool.{true}
-use mathlib.Core.List.{List, [], _∷_, _++_, append-assoc}
+use mathlib.Core.List.{List, _∷_, _++_, append-assoc}
 use Prim.Native.Nat.{ℕ, _≤_}
 use native.Mathlib.Omega.{arith}
 use lib.Seq.{take-all}
@@ -11,7 +11,7 @@ use Rattle.esterel.specs.Codes.{empty, bit}
 use Rattle.esterel.specs.Sets.{Place, at, contextOf, stmtOf, placesOf, placeAt, mark, anyInstantSet}
 use Rattle.esterel.specs.Instant.{Mode, started, resumed, Entry, entry, Result, closed, holds, admitted}
 use Rattle.esterel.specs.Outcome.{statementAt}
-use Rattle.esterel.specs.Reentry.{Reached, fresh, onward, Happens, starts, resumes, markAt, Twice, Entered, Dropped, Reentered, Holding, Started, StartedUnresumed, DroppedUnentered}
+use Rattle.esterel.specs.Reentry.{Reached, fresh, onward, Happens, starts, resumes, markAt, Twice, Entered, Dropped, Reentered, Holding, StartedUnresumed, DroppedUnentered}
 use Rattle.esterel.specs.Theorems.{Accepted, Closes, Invariant, Runs, NoUnmarkedReentry}
 use Rattle.esterel.proofs.Every.{Every}
 use Rattle.esterel.proofs.Held.{fits-length}
@@ -31,7 +31,7 @@ use Rattle.esterel.proofs.Reentry.Seen.{nodeOf, modeOf, InA, InS, Again
 use Rattle.esterel.proofs.Reentry.Start.{start-went}
 use Rattle.esterel.proofs.Reentry.Resume.{resume-went}
 use Rattle.esterel.proofs.Reentry.Tracks.{Tracked, tracked, Revisits, member-of, entered, entered-before, Later, later}
-use Rattle.esterel.proofs.Reentry.Words.{Full, Gone, gone-further, start-track, resume-track}
+use Rattle.esterel.proofs.Reentry.Words.{Gone, gone-further, start-track, resume-track}
 use Rattle.esterel.proofs.Reentry.Suspended.{Fate, met, rests, Met, Rests, fate}
 
 -- what a closed result leaves: its trail, and after code 1 its bytes

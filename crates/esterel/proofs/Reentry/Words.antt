@@ -1,10 +1,10 @@
 -- The nodes that stand at two places of a trail are those of the request's words: over or dropped, and started again.
 use mathlib.Core.Path.{_≡_, refl, sym, ap, _∙_}
-use mathlib.Core.List.{List, [], _∷_, _++_, append-assoc}
+use mathlib.Core.List.{List, [], _∷_, _++_}
 use Prim.Native.Nat.{ℕ, zero, suc, _+_, _-_, _≤_, _<_}
 use native.Mathlib.Nat.{le-refl}
 use native.Mathlib.Omega.{arith}
-use Rattle.esterel.specs.Statement.{nothing, pause, emit, exit, signal, suspend, loop, trap, Binary, present, sequence, parallel, Stmt, leaf, one, two, size, nodes}
+use Rattle.esterel.specs.Statement.{nothing, pause, emit, exit, signal, suspend, loop, trap, present, sequence, parallel, Stmt, leaf, one, two, size, nodes}
 use Rattle.esterel.specs.Codes.{catchCode}
 use Rattle.esterel.specs.Instant.{Mode, started, resumed, Entry, entry, start, resume, idle, holds, first, second}
 use Rattle.esterel.specs.Outcome.{statementAt}
