@@ -2,7 +2,7 @@
 -- of its K, A or S is past theirs, and their 64-bit numbers represent them (F-7).
 use mathlib.Core.Path.{_≡_}
 use mathlib.Core.Bool.{false}
-use mathlib.Core.List.{List, _∷_, []}
+use mathlib.Core.List.{_∷_, []}
 use Prim.Native.Nat.{ℕ, suc, _+_, _≤_}
 use native.Mathlib.Omega.{arith}
 use lib.Dec.{ltb, nltb→le}
@@ -16,7 +16,7 @@ use Rattle.esterel.specs.Sets.{Place, at, trapsOf, contextOf, stmtOf, pl
 use Rattle.esterel.specs.Checks.{tooManyTraps, uncaught}
 use Rattle.esterel.specs.Outcome.{statementAt}
 use Rattle.esterel.specs.Theorems.{LowCodes}
-use Rattle.esterel.proofs.Every.{Every, none, also, every-left, every-right, every-join, every-at}
+use Rattle.esterel.proofs.Every.{Every, none, also, every-left, every-right, every-join, every-first, every-at}
 use Rattle.esterel.proofs.Low.{Exits, codes-low, start-low, any-low, under-low, left-low, right-low}
 use Rattle.esterel.proofs.Accepted.{Passes, passes, exits-caught, place-statement}
 
@@ -31,13 +31,10 @@ few-under (suspend s) d t P p h e = h
 few-under loop d t P p h e = h
 few-under trap d t P p h e = nltb→le maxTraps (suc t) (toNot (ltb maxTraps (suc t)) e)
 
-head-of : {A : Type 0} {P : A → Type 0} {x : A} {xs : List A} → Every P (x ∷ xs) → P x
-head-of (also e c) = e
-
 caught-places : (p : Stmt) (d t : ℕ) (P : Codes) → t ≤ maxTraps → AtMost (suc t) P → Exits t p → Passes tooManyTraps (places d t P p) → Every Caught (places d t P p)
 caught-places (leaf l) d t P h s x c = also record { exits = x; few = h; context = s } none
 caught-places (one u p) d t P h s x c =
-    let own : tooManyTraps (at d t P (one u p)) ≡ false = head-of (every-right (places (suc d) (trapsUnder u t) (under u P) p) (at d t P (one u p) ∷ []) c) in
+    let own : tooManyTraps (at d t P (one u p)) ≡ false = every-first (every-right (places (suc d) (trapsUnder u t) (under u P) p) (at d t P (one u p) ∷ []) c) in
     every-join (caught-places p (suc d) (trapsUnder u t) (under u P) (few-under u d t P p h own) (under-low u t P s) x (every-left _ _ c))
     (also record { exits = x; few = h; context = s } none)
 caught-places (two b p q) d t P h s x c =

@@ -20,7 +20,14 @@ module _ {A : Type 0} {P : A → Type 0} where
   every-join none d = d
   every-join (also e c) d = also e (every-join c d)
 
+  pub every-first : {x : A} {xs : List A} → Every P (x ∷ xs) → P x
+  every-first (also e c) = e
+
   pub every-at : {xs : List A} (d : A) → P d → Every P xs → (n : ℕ) → P (getD xs n d)
   every-at d z none n = z
   every-at d z (also e c) zero = e
   every-at d z (also e c) (suc n) = every-at d z c n
+
+pub every-map : {A : Type 0} {P Q : A → Type 0} {xs : List A} → ((x : A) → P x → Q x) → Every P xs → Every Q xs
+every-map f none = none
+every-map f (also {x = x} e c) = also (f x e) (every-map f c)

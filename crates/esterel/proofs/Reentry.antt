@@ -4,6 +4,7 @@ pub mod Contexts
 pub mod Places
 pub mod Kept
 pub mod Invariant
+pub mod Results
 pub mod Went
 pub mod Seen
 pub mod Start

@@ -11,17 +11,18 @@ use Rattle.esterel.specs.Statement.{nothing, pause, emit, exit, Unary, s
 use Rattle.esterel.specs.Codes.{Codes, only}
 use Rattle.esterel.specs.Sets.{Place, at, startSet, anyInstantSet, under, underLeft, underRight}
 use Rattle.esterel.specs.Instant.{resumed, entry, Result, zeros, enter, resume, idle, holds, first, second}
-use Rattle.esterel.proofs.Every.{none, also}
+use Rattle.esterel.proofs.Every.{none}
 use Rattle.esterel.proofs.Held.{holds-zeros, fits-leaf, fits-one, fits-two, fits-length, child-fits, left-fits, right-fits, joint, child-holds, left-holds, right-holds}
 use Rattle.esterel.proofs.Start.{In}
 use Rattle.esterel.proofs.Low.{any-low}
 use Rattle.esterel.proofs.Caught.{Caught}
 use lib.ListN.{length-replicate}
-use Rattle.esterel.proofs.Reentry.Trails.{empty, ahead}
+use Rattle.esterel.proofs.Reentry.Trails.{empty}
 use Rattle.esterel.proofs.Reentry.Contexts.{start-any, meets-in, under-trap-in, under-parallel-in}
 use Rattle.esterel.proofs.Reentry.Places.{placeIn, Placed}
 use Rattle.esterel.proofs.Reentry.Kept.{Kept, kept-zeros, holds-one}
-use Rattle.esterel.proofs.Reentry.Went.{Went, went, asked, noRule, enter-went, same-went, alone-went, skip-went, catch-went, andThen-went, beside-went, again-went, cond-went}
+use Rattle.esterel.proofs.Reentry.Results.{leaves, asked, noRule, cond-leaves}
+use Rattle.esterel.proofs.Reentry.Went.{Went, single-went, enter-went, same-went, alone-went, skip-went, catch-went, andThen-went, beside-went, again-went}
 use Rattle.esterel.proofs.Reentry.Seen.{Live, Again, Seen, lift, own-seen, apart, before-own}
 use Rattle.esterel.proofs.Reentry.Start.{first-alone, both-joined, caught-here, started-low, start-went}
 
@@ -52,18 +53,19 @@ module _ (xs : List Place) (caught : (i : ℕ) → Caught (placeIn xs i)) where
   -- a parallel's child that has ended
   idle-went : (p : Stmt) (n : ℕ) (P : Codes) (ans : List ℕ) → anyInstantSet p 0 ≡ true → Resumes p n P (idle (size p) ans)
   idle-went p n P ans c =
-      went 0 [] (zeros (size p)) ans c record { long = length-replicate (size p) 0; shown = holds-zeros (size p); kept = λ le. kept-zeros p } none empty
+      leaves 0 [] (zeros (size p)) ans
+      record { code = c; bytes = record { long = length-replicate (size p) 0; shown = holds-zeros (size p); kept = λ le. kept-zeros p }; entries = none; pairs = empty }
 
   pub resume-went : (p : Stmt) (n d t : ℕ) (P : Codes) (held ans : List ℕ) → Placed xs n d t P p → Kept p held → holds held ≡ true → Resumes p n P (resume n p held ans)
   resume-went (leaf nothing) n d t P held ans w f h = noRule
   resume-went (leaf pause) n d t P held ans w f h =
-      went 0 (entry n resumed 0 ∷ []) (0 ∷ []) ans refl record { long = refl; shown = refl; kept = λ le. fits-leaf pause }
-      (also {x = entry n resumed 0} record { lo = le-refl n; hi = omega arith; any = rw w refl; back = λ l c. rw w c } none) (ahead none empty)
+      single-went 0 (entry n resumed 0) (0 ∷ []) ans refl record { long = refl; shown = refl; kept = λ le. fits-leaf pause }
+      record { lo = le-refl n; hi = omega arith; any = rw w refl; back = λ l c. rw w c }
   resume-went (leaf (exit level)) n d t P held ans w f h = noRule
   resume-went (leaf (emit s)) n d t P held ans w f h = noRule
   resume-went (two sequence p q) n d t P held ans w f h =
       enter-two sequence p q n d t P (w .2)
-      (cond-went (holds (first p held))
+      (cond-leaves (holds (first p held))
       (λ b. andThen-went (λ h k. fits-two sequence k (kept-zeros q) (first-alone p q (holds h))) (λ h g c k l. fits-two sequence k l (λ _. c))
       (sequence-first (anyInstantSet p) (anyInstantSet q)) (λ l c cq. sequence-second (anyInstantSet p) (anyInstantSet q) l c (start-any q l cq))
       (λ k e. lift xs (le-refl n) (omega arith) (λ i lo hi l c. (l .0 hi, c)) e)
@@ -78,7 +80,7 @@ module _ (xs : List Place) (caught : (i : ℕ) → Caught (placeIn xs i)) where
       (resume-went q (n + size p) (suc d) t (underRight sequence t P p) (second p q held) ans (w .1) (right-fits f) (right-holds f h b))))
   resume-went (two (present s) p q) n d t P held ans w f h =
       enter-two (present s) p q n d t P (w .2)
-      (cond-went (holds (first p held))
+      (cond-leaves (holds (first p held))
       (λ b. alone-went (size q) (λ h k. fits-two (present s) k (kept-zeros q) tt) (λ k c. inl-true (anyInstantSet p k) (anyInstantSet q k) c)
       (λ k e. lift xs (le-refl n) (omega arith) (λ i lo hi l c. (l .0 hi, c)) e)
       (resume-went p n (suc d) t P (first p held) ans (w .0) (left-fits f) b))
@@ -106,9 +108,9 @@ module _ (xs : List Place) (caught : (i : ℕ) → Caught (placeIn xs i)) where
       (y .1 lo (omega arith) .1, under-parallel-in t P l (max k l) lt (omega arith) c))
       e)
       (λ k l e e′ y y′. apart xs (le-refl (n + size p)) e e′ y y′)
-      (cond-went (holds (first p held)) (λ b. resume-went p n (suc d) t (underLeft parallel t P q) (first p held) ans (w .0) (left-fits f) b)
+      (cond-leaves (holds (first p held)) (λ b. resume-went p n (suc d) t (underLeft parallel t P q) (first p held) ans (w .0) (left-fits f) b)
       (λ b. idle-went p n (underLeft parallel t P q) ans (joint f .1 b (right-holds f h b))))
-      (λ r. cond-went (holds (second p q held)) (λ b. resume-went q (n + size p) (suc d) t (underRight parallel t P p) (second p q held) r (w .1) (right-fits f) b)
+      (λ r. cond-leaves (holds (second p q held)) (λ b. resume-went q (n + size p) (suc d) t (underRight parallel t P p) (second p q held) r (w .1) (right-fits f) b)
       (λ b. idle-went q (n + size p) (underRight parallel t P p) r (joint f .0 (left-holds f h b) b))))
   resume-went (one loop p) n d t P held ans w f h =
       enter-one loop p n d t P (w .1)
@@ -124,8 +126,8 @@ module _ (xs : List Place) (caught : (i : ℕ) → Caught (placeIn xs i)) where
       (resume-went p n (suc d) t P (first p held) ans (w .0) (child-fits f) (child-holds f h)))
   resume-went (one (suspend s) p) n d t P held [] w f h = asked
   resume-went (one (suspend s) p) n d t P held (suc a ∷ ans) w f h =
-      went 1 (entry (n + size p) resumed 1 ∷ []) held ans (holds-one f h) record { long = fits-length f; shown = h; kept = λ le. f }
-      (also (own-seen xs (one (suspend s) p) n (size p) d t P resumed 1 (w .1) (holds-one f h)) none) (ahead none empty)
+      single-went 1 (entry (n + size p) resumed 1) held ans (holds-one f h) record { long = fits-length f; shown = h; kept = λ le. f }
+      (own-seen xs (one (suspend s) p) n (size p) d t P resumed 1 (w .1) (holds-one f h))
   resume-went (one (suspend s) p) n d t P held (zero ∷ ans) w f h =
       enter-one (suspend s) p n d t P (w .1)
       (same-went (λ h k. fits-one (suspend s) k) (λ k c. c) (λ k e. lift xs (le-refl n) (le-refl (n + size p)) (λ i lo hi l c. (l hi, c)) e)

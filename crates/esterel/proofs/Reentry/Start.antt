@@ -11,16 +11,15 @@ use Rattle.esterel.specs.Statement.{Leaf, nothing, pause, emit, exit, Un
 use Rattle.esterel.specs.Codes.{Codes, only}
 use Rattle.esterel.specs.Sets.{Place, at, startSet, anyInstantSet, under, underLeft, underRight}
 use Rattle.esterel.specs.Instant.{started, Entry, entry, Result, single, enter, zeros, start, holds}
-use Rattle.esterel.proofs.Every.{none, also}
 use Rattle.esterel.proofs.Held.{holds-zeros, Shows, fits-leaf, fits-pause, fits-one, fits-two}
 use Rattle.esterel.proofs.Start.{In}
 use Rattle.esterel.proofs.Low.{start-low}
 use Rattle.esterel.proofs.Caught.{Caught}
-use Rattle.esterel.proofs.Reentry.Trails.{empty, ahead}
 use Rattle.esterel.proofs.Reentry.Contexts.{start-any, meets-in, under-trap-in, under-parallel-in}
 use Rattle.esterel.proofs.Reentry.Places.{placeIn, Placed, placed-root}
 use Rattle.esterel.proofs.Reentry.Kept.{false-true, Joined, Kept, kept-zeros}
-use Rattle.esterel.proofs.Reentry.Went.{Went, went, asked, enter-went, same-went, alone-went, skip-went, body-went, catch-went, andThen-went, beside-went}
+use Rattle.esterel.proofs.Reentry.Results.{asked}
+use Rattle.esterel.proofs.Reentry.Went.{Went, single-went, enter-went, same-went, alone-went, skip-went, body-went, catch-went, andThen-went, beside-went}
 use Rattle.esterel.proofs.Reentry.Seen.{Live, live-one, live-two, live-first, live-second, Again, Seen, Fresh, lift-both, own-seen, apart, before-own}
 
 -- a sequence whose second child holds nothing, and a parallel whose children ended or paused with codes of their A
@@ -58,9 +57,8 @@ module _ (xs : List Place) (caught : (i : ℕ) → Caught (placeIn xs i)) where
 
   leaf-went : (l : Leaf) (n d t : ℕ) (P : Codes) (k b : ℕ) (ans : List ℕ) → placeIn xs n ≡ at d t P (leaf l) → startSet (leaf l) k ≡ true → Kept (leaf l) (b ∷ []) → Shows k (holds (b ∷ [])) → Starts (leaf l) n P (single n started k b ans)
   leaf-went l n d t P k b ans e c f s =
-      went k (entry n started k ∷ []) (b ∷ []) ans c record { long = refl; shown = s; kept = λ le. f }
-      (also {x = entry n started k} (record { lo = le-refl n; hi = omega arith; any = rw e (start-any (leaf l) k c); back = λ l c. rw e c }, record { live = tt; mode = refl }) none)
-      (ahead none empty)
+      single-went k (entry n started k) (b ∷ []) ans c record { long = refl; shown = s; kept = λ le. f }
+      (record { lo = le-refl n; hi = omega arith; any = rw e (start-any (leaf l) k c); back = λ l c. rw e c }, record { live = tt; mode = refl })
 
   enter-one : {x : Result} (u : Unary) (p : Stmt) (n d t : ℕ) (P : Codes) → placeIn xs (n + size p) ≡ at d t P (one u p) → Inner (one u p) n (size p) P x → Starts (one u p) n P (enter (n + size p) started x)
   enter-one u p n d t P e o =

@@ -9,38 +9,25 @@ use native.Mathlib.Omega.{arith}
 use Rattle.esterel.specs.Statement.{nothing, pause, emit, exit, signal, suspend, loop, trap, present, sequence, parallel, Stmt, leaf, one, two, kind, size, nodes}
 use Rattle.esterel.specs.Codes.{Codes, catchCode}
 use Rattle.esterel.specs.Sets.{placesOf, placeAt}
-use Rattle.esterel.specs.Instant.{resumed, Entry, entry, Result, start, resume, idle, holds, first, second}
+use Rattle.esterel.specs.Instant.{resumed, Entry, entry, start, resume, idle, holds, first, second}
 use Rattle.esterel.specs.Outcome.{statementAt}
 use Rattle.esterel.specs.Reentry.{Beneath, Entered, Holding}
-use Rattle.esterel.proofs.Every.{Every, none, also}
+use Rattle.esterel.proofs.Every.{Every, none, also, every-map}
 use Rattle.esterel.proofs.Held.{Fits, joint, child-fits, left-fits, right-fits}
 use Rattle.esterel.proofs.Parts.{holds-part}
 use Rattle.esterel.proofs.Nodes.{Sits, within}
 use Rattle.esterel.proofs.Ranges.{Over, over-join, over-last}
 use Rattle.esterel.proofs.Caught.{Caught}
-use Rattle.esterel.proofs.Reentry.Trails.{every-map}
 use Rattle.esterel.proofs.Reentry.Places.{Placed}
 use Rattle.esterel.proofs.Reentry.Kept.{false-true}
 use Rattle.esterel.proofs.Reentry.Invariant.{partOf, child-part, left-part, right-part}
-use Rattle.esterel.proofs.Reentry.Went.{Went, went}
 use Rattle.esterel.proofs.Reentry.Seen.{nodeOf, Live}
 use Rattle.esterel.proofs.Reentry.Start.{start-went}
 use Rattle.esterel.proofs.Reentry.Splits.{Split, inFirst, inSecond, split, not-empty}
-use Rattle.esterel.proofs.Reentry.Tracks.{Tracked, tracked, asked, noRule, enter-tracked, same-tracked, alone-tracked, skip-tracked, catch-tracked, andThen-tracked, beside-tracked, again-tracked, cond-tracked, entered, entered-behind, entered-either, entered-none, entered-in, member-of, Around}
+use Rattle.esterel.proofs.Reentry.Results.{leaves, asked, noRule, same-leaves, both-leave, enter-leaves, alone-leaves, skip-leaves, andThen-leaves, beside-leaves, again-leaves, cond-leaves}
+use Rattle.esterel.proofs.Reentry.Tracks.{Tracked, trap-tracked, entered, entered-behind, entered-either, entered-none, entered-in, member-of, Around}
 use Rattle.esterel.proofs.Reentry.Words.{Within, Gone, gone-further, start-track, resume-track}
 use Rattle.esterel.proofs.Reentry.Passing.{PausedIn, passes}
-
--- two facts of one result
-both-tracked : {Z Y : ℕ → List Entry → Type 0} {x : Result} → Tracked Z x → Tracked Y x → Tracked (λ k t. Z k t × Y k t) x
-both-tracked (tracked k t h r z) (tracked _ _ _ _ y) = tracked k t h r (z, y)
-both-tracked asked y = asked
-both-tracked noRule y = noRule
-
--- what a run left, of its entries alone
-went-tracked : {R : Entry → Entry → Type 0} {s : ℕ} {B : List ℕ → Type 0} {C : ℕ → Type 0} {E : ℕ → Entry → Type 0} {F : Entry → Type 0} {x : Result} → ((k : ℕ) (e : Entry) → E k e → F e) → Went R s B C E x → Tracked (λ k t. Every F t) x
-went-tracked f (went k t h r c z e l) = tracked k t h r (every-map (f k) e)
-went-tracked f Went.asked = asked
-went-tracked f Went.noRule = noRule
 
 module _ (p₀ : Stmt) (i : ℕ) where
   pub record Met (t : List Entry) : Type 0 where
@@ -154,10 +141,10 @@ module _ (p₀ : Stmt) (caught : (j : ℕ) → Caught (placeAt p₀ j)) (held₀
       holds-part n (suc i - s - n) s (size p) held₀ (omega arith) (rw from at holding)
 
   start-ranges : (p : Stmt) (n : ℕ) (ans : List ℕ) → Sits (nodes p₀) n p → Tracked (λ k t. Every (Within n (size p)) t) (start n p ans)
-  start-ranges p n ans w = same-tracked (λ k t o. o .0 .ranges) (start-track p₀ (Gone p₀) (gone-further p₀) p n ans w)
+  start-ranges p n ans w = same-leaves (λ k t _ o. o .0 .ranges) (start-track p₀ (Gone p₀) (gone-further p₀) p n ans w)
 
   resume-ranges : (p : Stmt) (n : ℕ) (held ans : List ℕ) → Sits (nodes p₀) n p → Tracked (λ k t. Every (Within n (size p)) t) (resume n p held ans)
-  resume-ranges p n held ans w = same-tracked (λ k t o. o .0 .ranges) (resume-track p₀ p n held ans w)
+  resume-ranges p n held ans w = same-leaves (λ k t _ o. o .0 .ranges) (resume-track p₀ p n held ans w)
 
   -- of a resumed statement, each node that holds
   abbrev Fates : (p : Stmt) (n : ℕ) (held ans : List ℕ) → ℕ → Type 0
@@ -165,13 +152,13 @@ module _ (p₀ : Stmt) (caught : (j : ℕ) → Caught (placeAt p₀ j)) (held₀
 
   own-fate : (p : Stmt) (n : ℕ) (held ans : List ℕ) (i : ℕ) → suc i ≡ n + size p → Sits (nodes p₀) n p → Fates p n held ans i
   own-fate p n held ans i z s h =
-      same-tracked (λ k t o. let own : i ≡ o .1 .last = omega (arith, o .1 .lastIs) in rw (o .1 .is) (own-first p₀ i (o .1 .last) k (o .1 .rest) own)) (resume-track p₀ p n held ans s)
+      same-leaves (λ k t _ o. let own : i ≡ o .1 .last = omega (arith, o .1 .lastIs) in rw (o .1 .is) (own-first p₀ i (o .1 .last) k (o .1 .rest) own)) (resume-track p₀ p n held ans s)
 
   -- a body that is started once more: each entry is of a node that a start may enter, and comes after those around it
   started-again : (p : Stmt) (n d t : ℕ) (P : Codes) (ans : List ℕ) → Sits (nodes p₀) n p → Placed (placesOf p₀) n d t P p → Tracked (λ k u. Around p₀ (n + size p) u × Every (λ e. Live n p (nodeOf e)) u) (start n p ans)
   started-again p n d t P ans s w =
-      both-tracked (same-tracked (λ k u o. o .0 .around) (start-track p₀ (Gone p₀) (gone-further p₀) p n ans s))
-      (went-tracked (λ k e o. o .1 .live) (start-went (placesOf p₀) caught p n d t P ans w))
+      both-leave (same-leaves (λ k u _ o. o .0 .around) (start-track p₀ (Gone p₀) (gone-further p₀) p n ans s))
+      (same-leaves (λ k u _ o. every-map (λ e y. y .1 .live) (o .entries)) (start-went (placesOf p₀) caught p n d t P ans w))
 
   again-returns : (p : Stmt) (n d t : ℕ) (P : Codes) → Sits (nodes p₀) n p → Placed (placesOf p₀) n d t P p → (i : ℕ) → n ≤ i → (x u : List Entry) → Every (Within n (size p)) x → Around p₀ (n + size p) u → Every (λ e. Live n p (nodeOf e)) u → Returns p₀ i x u
   again-returns p n d t P s w i lo x u r f l c y b m e z v q =
@@ -181,7 +168,7 @@ module _ (p₀ : Stmt) (caught : (j : ℕ) → Caught (placeAt p₀ j)) (held₀
 
   -- a parallel's branch, which is resumed or has ended
   branch-ranges : (p : Stmt) (n : ℕ) (held ans : List ℕ) → Sits (nodes p₀) n p → Tracked (λ k t. Every (Within n (size p)) t) (cond (holds held) (resume n p held ans) (idle (size p) ans))
-  branch-ranges p n held ans w = cond-tracked (holds held) (λ _. resume-ranges p n held ans w) (λ _. tracked 0 [] _ ans none)
+  branch-ranges p n held ans w = cond-leaves (holds held) (λ _. resume-ranges p n held ans w) (λ _. leaves 0 [] _ ans none)
 
   -- the bytes of two children
   module _ (p q : Stmt) (n : ℕ) (held : List ℕ) where
@@ -199,73 +186,73 @@ module _ (p₀ : Stmt) (caught : (j : ℕ) → Caught (placeAt p₀ j)) (held₀
 
   pub fate : (p : Stmt) (n d t : ℕ) (P : Codes) (held ans : List ℕ) → Sits (nodes p₀) n p → Placed (placesOf p₀) n d t P p → held ≡ partOf n (size p) held₀ → Fits p held → Over (Fates p n held ans) n (size p)
   fate (leaf nothing) n d t P held ans s w z f = λ i lo hi h. noRule
-  fate (leaf pause) n d t P held ans s w z f = λ i lo hi h. tracked 0 _ _ ans (own-first p₀ i n 0 [] (omega arith))
+  fate (leaf pause) n d t P held ans s w z f = λ i lo hi h. leaves 0 _ _ ans (own-first p₀ i n 0 [] (omega arith))
   fate (leaf (exit level)) n d t P held ans s w z f = λ i lo hi h. noRule
   fate (leaf (emit x)) n d t P held ans s w z f = λ i lo hi h. noRule
   fate (one loop p) n d t P held ans s w z f =
       over-last (Fates (one loop p) n held ans) n (size p)
-      (λ i lo hi h. enter-tracked (n + size p) resumed (λ k u o. behind-own p₀ i (n + size p) k hi o)
-      (again-tracked (λ k u o. o .0) (λ l x u o v. before-more p₀ i x u (again-returns p n _ _ _ (s .0) (w .0) i lo x u (o .1) (v .0) (v .1)) (o .0))
-      (both-tracked (fate p n _ _ _ (first p held) ans (s .0) (w .0) (ap (first p) z ∙ child-part n p held₀) (child-fits f) i lo hi h) (resume-ranges p n (first p held) ans (s .0)))
+      (λ i lo hi h. enter-leaves (n + size p) resumed (λ k u _ o. behind-own p₀ i (n + size p) k hi o)
+      (again-leaves (λ k u _ o. o .0) (λ l x u _ _ o v. before-more p₀ i x u (again-returns p n _ _ _ (s .0) (w .0) i lo x u (o .1) (v .0) (v .1)) (o .0))
+      (both-leave (fate p n _ _ _ (first p held) ans (s .0) (w .0) (ap (first p) z ∙ child-part n p held₀) (child-fits f) i lo hi h) (resume-ranges p n (first p held) ans (s .0)))
       (λ r. started-again p n _ _ _ r (s .0) (w .0))))
       (own-fate (one loop p) n held ans (n + size p) (omega arith) s)
   fate (one trap p) n d t P held ans s w z f =
       over-last (Fates (one trap p) n held ans) n (size p)
-      (λ i lo hi h. catch-tracked (n + size p) resumed (λ k u o. behind-own p₀ i (n + size p) (catchCode k) hi o)
+      (λ i lo hi h. trap-tracked (n + size p) resumed (λ k u o. behind-own p₀ i (n + size p) (catchCode k) hi o)
       (fate p n _ _ _ (first p held) ans (s .0) (w .0) (ap (first p) z ∙ child-part n p held₀) (child-fits f) i lo hi h))
       (own-fate (one trap p) n held ans (n + size p) (omega arith) s)
   fate (one (signal x) p) n d t P held ans s w z f =
       over-last (Fates (one (signal x) p) n held ans) n (size p)
-      (λ i lo hi h. enter-tracked (n + size p) resumed (λ k u o. behind-own p₀ i (n + size p) k hi o)
+      (λ i lo hi h. enter-leaves (n + size p) resumed (λ k u _ o. behind-own p₀ i (n + size p) k hi o)
       (fate p n _ _ _ (first p held) ans (s .0) (w .0) (ap (first p) z ∙ child-part n p held₀) (child-fits f) i lo hi h))
       (own-fate (one (signal x) p) n held ans (n + size p) (omega arith) s)
   fate (one (suspend x) p) n d t P held [] s w z f = λ i lo hi h. asked
   fate (one (suspend x) p) n d t P held (suc a ∷ ans) s w z f =
       over-last (Fates (one (suspend x) p) n held (suc a ∷ ans)) n (size p)
-      (λ i lo hi h. tracked 1 _ held ans (paused p₀ i x p n (s .1) lo hi))
+      (λ i lo hi h. leaves 1 _ held ans (paused p₀ i x p n (s .1) lo hi))
       (own-fate (one (suspend x) p) n held (suc a ∷ ans) (n + size p) (omega arith) s)
   fate (one (suspend x) p) n d t P held (zero ∷ ans) s w z f =
       over-last (Fates (one (suspend x) p) n held (zero ∷ ans)) n (size p)
-      (λ i lo hi h. enter-tracked (n + size p) resumed (λ k u o. behind-own p₀ i (n + size p) k hi o)
+      (λ i lo hi h. enter-leaves (n + size p) resumed (λ k u _ o. behind-own p₀ i (n + size p) k hi o)
       (fate p n _ _ _ (first p held) ans (s .0) (w .0) (ap (first p) z ∙ child-part n p held₀) (child-fits f) i lo hi h))
       (own-fate (one (suspend x) p) n held (zero ∷ ans) (n + size p) (omega arith) s)
   fate (two sequence p q) n d t P held ans s w z f =
       over-last (Fates (two sequence p q) n held ans) n (size p + size q)
       (over-join (Fates (two sequence p q) n held ans) n (size p) (size q)
-      (λ i lo hi h. enter-tracked (n + (size p + size q)) resumed (λ k u o. behind-own p₀ i (n + (size p + size q)) k (omega arith) o)
-      (cond-tracked (holds (first p held))
-      (λ b. andThen-tracked (size q) (λ k u o. o) (λ l x u o v. before-more p₀ i x u (none-return p₀ i (n + size p) (size q) x (λ le. absurd (omega arith)) v) o)
+      (λ i lo hi h. enter-leaves (n + (size p + size q)) resumed (λ k u _ o. behind-own p₀ i (n + (size p + size q)) k (omega arith) o)
+      (cond-leaves (holds (first p held))
+      (λ b. andThen-leaves (size q) (λ k u _ o. o) (λ l x u _ _ o v. before-more p₀ i x u (none-return p₀ i (n + size p) (size q) x (λ le. absurd (omega arith)) v) o)
       (fate p n _ _ _ (first p held) ans (s .0) (w .0) (first-is p q n held z) (left-fits f) i lo hi h) (λ r. start-ranges q (n + size p) r (s .1)))
       (λ b. false-true (sym b ∙ first-holds p q n held (s .0) z i lo hi h))))
-      (λ i lo hi h. enter-tracked (n + (size p + size q)) resumed (λ k u o. behind-own p₀ i (n + (size p + size q)) k (omega arith) o)
-      (cond-tracked (holds (first p held))
+      (λ i lo hi h. enter-leaves (n + (size p + size q)) resumed (λ k u _ o. behind-own p₀ i (n + (size p + size q)) k (omega arith) o)
+      (cond-leaves (holds (first p held))
       (λ b. false-true (rw (b, second-holds p q n held (s .1) z i lo hi h) at (joint f)))
-      (λ b. skip-tracked (size p) (λ k u o. o) (fate q (n + size p) _ _ _ (second p q held) ans (s .1) (w .1) (second-is p q n held z) (right-fits f) i lo hi h)))))
+      (λ b. skip-leaves (size p) (λ k u _ o. o) (fate q (n + size p) _ _ _ (second p q held) ans (s .1) (w .1) (second-is p q n held z) (right-fits f) i lo hi h)))))
       (own-fate (two sequence p q) n held ans (n + (size p + size q)) (omega arith) s)
   fate (two (present x) p q) n d t P held ans s w z f =
       over-last (Fates (two (present x) p q) n held ans) n (size p + size q)
       (over-join (Fates (two (present x) p q) n held ans) n (size p) (size q)
-      (λ i lo hi h. enter-tracked (n + (size p + size q)) resumed (λ k u o. behind-own p₀ i (n + (size p + size q)) k (omega arith) o)
-      (cond-tracked (holds (first p held))
-      (λ b. alone-tracked (size q) (λ k u o. o) (fate p n _ _ _ (first p held) ans (s .0) (w .0) (first-is p q n held z) (left-fits f) i lo hi h))
+      (λ i lo hi h. enter-leaves (n + (size p + size q)) resumed (λ k u _ o. behind-own p₀ i (n + (size p + size q)) k (omega arith) o)
+      (cond-leaves (holds (first p held))
+      (λ b. alone-leaves (size q) (λ k u _ o. o) (fate p n _ _ _ (first p held) ans (s .0) (w .0) (first-is p q n held z) (left-fits f) i lo hi h))
       (λ b. false-true (sym b ∙ first-holds p q n held (s .0) z i lo hi h))))
-      (λ i lo hi h. enter-tracked (n + (size p + size q)) resumed (λ k u o. behind-own p₀ i (n + (size p + size q)) k (omega arith) o)
-      (cond-tracked (holds (first p held))
+      (λ i lo hi h. enter-leaves (n + (size p + size q)) resumed (λ k u _ o. behind-own p₀ i (n + (size p + size q)) k (omega arith) o)
+      (cond-leaves (holds (first p held))
       (λ b. false-true (rw (b, second-holds p q n held (s .1) z i lo hi h) at (joint f)))
-      (λ b. skip-tracked (size p) (λ k u o. o) (fate q (n + size p) _ _ _ (second p q held) ans (s .1) (w .1) (second-is p q n held z) (right-fits f) i lo hi h)))))
+      (λ b. skip-leaves (size p) (λ k u _ o. o) (fate q (n + size p) _ _ _ (second p q held) ans (s .1) (w .1) (second-is p q n held z) (right-fits f) i lo hi h)))))
       (own-fate (two (present x) p q) n held ans (n + (size p + size q)) (omega arith) s)
   fate (two parallel p q) n d t P held ans s w z f =
       over-last (Fates (two parallel p q) n held ans) n (size p + size q)
       (over-join (Fates (two parallel p q) n held ans) n (size p) (size q)
-      (λ i lo hi h. enter-tracked (n + (size p + size q)) resumed (λ k u o. behind-own p₀ i (n + (size p + size q)) k (omega arith) o)
-      (beside-tracked (λ k l x u o v. before-more p₀ i x u (none-return p₀ i (n + size p) (size q) x (λ le. absurd (omega arith)) v) o)
-      (cond-tracked (holds (first p held))
+      (λ i lo hi h. enter-leaves (n + (size p + size q)) resumed (λ k u _ o. behind-own p₀ i (n + (size p + size q)) k (omega arith) o)
+      (beside-leaves (λ k l x u _ _ o v. before-more p₀ i x u (none-return p₀ i (n + size p) (size q) x (λ le. absurd (omega arith)) v) o)
+      (cond-leaves (holds (first p held))
       (λ b. fate p n _ _ _ (first p held) ans (s .0) (w .0) (first-is p q n held z) (left-fits f) i lo hi h)
       (λ b. false-true (sym b ∙ first-holds p q n held (s .0) z i lo hi h)))
       (λ r. branch-ranges q (n + size p) (second p q held) r (s .1))))
-      (λ i lo hi h. enter-tracked (n + (size p + size q)) resumed (λ k u o. behind-own p₀ i (n + (size p + size q)) k (omega arith) o)
-      (beside-tracked (λ k l x u o v. behind p₀ i x (elsewhere p₀ i n (size p) (λ le. lo) o) v) (branch-ranges p n (first p held) ans (s .0))
-      (λ r. cond-tracked (holds (second p q held))
+      (λ i lo hi h. enter-leaves (n + (size p + size q)) resumed (λ k u _ o. behind-own p₀ i (n + (size p + size q)) k (omega arith) o)
+      (beside-leaves (λ k l x u _ _ o v. behind p₀ i x (elsewhere p₀ i n (size p) (λ le. lo) o) v) (branch-ranges p n (first p held) ans (s .0))
+      (λ r. cond-leaves (holds (second p q held))
       (λ b. fate q (n + size p) _ _ _ (second p q held) r (s .1) (w .1) (second-is p q n held z) (right-fits f) i lo hi h)
       (λ b. false-true (sym b ∙ second-holds p q n held (s .1) z i lo hi h))))))
       (own-fate (two parallel p q) n held ans (n + (size p + size q)) (omega arith) s)

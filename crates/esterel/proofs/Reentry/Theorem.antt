@@ -13,7 +13,7 @@ use Rattle.esterel.specs.Instant.{Mode, started, resumed, Entry, entry, 
 use Rattle.esterel.specs.Outcome.{statementAt}
 use Rattle.esterel.specs.Reentry.{Reached, fresh, onward, Happens, starts, resumes, markAt, Twice, Entered, Dropped, Reentered, Holding, StartedUnresumed, DroppedUnentered}
 use Rattle.esterel.specs.Theorems.{Accepted, Closes, Invariant, Runs, NoUnmarkedReentry}
-use Rattle.esterel.proofs.Every.{Every}
+use Rattle.esterel.proofs.Every.{Every, every-map}
 use Rattle.esterel.proofs.Held.{fits-length}
 use Rattle.esterel.proofs.Low.{any-low}
 use Rattle.esterel.proofs.Admitted.{admitted-fits}
@@ -21,37 +21,31 @@ use Rattle.esterel.proofs.Accepted.{place-statement, passes}
 use Rattle.esterel.proofs.Theorems.{demand3}
 use Rattle.esterel.proofs.Nodes.{sits-own}
 use Rattle.esterel.proofs.Caught.{Caught, caught-at}
-use Rattle.esterel.proofs.Reentry.Trails.{every-map, Pairs, pairs-two}
+use Rattle.esterel.proofs.Reentry.Trails.{Pairs, pairs-two}
 use Rattle.esterel.proofs.Reentry.Contexts.{meets-in}
 use Rattle.esterel.proofs.Reentry.Places.{placed-own}
 use Rattle.esterel.proofs.Reentry.Kept.{Kept}
 use Rattle.esterel.proofs.Reentry.Invariant.{invariant, holding-inside, none-holding}
-use Rattle.esterel.proofs.Reentry.Went.{Went, went}
+use Rattle.esterel.proofs.Reentry.Results.{left-of}
+use Rattle.esterel.proofs.Reentry.Went.{Behind}
 use Rattle.esterel.proofs.Reentry.Seen.{nodeOf, modeOf, InA, InS, Again}
 use Rattle.esterel.proofs.Reentry.Start.{start-went}
 use Rattle.esterel.proofs.Reentry.Resume.{resume-went}
-use Rattle.esterel.proofs.Reentry.Tracks.{Tracked, tracked, Revisits, member-of, entered, entered-before, Later, later}
+use Rattle.esterel.proofs.Reentry.Tracks.{Revisits, member-of, entered, entered-before, Later, later}
 use Rattle.esterel.proofs.Reentry.Words.{Gone, gone-further, start-track, resume-track}
 use Rattle.esterel.proofs.Reentry.Suspended.{Fate, met, rests, Met, Rests, fate}
 
--- what a closed result leaves: its trail, and after code 1 its bytes
-module _ {R : Entry → Entry → Type 0} {s : ℕ} {B : List ℕ → Type 0} {C : ℕ → Type 0} {E : ℕ → Entry → Type 0} {t : List Entry} {h r : List ℕ} where
-  left-held : Went R s B C E (closed 1 t h r) → B h × (holds h ≡ true)
-  left-held (went _ _ _ _ c z e l) = (z .kept (omega arith), z .shown)
-
-  trail-of : {F : Entry → Type 0} (k : ℕ) → ((e : Entry) → E k e → F e) → Went R s B C E (closed k t h r) → Every F t × Pairs R t
-  trail-of k f (went _ _ _ _ c z e l) = (every-map f e, l)
-
-track-of : {Z : ℕ → List Entry → Type 0} {k : ℕ} {t : List Entry} {h r : List ℕ} → Tracked Z (closed k t h r) → Z k t
-track-of (tracked _ _ _ _ z) = z
+-- after code 1 a pause is held
+held-of : {R : Entry → Entry → Type 0} {s : ℕ} {B : List ℕ → Type 0} {C : ℕ → Type 0} {E : ℕ → Entry → Type 0} {t : List Entry} {h : List ℕ} → Behind R s B C E 1 t h → B h × (holds h ≡ true)
+held-of o = (o .bytes .kept (omega arith), o .bytes .shown)
 
 resumed-started : resumed ≡ started → ⊥
 resumed-started e = let z : _≡_ {A = ℕ} 0 1 = cc in omega arith
 
 -- what is gone before it is started again
 goes : {p : Stmt} {held : List ℕ} {t : List Entry} → Happens p held t → Revisits (Gone p) t
-goes {p} (starts ans k t h r e) = track-of (rw e at (start-track p (Gone p) (gone-further p) p 0 ans (sits-own p))) .0 .pairs
-goes {p} (resumes before ans k t h r o e) = track-of (rw e at (resume-track p p 0 before ans (sits-own p))) .0 .pairs
+goes {p} (starts ans k t h r e) = left-of (rw e at (start-track p (Gone p) (gone-further p) p 0 ans (sits-own p))) .0 .pairs
+goes {p} (resumes before ans k t h r o e) = left-of (rw e at (resume-track p p 0 before ans (sits-own p))) .0 .pairs
 
 mark-in : (x : Place) (k : ℕ) → k ≤ 63 → anyInstantSet (stmtOf x) k ≡ true → contextOf x k ≡ true → mark x ≡ 1
 mark-in (at d t S p) k h a c = ap bit (meets-in (anyInstantSet p) S k h a c)
@@ -71,20 +65,23 @@ module _ (p : Stmt) (a : Accepted p) where
 
   -- the invariant of reached states
   reached-kept : {h : List ℕ} → Reached p h → Kept p h × (holds h ≡ true)
-  reached-kept (fresh ans t h r e) = left-held (rw e at (start-went (placesOf p) caught p 0 1 0 empty ans (placed-own p)))
+  reached-kept (fresh ans t h r e) = held-of (left-of (rw e at (start-went (placesOf p) caught p 0 1 0 empty ans (placed-own p))))
   reached-kept (onward before ans t h r o e) =
       let z = reached-kept o in
-      left-held (rw e at (resume-went (placesOf p) caught p 0 1 0 empty before ans (placed-own p) (z .0) (z .1)))
+      held-of (left-of (rw e at (resume-went (placesOf p) caught p 0 1 0 empty before ans (placed-own p) (z .0) (z .1))))
 
   keeps : (held : List ℕ) → Reached p held → Invariant p held
   keeps held o = invariant p held (reached-kept o .0) (admitted-fits p held (reached-admitted p a held o))
 
   -- each code of a trail is in A, and in S if the node is entered again
   trails : {held : List ℕ} {t : List Entry} → Happens p held t → Every (InA (placesOf p)) t × Pairs (Again (placesOf p)) t
-  trails (starts ans k t h r e) = trail-of k (λ y o. o .0 .any) (rw e at (start-went (placesOf p) caught p 0 1 0 empty ans (placed-own p)))
+  trails (starts ans k t h r e) =
+      let o = left-of (rw e at (start-went (placesOf p) caught p 0 1 0 empty ans (placed-own p))) in
+      (every-map (λ y w. w .0 .any) (o .entries), o .pairs)
   trails (resumes before ans k t h r o e) =
       let z = reached-kept o in
-      trail-of k (λ y o. o .any) (rw e at (resume-went (placesOf p) caught p 0 1 0 empty before ans (placed-own p) (z .0) (z .1)))
+      let w = left-of (rw e at (resume-went (placesOf p) caught p 0 1 0 empty before ans (placed-own p) (z .0) (z .1))) in
+      (every-map (λ y v. v .any) (w .entries), w .pairs)
 
   -- a node that is held is resumed, or beneath a suspend that pauses
   fates : {held : List ℕ} {t : List Entry} → Happens p held t → (n : ℕ) → Holding p held n → Fate p n t
@@ -92,7 +89,7 @@ module _ (p : Stmt) (a : Accepted p) where
   fates (resumes held ans k t h r o e) n y =
       let f = admitted-fits p held (reached-admitted p a held o) in
       let whole : take (size p) held ≡ held = take-all (size p) held (omega (arith, fits-length f)) in
-      track-of (rw e at (fate p caught held p 0 1 0 empty held ans (sits-own p) (placed-own p) (sym whole) f n (omega arith) (omega (arith, holding-inside p held f n y)) y))
+      left-of (rw e at (fate p caught held p 0 1 0 empty held ans (sits-own p) (placed-own p) (sym whole) f n (omega arith) (omega (arith, holding-inside p held f n y)) y))
 
   marks : (n k : ℕ) → anyInstantSet (stmtOf (placeAt p n)) k ≡ true → contextOf (placeAt p n) k ≡ true → markAt p n ≡ 1
   marks n k i c =
@@ -219,6 +216,6 @@ noUnmarkedReentry =
       heldInWords = λ p a held t o n.
           (λ s. unresumed p a held t o n (s .holding) (s .before) (s .code) (s .after) (s .is) (s .unentered) (fates p a o n (s .holding)), unresumed-of);
       startsOnce = λ p answers k t h r e n w.
-          track-of (rw e at (start-track p (λ b e m. ⊥) (λ x b e m y. y) p 0 answers (sits-own p))) .0 .pairs
+          left-of (rw e at (start-track p (λ b e m. ⊥) (λ x b e m y. y) p 0 answers (sits-own p))) .0 .pairs
           (w .before) (entry n (w .mode) (w .code)) (w .between) (entry n (w .again) (w .codeAgain)) (w .after) (w .is) refl;
     }

@@ -1,18 +1,17 @@
--- How a trail goes: what placed before an entry that paused, and between two entries of one node.
-use mathlib.Core.Path.{_≡_, refl, sym, ap, _∙_}
+-- How a trail goes: what stands before an entry that paused, and between two entries of one node.
+use mathlib.Core.Path.{_≡_, refl, sym, ap, subst, _∙_}
 use mathlib.Core.Logic.{_⊎_, inl, inr}
-use mathlib.Core.Bool.{Bool, true, false, cond}
 use mathlib.Core.List.{List, [], _∷_, _++_, append-assoc}
-use Prim.Native.Nat.{ℕ, zero, suc, _+_, _≤_, _<_, max}
+use Prim.Native.Nat.{ℕ, suc, _+_, _≤_, _<_}
 use native.Mathlib.Decide.{decLt}
 use native.Mathlib.Omega.{arith}
 use Rattle.esterel.specs.Statement.{Stmt, size, nodes}
 use Rattle.esterel.specs.Codes.{catchCode}
-use Rattle.esterel.specs.Instant.{Mode, Entry, entry, Result, closed, starved, stuck, enter, onto, zerosThen, thenZeros, andThen, beside, body, again, catch}
+use Rattle.esterel.specs.Instant.{Mode, Entry, entry, Result, enter, catch}
 use Rattle.esterel.specs.Reentry.{Beneath, Entered, Catching}
-use Rattle.esterel.proofs.Every.{Every, every-right}
+use Rattle.esterel.proofs.Every.{Every, every-right, every-first}
 use Rattle.esterel.proofs.Nodes.{Sits, within}
-use Rattle.esterel.proofs.Reentry.Trails.{every-first}
+use Rattle.esterel.proofs.Reentry.Results.{Leaves, enter-leaves, catch-leaves}
 use Rattle.esterel.proofs.Reentry.Seen.{nodeOf}
 use Rattle.esterel.proofs.Reentry.Splits.{Split, inFirst, inSecond, split, not-empty}
 
@@ -20,86 +19,15 @@ abbrev pub codeOf : Entry → ℕ
 codeOf (entry n m k) = k
 
 -- Z of the code and the trail of a closed result
-pub data Tracked (Z : ℕ → List Entry → Type 0) : Result → Type 0 where
-  tracked : (k : ℕ) (t : List Entry) (h r : List ℕ) → Z k t → Tracked Z (closed k t h r)
-  asked : Tracked Z starved
-  noRule : Tracked Z stuck
+abbrev pub Tracked : (ℕ → List Entry → Type 0) → Result → Type 0
+Tracked Z = Leaves (λ k t h. Z k t)
 
-module _ {Z Y : ℕ → List Entry → Type 0} where
-  pub enter-tracked : {x : Result} (node : ℕ) (mode : Mode) → ((k : ℕ) (t : List Entry) → Z k t → Y k (entry node mode k ∷ t)) → Tracked Z x → Tracked Y (enter node mode x)
-  enter-tracked node mode f (tracked k t h r z) = tracked k (entry node mode k ∷ t) _ r (f k t z)
-  enter-tracked node mode f asked = asked
-  enter-tracked node mode f noRule = noRule
+-- a trap, entered
+pub trap-tracked : {Z Y : ℕ → List Entry → Type 0} {x : Result} (node : ℕ) (mode : Mode) → ((k : ℕ) (t : List Entry) → Z k t → Y (catchCode k) (entry node mode (catchCode k) ∷ t)) → Tracked Z x → Tracked Y (enter node mode (catch x))
+trap-tracked {Z} {Y} node mode f o =
+    enter-leaves {Z = λ k t h. (j : ℕ) × (catchCode j ≡ k) × Z j t} node mode (λ k t _ (j, e, z). subst (λ c. Y c (entry node mode c ∷ t)) e (f j t z)) (catch-leaves (λ k t _ z. (k, refl, z)) o)
 
-  pub same-tracked : {x : Result} → ((k : ℕ) (t : List Entry) → Z k t → Y k t) → Tracked Z x → Tracked Y x
-  same-tracked f (tracked k t h r z) = tracked k t h r (f k t z)
-  same-tracked f asked = asked
-  same-tracked f noRule = noRule
-
-  pub alone-tracked : {x : Result} (n : ℕ) → ((k : ℕ) (t : List Entry) → Z k t → Y k t) → Tracked Z x → Tracked Y (thenZeros x n)
-  alone-tracked n f (tracked k t h r z) = tracked k t _ r (f k t z)
-  alone-tracked n f asked = asked
-  alone-tracked n f noRule = noRule
-
-  pub skip-tracked : {x : Result} (n : ℕ) → ((k : ℕ) (t : List Entry) → Z k t → Y k t) → Tracked Z x → Tracked Y (zerosThen n x)
-  skip-tracked n f (tracked k t h r z) = tracked k t _ r (f k t z)
-  skip-tracked n f asked = asked
-  skip-tracked n f noRule = noRule
-
-  pub body-tracked : {x : Result} → ((k : ℕ) (t : List Entry) → Z k t → Y k t) → Tracked Z x → Tracked Y (body x)
-  body-tracked f (tracked zero t h r z) = noRule
-  body-tracked f (tracked (suc k) t h r z) = tracked (suc k) t h r (f (suc k) t z)
-  body-tracked f asked = asked
-  body-tracked f noRule = noRule
-
-  -- a trap, entered
-  pub catch-tracked : {x : Result} (node : ℕ) (mode : Mode) → ((k : ℕ) (t : List Entry) → Z k t → Y (catchCode k) (entry node mode (catchCode k) ∷ t)) → Tracked Z x → Tracked Y (enter node mode (catch x))
-  catch-tracked node mode f (tracked zero t h r z) = tracked 0 (entry node mode 0 ∷ t) _ r (f 0 t z)
-  catch-tracked node mode f (tracked (suc zero) t h r z) = tracked 1 (entry node mode 1 ∷ t) _ r (f 1 t z)
-  catch-tracked node mode f (tracked (suc (suc zero)) t h r z) = tracked 0 (entry node mode 0 ∷ t) _ r (f 2 t z)
-  catch-tracked node mode f (tracked (suc (suc (suc k))) t h r z) = tracked (suc (suc k)) (entry node mode (suc (suc k)) ∷ t) _ r (f (suc (suc (suc k))) t z)
-  catch-tracked node mode f asked = asked
-  catch-tracked node mode f noRule = noRule
-
-module _ {Z₁ Z₂ Z : ℕ → List Entry → Type 0} where
-  pub andThen-tracked : {x : Result} {c : List ℕ → Result} (n : ℕ) → ((k : ℕ) (t : List Entry) → Z₁ k t → Z k t) → ((l : ℕ) (t u : List Entry) → Z₁ 0 t → Z₂ l u → Z l (t ++ u)) → Tracked Z₁ x → ((r : List ℕ) → Tracked Z₂ (c r)) → Tracked Z (andThen x n c)
-  andThen-tracked n f g (tracked zero t h r z) next = go (next r)
-    where
-      go : {y : Result} → Tracked Z₂ y → Tracked Z (onto (λ l. l) t h y)
-      go (tracked l u h′ r′ z′) = tracked l (t ++ u) _ r′ (g l t u z z′)
-      go asked = asked
-      go noRule = noRule
-  andThen-tracked n f g (tracked (suc k) t h r z) next = tracked (suc k) t _ r (f (suc k) t z)
-  andThen-tracked n f g asked next = asked
-  andThen-tracked n f g noRule next = noRule
-
-  pub beside-tracked : {x : Result} {c : List ℕ → Result} → ((k l : ℕ) (t u : List Entry) → Z₁ k t → Z₂ l u → Z (max k l) (t ++ u)) → Tracked Z₁ x → ((r : List ℕ) → Tracked Z₂ (c r)) → Tracked Z (beside x c)
-  beside-tracked g (tracked k t h r z) next = go (next r)
-    where
-      go : {y : Result} → Tracked Z₂ y → Tracked Z (onto (max k) t h y)
-      go (tracked l u h′ r′ z′) = tracked (max k l) (t ++ u) _ r′ (g k l t u z z′)
-      go asked = asked
-      go noRule = noRule
-  beside-tracked g asked next = asked
-  beside-tracked g noRule next = noRule
-
-  pub again-tracked : {x : Result} {c : List ℕ → Result} → ((k : ℕ) (t : List Entry) → Z₁ k t → Z k t) → ((l : ℕ) (t u : List Entry) → Z₁ 0 t → Z₂ (suc l) u → Z (suc l) (t ++ u)) → Tracked Z₁ x → ((r : List ℕ) → Tracked Z₂ (c r)) → Tracked Z (again x c)
-  again-tracked f g (tracked zero t h r z) next = go (next r)
-    where
-      go : {y : Result} → Tracked Z₂ y → Tracked Z (onto (λ l. l) t [] (body y))
-      go (tracked zero u h′ r′ z′) = noRule
-      go (tracked (suc l) u h′ r′ z′) = tracked (suc l) (t ++ u) _ r′ (g l t u z z′)
-      go asked = asked
-      go noRule = noRule
-  again-tracked f g (tracked (suc k) t h r z) next = tracked (suc k) t h r (f (suc k) t z)
-  again-tracked f g asked next = asked
-  again-tracked f g noRule next = noRule
-
-pub cond-tracked : {Z : ℕ → List Entry → Type 0} {x y : Result} (b : Bool) → (b ≡ true → Tracked Z x) → (b ≡ false → Tracked Z y) → Tracked Z (cond b x y)
-cond-tracked true f g = f refl
-cond-tracked false f g = g refl
-
--- G of what placed before an entry, the entry, and what placed between it and a later one of its node
+-- G of what stands before an entry, the entry, and what stands between it and a later one of its node
 abbrev pub Revisits : (List Entry → Entry → List Entry → Type 0) → List Entry → Type 0
 Revisits G t = (b : List Entry) (e : Entry) (m : List Entry) (e′ : Entry) (a : List Entry) → t ≡ b ++ (e ∷ (m ++ (e′ ∷ a))) → nodeOf e ≡ nodeOf e′ → G b e m
 

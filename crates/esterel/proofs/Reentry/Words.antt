@@ -9,11 +9,11 @@ use Rattle.esterel.specs.Codes.{catchCode}
 use Rattle.esterel.specs.Instant.{Mode, started, resumed, Entry, entry, start, resume, idle, holds, first, second}
 use Rattle.esterel.specs.Outcome.{statementAt}
 use Rattle.esterel.specs.Reentry.{AllBeneath, Dropped}
-use Rattle.esterel.proofs.Every.{Every, none, also, every-left, every-right, every-join}
+use Rattle.esterel.proofs.Every.{Every, none, also, every-map, every-left, every-right, every-join, every-first}
 use Rattle.esterel.proofs.Nodes.{Sits}
-use Rattle.esterel.proofs.Reentry.Trails.{every-map, every-first}
 use Rattle.esterel.proofs.Reentry.Seen.{nodeOf}
-use Rattle.esterel.proofs.Reentry.Tracks.{codeOf, Tracked, tracked, asked, noRule, enter-tracked, alone-tracked, skip-tracked, body-tracked, catch-tracked, andThen-tracked, beside-tracked, again-tracked, same-tracked, cond-tracked, Revisits, revisits-join, never, revisits-none, revisits-one, Drops, drops-none, drops-one, drops-join, drops-same, entered, catching-behind, Around, Clear, clear-none, clear-sits, around-none, around-wide, around-join, around-own}
+use Rattle.esterel.proofs.Reentry.Results.{leaves, asked, noRule, same-leaves, enter-leaves, alone-leaves, skip-leaves, body-leaves, andThen-leaves, beside-leaves, again-leaves, cond-leaves}
+use Rattle.esterel.proofs.Reentry.Tracks.{codeOf, Tracked, trap-tracked, Revisits, revisits-join, never, revisits-none, revisits-one, Drops, drops-none, drops-one, drops-join, drops-same, entered, catching-behind, Around, Clear, clear-none, clear-sits, around-none, around-wide, around-join, around-own}
 
 abbrev pub Within : (n s : ℕ) → Entry → Type 0
 Within n s e = (n ≤ nodeOf e) × (nodeOf e < n + s)
@@ -141,29 +141,29 @@ module _ (p₀ : Stmt) where
     trap-own {n} {s} q m e z (suc (suc (suc k))) t o = own m (wide (le-refl n) (le-refl (n + s)) (clear-none p₀ (le-refl (n + s))) (λ j. absurd (omega arith)) (o .0))
 
     pub start-track : (p : Stmt) (n : ℕ) (ans : List ℕ) → Sits (nodes p₀) n p → Tracked (Full started n (size p)) (start n p ans)
-    start-track (leaf nothing) n ans w = tracked 0 _ _ ans (leaf-track n started 0)
-    start-track (leaf pause) n ans w = tracked 1 _ _ ans (leaf-track n started 1)
-    start-track (leaf (exit level)) n ans w = tracked (2 + level) _ _ ans (leaf-track n started (2 + level))
-    start-track (leaf (emit s)) n ans w = tracked 0 _ _ ans (leaf-track n started 0)
+    start-track (leaf nothing) n ans w = leaves 0 _ _ ans (leaf-track n started 0)
+    start-track (leaf pause) n ans w = leaves 1 _ _ ans (leaf-track n started 1)
+    start-track (leaf (exit level)) n ans w = leaves (2 + level) _ _ ans (leaf-track n started (2 + level))
+    start-track (leaf (emit s)) n ans w = leaves 0 _ _ ans (leaf-track n started 0)
     start-track (two sequence p q) n ans w =
-        enter-tracked (n + (size p + size q)) started (λ k t o. own started o)
-        (andThen-tracked (size q) (λ k t o. wide (le-refl n) (omega arith) (clear-second p q n (w .1)) (λ e. e) (o .0)) (λ l t u o v. join (clear-sits p₀ q (w .1)) (λ e. (refl, e)) (o .0) (v .0))
+        enter-leaves (n + (size p + size q)) started (λ k t _ o. own started o)
+        (andThen-leaves (size q) (λ k t _ o. wide (le-refl n) (omega arith) (clear-second p q n (w .1)) (λ e. e) (o .0)) (λ l t u _ _ o v. join (clear-sits p₀ q (w .1)) (λ e. (refl, e)) (o .0) (v .0))
         (start-track p n ans (w .0)) (λ r. start-track q (n + size p) r (w .1)))
     start-track (two (present s) p q) n [] w = asked
     start-track (two (present s) p q) n (suc a ∷ ans) w =
-        enter-tracked (n + (size p + size q)) started (λ k t o. own started o)
-        (alone-tracked (size q) (λ k t o. wide (le-refl n) (omega arith) (clear-second p q n (w .1)) (λ e. e) (o .0)) (start-track p n ans (w .0)))
+        enter-leaves (n + (size p + size q)) started (λ k t _ o. own started o)
+        (alone-leaves (size q) (λ k t _ o. wide (le-refl n) (omega arith) (clear-second p q n (w .1)) (λ e. e) (o .0)) (start-track p n ans (w .0)))
     start-track (two (present s) p q) n (zero ∷ ans) w =
-        enter-tracked (n + (size p + size q)) started (λ k t o. own started o)
-        (skip-tracked (size p) (λ k t o. wide (omega arith) (omega arith) (clear-none p₀ (omega arith)) (λ e. e) (o .0)) (start-track q (n + size p) ans (w .1)))
-    start-track (one trap p) n ans w = catch-tracked (n + size p) started (trap-own p started (w .1) refl) (start-track p n ans (w .0))
+        enter-leaves (n + (size p + size q)) started (λ k t _ o. own started o)
+        (skip-leaves (size p) (λ k t _ o. wide (omega arith) (omega arith) (clear-none p₀ (omega arith)) (λ e. e) (o .0)) (start-track q (n + size p) ans (w .1)))
+    start-track (one trap p) n ans w = trap-tracked (n + size p) started (trap-own p started (w .1) refl) (start-track p n ans (w .0))
     start-track (two parallel p q) n ans w =
-        enter-tracked (n + (size p + size q)) started (λ k t o. own started o)
-        (beside-tracked (λ k l t u o v. join (clear-sits p₀ q (w .1)) (λ e. (omega arith, omega arith)) (o .0) (v .0)) (start-track p n ans (w .0)) (λ r. start-track q (n + size p) r (w .1)))
+        enter-leaves (n + (size p + size q)) started (λ k t _ o. own started o)
+        (beside-leaves (λ k l t u _ _ o v. join (clear-sits p₀ q (w .1)) (λ e. (omega arith, omega arith)) (o .0) (v .0)) (start-track p n ans (w .0)) (λ r. start-track q (n + size p) r (w .1)))
     start-track (one loop p) n ans w =
-        enter-tracked (n + size p) started (λ k t o. own started o) (body-tracked (λ k t o. o .0) (start-track p n ans (w .0)))
-    start-track (one (signal s) p) n ans w = enter-tracked (n + size p) started (λ k t o. own started (o .0)) (start-track p n ans (w .0))
-    start-track (one (suspend s) p) n ans w = enter-tracked (n + size p) started (λ k t o. own started (o .0)) (start-track p n ans (w .0))
+        enter-leaves (n + size p) started (λ k t _ o. own started o) (body-leaves (λ k t _ o. o .0) (start-track p n ans (w .0)))
+    start-track (one (signal s) p) n ans w = enter-leaves (n + size p) started (λ k t _ o. own started (o .0)) (start-track p n ans (w .0))
+    start-track (one (suspend s) p) n ans w = enter-leaves (n + size p) started (λ k t _ o. own started (o .0)) (start-track p n ans (w .0))
 
   -- the request's words of an entry that is followed by another of its node
   abbrev pub Gone : List Entry → Entry → List Entry → Type 0
@@ -208,38 +208,38 @@ module _ (p₀ : Stmt) where
 
   -- a parallel's child that has ended
   idle-track : (n s : ℕ) (ans : List ℕ) → Tracked (Track Gone gone-further n s) (idle s ans)
-  idle-track n s ans = tracked 0 [] _ ans record { ranges = none; around = around-none p₀; drops = drops-none p₀; pairs = revisits-none Gone }
+  idle-track n s ans = leaves 0 [] _ ans record { ranges = none; around = around-none p₀; drops = drops-none p₀; pairs = revisits-none Gone }
 
   pub resume-track : (p : Stmt) (n : ℕ) (held ans : List ℕ) → Sits (nodes p₀) n p → Tracked (Goes resumed n (size p)) (resume n p held ans)
   resume-track (leaf nothing) n held ans w = noRule
-  resume-track (leaf pause) n held ans w = tracked 0 _ _ ans (leaf-track Gone gone-further n resumed 0)
+  resume-track (leaf pause) n held ans w = leaves 0 _ _ ans (leaf-track Gone gone-further n resumed 0)
   resume-track (leaf (exit level)) n held ans w = noRule
   resume-track (leaf (emit s)) n held ans w = noRule
   resume-track (two sequence p q) n held ans w =
-      enter-tracked (n + (size p + size q)) resumed (λ k t o. own Gone gone-further resumed o)
-      (cond-tracked (holds (first p held))
-      (λ _. andThen-tracked (size q) (λ k t o. wide Gone gone-further (le-refl n) (omega arith) (clear-second p q n (w .1)) (λ e. e) (o .0)) (λ l t u o v. join Gone gone-further (clear-sits p₀ q (w .1)) (λ e. (refl, e)) (o .0) (v .0))
+      enter-leaves (n + (size p + size q)) resumed (λ k t _ o. own Gone gone-further resumed o)
+      (cond-leaves (holds (first p held))
+      (λ _. andThen-leaves (size q) (λ k t _ o. wide Gone gone-further (le-refl n) (omega arith) (clear-second p q n (w .1)) (λ e. e) (o .0)) (λ l t u _ _ o v. join Gone gone-further (clear-sits p₀ q (w .1)) (λ e. (refl, e)) (o .0) (v .0))
       (resume-track p n (first p held) ans (w .0)) (λ r. start-track Gone gone-further q (n + size p) r (w .1)))
-      (λ _. skip-tracked (size p) (λ k t o. wide Gone gone-further (omega arith) (omega arith) (clear-none p₀ (omega arith)) (λ e. e) (o .0)) (resume-track q (n + size p) (second p q held) ans (w .1))))
+      (λ _. skip-leaves (size p) (λ k t _ o. wide Gone gone-further (omega arith) (omega arith) (clear-none p₀ (omega arith)) (λ e. e) (o .0)) (resume-track q (n + size p) (second p q held) ans (w .1))))
   resume-track (two (present s) p q) n held ans w =
-      enter-tracked (n + (size p + size q)) resumed (λ k t o. own Gone gone-further resumed o)
-      (cond-tracked (holds (first p held))
-      (λ _. alone-tracked (size q) (λ k t o. wide Gone gone-further (le-refl n) (omega arith) (clear-second p q n (w .1)) (λ e. e) (o .0)) (resume-track p n (first p held) ans (w .0)))
-      (λ _. skip-tracked (size p) (λ k t o. wide Gone gone-further (omega arith) (omega arith) (clear-none p₀ (omega arith)) (λ e. e) (o .0)) (resume-track q (n + size p) (second p q held) ans (w .1))))
+      enter-leaves (n + (size p + size q)) resumed (λ k t _ o. own Gone gone-further resumed o)
+      (cond-leaves (holds (first p held))
+      (λ _. alone-leaves (size q) (λ k t _ o. wide Gone gone-further (le-refl n) (omega arith) (clear-second p q n (w .1)) (λ e. e) (o .0)) (resume-track p n (first p held) ans (w .0)))
+      (λ _. skip-leaves (size p) (λ k t _ o. wide Gone gone-further (omega arith) (omega arith) (clear-none p₀ (omega arith)) (λ e. e) (o .0)) (resume-track q (n + size p) (second p q held) ans (w .1))))
   resume-track (one trap p) n held ans w =
-      catch-tracked (n + size p) resumed (trap-own Gone gone-further p resumed (w .1) refl) (resume-track p n (first p held) ans (w .0))
+      trap-tracked (n + size p) resumed (trap-own Gone gone-further p resumed (w .1) refl) (resume-track p n (first p held) ans (w .0))
   resume-track (two parallel p q) n held ans w =
-      enter-tracked (n + (size p + size q)) resumed (λ k t o. own Gone gone-further resumed o)
-      (beside-tracked (λ k l t u o v. join Gone gone-further (clear-sits p₀ q (w .1)) (λ e. (omega arith, omega arith)) o v)
-      (cond-tracked (holds (first p held)) (λ _. same-tracked (λ k t o. o .0) (resume-track p n (first p held) ans (w .0))) (λ _. idle-track n (size p) ans))
-      (λ r. cond-tracked (holds (second p q held)) (λ _. same-tracked (λ k t o. o .0) (resume-track q (n + size p) (second p q held) r (w .1))) (λ _. idle-track (n + size p) (size q) r)))
+      enter-leaves (n + (size p + size q)) resumed (λ k t _ o. own Gone gone-further resumed o)
+      (beside-leaves (λ k l t u _ _ o v. join Gone gone-further (clear-sits p₀ q (w .1)) (λ e. (omega arith, omega arith)) o v)
+      (cond-leaves (holds (first p held)) (λ _. same-leaves (λ k t _ o. o .0) (resume-track p n (first p held) ans (w .0))) (λ _. idle-track n (size p) ans))
+      (λ r. cond-leaves (holds (second p q held)) (λ _. same-leaves (λ k t _ o. o .0) (resume-track q (n + size p) (second p q held) r (w .1))) (λ _. idle-track (n + size p) (size q) r)))
   resume-track (one loop p) n held ans w =
-      enter-tracked (n + size p) resumed (λ k t o. own Gone gone-further resumed o)
-      (again-tracked (λ k t o. o .0) (λ l t u o v. again-track o v) (resume-track p n (first p held) ans (w .0)) (λ r. start-track Gone gone-further p n r (w .0)))
+      enter-leaves (n + size p) resumed (λ k t _ o. own Gone gone-further resumed o)
+      (again-leaves (λ k t _ o. o .0) (λ l t u _ _ o v. again-track o v) (resume-track p n (first p held) ans (w .0)) (λ r. start-track Gone gone-further p n r (w .0)))
   resume-track (one (signal s) p) n held ans w =
-      enter-tracked (n + size p) resumed (λ k t o. own Gone gone-further resumed (o .0)) (resume-track p n (first p held) ans (w .0))
+      enter-leaves (n + size p) resumed (λ k t _ o. own Gone gone-further resumed (o .0)) (resume-track p n (first p held) ans (w .0))
   resume-track (one (suspend s) p) n held [] w = asked
   resume-track (one (suspend s) p) n held (suc a ∷ ans) w =
-      tracked 1 (entry (n + size p) resumed 1 ∷ []) held ans (own Gone gone-further resumed record { ranges = none; around = around-none p₀; drops = drops-none p₀; pairs = revisits-none Gone })
+      leaves 1 (entry (n + size p) resumed 1 ∷ []) held ans (own Gone gone-further resumed record { ranges = none; around = around-none p₀; drops = drops-none p₀; pairs = revisits-none Gone })
   resume-track (one (suspend s) p) n held (zero ∷ ans) w =
-      enter-tracked (n + size p) resumed (λ k t o. own Gone gone-further resumed (o .0)) (resume-track p n (first p held) ans (w .0))
+      enter-leaves (n + size p) resumed (λ k t _ o. own Gone gone-further resumed (o .0)) (resume-track p n (first p held) ans (w .0))
