@@ -3,12 +3,16 @@
 //! and the ticks of F-2.
 //!
 //! The specification is in `table`, `checks`, `sets`, `analysis`, `listing`,
-//! `instant`, `text` and `tick`. `support` serves the tests and the generators.
+//! `instant`, `text` and `tick`. What F-6 says of runs is for tests to try: `reentry` and
+//! `account` tell what is entered again in an instant. `support` serves the tests and the
+//! generators.
 
+pub mod account;
 pub mod analysis;
 pub mod checks;
 pub mod instant;
 pub mod listing;
+pub mod reentry;
 pub mod sets;
 pub mod support;
 pub mod table;

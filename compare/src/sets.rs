@@ -6,7 +6,7 @@ use crate::table::{Statement, Tree};
 pub const ENDED: u64 = 1;
 pub const PAUSED: u64 = 1 << 1;
 /// The code of an exit to the innermost trap.
-const CAUGHT: u64 = 1 << 2;
+pub const CAUGHT: u64 = 1 << 2;
 
 /// Writes the start set K of every node.
 pub fn fill_start_sets(tree: &Tree, start_sets: &mut [u64]) {
@@ -68,29 +68,38 @@ pub fn trap(body: u64) -> u64 {
 /// the number of traps around each node, itself not counted.
 pub fn fill_contexts(tree: &Tree, start_sets: &[u64], traps: &[usize], contexts: &mut [u64]) {
     contexts[tree.root()] = 0;
-    for (node, &statement) in tree.statements.iter().enumerate().rev() {
-        let outer = contexts[node];
-        match statement {
-            Statement::Nothing
-            | Statement::Pause
-            | Statement::Emit { .. }
-            | Statement::Exit { .. } => {}
-            Statement::Signal { body } | Statement::Suspend { body } => contexts[body] = outer,
-            Statement::Present { then, otherwise } => {
-                contexts[then] = outer;
-                contexts[otherwise] = outer;
-            }
-            Statement::Loop { body } => contexts[body] = outer | ENDED,
-            Statement::Sequence { first, second } => {
-                contexts[first] = context_of_first(outer, start_sets[second]);
-                contexts[second] = context_of_second(outer, start_sets[first]);
-            }
-            Statement::Parallel { left, right } => {
-                contexts[left] = context_under_parallel(outer, traps[left]);
-                contexts[right] = context_under_parallel(outer, traps[right]);
-            }
-            Statement::Trap { body } => contexts[body] = context_under_trap(outer),
+    for node in (0..tree.size()).rev() {
+        fill_contexts_beneath(tree, node, start_sets, traps, contexts);
+    }
+}
+
+/// Writes the context sets of a node's children, from its own.
+pub fn fill_contexts_beneath(
+    tree: &Tree,
+    node: usize,
+    start_sets: &[u64],
+    traps: &[usize],
+    contexts: &mut [u64],
+) {
+    let outer = contexts[node];
+    match tree.statements[node] {
+        Statement::Nothing | Statement::Pause | Statement::Emit { .. } | Statement::Exit { .. } => {
         }
+        Statement::Signal { body } | Statement::Suspend { body } => contexts[body] = outer,
+        Statement::Present { then, otherwise } => {
+            contexts[then] = outer;
+            contexts[otherwise] = outer;
+        }
+        Statement::Loop { body } => contexts[body] = outer | ENDED,
+        Statement::Sequence { first, second } => {
+            contexts[first] = context_of_first(outer, start_sets[second]);
+            contexts[second] = context_of_second(outer, start_sets[first]);
+        }
+        Statement::Parallel { left, right } => {
+            contexts[left] = context_under_parallel(outer, traps[left]);
+            contexts[right] = context_under_parallel(outer, traps[right]);
+        }
+        Statement::Trap { body } => contexts[body] = context_under_trap(outer),
     }
 }
 

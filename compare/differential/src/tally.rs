@@ -16,6 +16,12 @@ pub struct Tally {
 #[derive(Debug)]
 pub struct Difference(String);
 
+impl Difference {
+    pub fn new(report: String) -> Difference {
+        Difference(report)
+    }
+}
+
 impl Display for Difference {
     fn fmt(&self, formatter: &mut Formatter) -> fmt::Result {
         formatter.write_str(&self.0)
@@ -33,13 +39,18 @@ impl Tally {
     /// Makes the call on both sides. If all agrees, hands back what both
     /// returned.
     pub fn compare(&mut self, trial: &impl Trial) -> Result<u32, Difference> {
-        let mut ours = trial.clone();
+        let (returned, _) = self.compare_and_keep(trial)?;
+        Ok(returned)
+    }
+
+    /// As `compare`, with the buffers after the call.
+    pub fn compare_and_keep<T: Trial>(&mut self, trial: &T) -> Result<(u32, T), Difference> {
+        let (our_return, ours) = self.ours(trial);
         let mut theirs = trial.clone();
-        let our_return = ours.call(&self.ours);
         let their_return = theirs.call(&COMPARE);
         self.comparisons += 1;
         if our_return == their_return && ours == theirs {
-            return Ok(our_return);
+            return Ok((our_return, ours));
         }
         let mut report = format!(
             "difference in {}: ours returns {}, compare {}\n",
@@ -52,6 +63,13 @@ impl Tally {
             report += &describe(name, &before, &ours, &theirs);
         }
         Err(Difference(report))
+    }
+
+    /// Makes the call on our side alone: what it returned, and the buffers after it.
+    pub fn ours<T: Trial>(&self, trial: &T) -> (u32, T) {
+        let mut ours = trial.clone();
+        let returned = ours.call(&self.ours);
+        (returned, ours)
     }
 }
 

@@ -1,6 +1,7 @@
 //! Writes instants to run, and the outcomes that are expected of them.
 //!
-//! Usage: `instants [--instant-vectors FILE].. [--instants-of FILE].. INPUT EXPECTED`
+//! Usage: `instants [--instant-vectors FILE].. [--instants-of FILE].. [--runs-of FILE]..
+//! INPUT EXPECTED`
 //!
 //! INPUT holds the cases one after the other. All lengths are 2 bytes,
 //! little-endian. A case is
@@ -31,17 +32,20 @@
 //!
 //! First come the cases of the instant vectors, with the outcomes of that file.
 //! Then, with outcomes of this implementation, come the further cases of older
-//! vector files (whose own outcomes are not looked at), and own ones.
+//! vector files (whose own outcomes are not looked at), the instants of runs (in which
+//! the nodes that are entered twice must be those of that file), and own ones.
 
 use std::collections::HashSet;
 use std::path::Path;
 use std::process::ExitCode;
 
 use compare::instant::SIGNALS;
-use compare::support::cases::{Case, Outcome};
+use compare::reentry::entered_twice;
+use compare::support::cases::{Call, Case, Outcome};
 use compare::support::files::{self, Files};
 use compare::support::random::Random;
-use compare::support::vectors::{read_instants, InstantVector, Lent};
+use compare::support::runs::{run, Instant};
+use compare::support::vectors::{read_instants, read_runs, InstantVector, Lent, RunVector};
 use compare::support::{arguments, families, hex, SEED};
 use compare::Refusal;
 
@@ -53,8 +57,8 @@ fn main() -> ExitCode {
 }
 
 fn write_files() -> Result<(), String> {
-    let arguments = arguments::read(["--instant-vectors", "--instants-of"])?;
-    let [vectors, instants_of] = &arguments.options;
+    let arguments = arguments::read(["--instant-vectors", "--instants-of", "--runs-of"])?;
+    let [vectors, instants_of, runs_of] = &arguments.options;
     println!("seed {SEED:#x}");
     let mut files = Files::default();
     let random = &mut Random::new(SEED);
@@ -64,6 +68,9 @@ fn write_files() -> Result<(), String> {
     }
     for file in instants_of {
         add_instants_of(&mut files, random, file, &mut written);
+    }
+    for file in runs_of {
+        add_runs_of(&mut files, file)?;
     }
     type Family = fn(&mut Random) -> Vec<Case>;
     let families: [(&str, Family); 9] = [
@@ -136,6 +143,54 @@ fn add_instants_of(
         }
     }
     println!("further instants {further}");
+}
+
+/// The instants of each run, but one that comes again is added once. They draw by
+/// themselves, so that the cases after them are the same without them.
+fn add_runs_of(files: &mut Files, file: &Path) -> Result<(), String> {
+    let random = &mut Random::new(SEED);
+    let mut further = 0;
+    for (line, vector) in read_runs(file).iter().enumerate() {
+        let mut met = HashSet::new();
+        for instant in instants_of_run(line, vector)? {
+            if met.insert((instant.before.clone(), instant.answers.clone())) {
+                let case = case_of_instant(random, &vector.table, &instant);
+                add(files, &case, &case.run());
+                further += 1;
+            }
+        }
+    }
+    println!("instants of runs {further}");
+    Ok(())
+}
+
+fn instants_of_run(line: usize, vector: &RunVector) -> Result<Vec<Instant>, String> {
+    let (table, expected) = (hex::encode(&vector.table), &vector.twice);
+    let instants = run(&vector.table, &vector.steps)
+        .map_err(|refusal| format!("run line {}: {refusal:?}\ntable {table}", line + 1))?;
+    let twice: Vec<Vec<usize>> = instants
+        .iter()
+        .map(|instant| entered_twice(&instant.trail))
+        .collect();
+    if twice != *expected {
+        return Err(format!(
+            "run line {} disagrees\ntable {table}\nvector: {expected:?}\nours:   {twice:?}",
+            line + 1
+        ));
+    }
+    Ok(instants)
+}
+
+/// A start is lent any bytes as its state.
+fn case_of_instant(random: &mut Random, table: &[u8], instant: &Instant) -> Case {
+    let case = match &instant.before {
+        Some(held) => Case::new(random, Call::Resume, table, held),
+        None => {
+            let old = random.bytes(table.len() / 2);
+            Case::new(random, Call::Start, table, &old)
+        }
+    };
+    case.answered(&instant.answers)
 }
 
 fn case_of(random: &mut Random, vector: &InstantVector) -> Case {

@@ -1,6 +1,7 @@
 //! Writes tables, and the listings that are expected of them.
 //!
-//! Usage: `tables [--listing-vectors FILE].. [--tables-of FILE].. INPUT EXPECTED`
+//! Usage: `tables [--listing-vectors FILE].. [--tables-of FILE].. [--marks-of FILE]..
+//! INPUT EXPECTED`
 //!
 //! INPUT holds the tables one after the other, each as its length in bytes
 //! (2 bytes, little-endian) followed by that many bytes. EXPECTED holds the
@@ -8,21 +9,22 @@
 //! listing program prints them. First come the tables of the listing vectors, with
 //! the texts of that file. Then, with texts of this implementation, come the
 //! further tables of older vector files (whose texts, by an older rule, are not
-//! looked at), the edges, and random tables.
+//! looked at), those of runs (whose marks must be those of that file), the edges, and
+//! random tables.
 
 use std::collections::HashSet;
 use std::path::Path;
 use std::process::ExitCode;
 
 use compare::checks::MOST_TRAPS;
-use compare::listing;
 use compare::support::damage::{bad_table, BAD_NUMBERS};
 use compare::support::edges::edges;
 use compare::support::files::{self, Files};
 use compare::support::programs::{accepted, ladder, SHAPES};
 use compare::support::random::Random;
-use compare::support::vectors::{read_listings, ListingVector};
+use compare::support::vectors::{read_listings, read_runs, ListingVector, RunVector};
 use compare::support::{arguments, hex, SEED};
+use compare::{listing, Sets};
 
 const ACCEPTED: usize = 250;
 const LADDERS: [usize; 4] = [1, 2, 8, MOST_TRAPS];
@@ -32,8 +34,8 @@ fn main() -> ExitCode {
 }
 
 fn write_files() -> Result<(), String> {
-    let arguments = arguments::read(["--listing-vectors", "--tables-of"])?;
-    let [vectors, tables_of] = &arguments.options;
+    let arguments = arguments::read(["--listing-vectors", "--tables-of", "--marks-of"])?;
+    let [vectors, tables_of, marks_of] = &arguments.options;
     println!("seed {SEED:#x}");
     let mut files = Files::default();
     let mut written = HashSet::new();
@@ -42,6 +44,9 @@ fn write_files() -> Result<(), String> {
     }
     for file in tables_of {
         add_tables_of(&mut files, file, &mut written);
+    }
+    for file in marks_of {
+        add_marks_of(&mut files, file, &mut written)?;
     }
     add_edges(&mut files)?;
     add_random(&mut files);
@@ -74,13 +79,40 @@ fn add_vectors(
 fn add_tables_of(files: &mut Files, file: &Path, written: &mut HashSet<Vec<u8>>) {
     let mut further = 0;
     for ListingVector { table, .. } in read_listings(file) {
-        if !written.contains(&table) {
-            files.add(&table, &listing(&table));
-            written.insert(table);
-            further += 1;
-        }
+        further += add_further(files, table, written);
     }
     println!("further tables {further}");
+}
+
+fn add_marks_of(
+    files: &mut Files,
+    file: &Path,
+    written: &mut HashSet<Vec<u8>>,
+) -> Result<(), String> {
+    let mut further = 0;
+    for (line, RunVector { table, marks, .. }) in read_runs(file).into_iter().enumerate() {
+        let ours = Sets::of(&table).map(|sets| sets.marks);
+        if ours.as_ref() != Ok(&marks) {
+            return Err(format!(
+                "marks line {} disagree\ntable {}\nvector: {marks:?}\nours:   {ours:?}",
+                line + 1,
+                hex::encode(&table)
+            ));
+        }
+        further += add_further(files, table, written);
+    }
+    println!("tables of runs {further}, all marks agree");
+    Ok(())
+}
+
+/// Adds a table, unless it is there already, and hands back how many were added.
+fn add_further(files: &mut Files, table: Vec<u8>, written: &mut HashSet<Vec<u8>>) -> usize {
+    if written.contains(&table) {
+        return 0;
+    }
+    files.add(&table, &listing(&table));
+    written.insert(table);
+    1
 }
 
 fn add_edges(files: &mut Files) -> Result<(), String> {

@@ -79,6 +79,14 @@ impl Case {
         cases
     }
 
+    /// The pauses that are held before the instant, or none for a start.
+    pub fn before(&self) -> Option<&[u8]> {
+        match self.call {
+            Call::Start => None,
+            Call::Resume => Some(&self.state),
+        }
+    }
+
     /// The emission buffer before the call.
     pub fn emissions(&self) -> Vec<u8> {
         (0..self.emissions_length)

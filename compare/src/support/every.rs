@@ -1,5 +1,7 @@
 //! Every table of few nodes over some letters.
 
+use crate::Sets;
+
 /// The bytes of a node, and the number of its children.
 pub type Letter = ([u8; 2], usize);
 
@@ -17,9 +19,24 @@ pub const DECIDING: [Letter; 9] = [
     ([11, 0], 1),
 ];
 
+/// These and a suspend, which decides something when it is resumed. In a run, an emit does
+/// as nothing does, and a signal as its child.
+pub fn deciding_in_runs() -> Vec<Letter> {
+    [&DECIDING[..], &[([7, 0], 1)]].concat()
+}
+
 /// Visits all tables of up to so many nodes that are one statement.
 pub fn every_table(letters: &[Letter], nodes: usize, mut visit: impl FnMut(&[u8])) {
     every_table_from(letters, &mut Vec::new(), 0, nodes, &mut visit);
+}
+
+/// Visits those of them that are accepted, with their sets.
+pub fn every_program(letters: &[Letter], nodes: usize, mut visit: impl FnMut(&[u8], &Sets)) {
+    every_table(letters, nodes, |table| {
+        if let Ok(sets) = Sets::of(table) {
+            visit(table, &sets);
+        }
+    });
 }
 
 /// All tables that begin with this one, of which so many statements are unused, and that

@@ -105,22 +105,29 @@ fn larger_resumption(random: &mut Random, table: &[u8], state: &[u8]) -> Vec<Cas
     cases
 }
 
-/// Programs that run for some instants, each from the state the last one left.
+/// Programs that run for some instants.
 pub fn runs(random: &mut Random, programs: usize, most_nodes: usize) -> Vec<Case> {
     let mut cases = Vec::new();
     for number in 0..programs {
         let nodes = random.between(1, most_nodes);
-        let (table, tree) = program(random, number, nodes / 2, nodes);
-        let old = random.bytes(tree.size());
-        let mut case = Case::new(random, Call::Start, &table, &old).with_exact_answers(random);
-        for _ in 0..8 {
-            let left = case.run().state;
-            cases.push(case);
-            if !left.contains(&1) {
-                break;
-            }
-            case = Case::new(random, Call::Resume, &table, &left).with_exact_answers(random);
+        let (table, _) = program(random, number, nodes / 2, nodes);
+        cases.extend(run(random, &table));
+    }
+    cases
+}
+
+/// Some instants of an accepted program: a start, then each from the state the last one left.
+pub fn run(random: &mut Random, table: &[u8]) -> Vec<Case> {
+    let mut cases = Vec::new();
+    let old = random.bytes(table.len() / 2);
+    let mut case = Case::new(random, Call::Start, table, &old).with_exact_answers(random);
+    for _ in 0..8 {
+        let left = case.run().state;
+        cases.push(case);
+        if !left.contains(&1) {
+            break;
         }
+        case = Case::new(random, Call::Resume, table, &left).with_exact_answers(random);
     }
     cases
 }

@@ -1,7 +1,8 @@
 //! What the tests, the generators and the comparisons share: hexadecimal,
-//! random numbers, vector files, tables and instants to try, and how the
+//! random numbers, vector files, tables, instants and runs to try, and how the
 //! generators write them.
 
+pub mod answers;
 pub mod arguments;
 pub mod bodies;
 pub mod calls;
@@ -11,18 +12,22 @@ pub mod edges;
 pub mod every;
 pub mod families;
 pub mod files;
+pub mod frames;
 pub mod hex;
 pub mod nodes;
 pub mod numbers;
 pub mod printer;
 pub mod programs;
 pub mod random;
+pub mod reentries;
+pub mod runs;
 pub mod states;
 pub mod text_edges;
 pub mod texts;
 pub mod tick_edges;
 pub mod ticks;
 pub mod vectors;
+pub mod wrong_marks;
 
 /// The seed of every generated table and instant.
 pub const SEED: u64 = 0x0104_2004;

@@ -98,6 +98,14 @@ pub const SHAPES_OF_PRESENTS: [Shape; 5] = [
     },
 ];
 
+pub const ALL_SHAPES: usize = SHAPES.len() + SHAPES_OF_PRESENTS.len();
+
+/// A shape for each number, of all of them in turn.
+pub fn any_shape(number: usize) -> &'static Shape {
+    let shapes = SHAPES.iter().chain(&SHAPES_OF_PRESENTS);
+    shapes.cycle().nth(number % ALL_SHAPES).expect("a cycle")
+}
+
 /// Draws an accepted program of at most so many nodes.
 pub fn accepted(random: &mut Random, shape: &Shape, nodes: usize) -> Vec<u8> {
     let room = Room {

@@ -5,19 +5,17 @@ use super::damage::{bad_table, pauses_to_nothing, BAD_NUMBERS};
 use super::nodes::{
     EXIT, LOOP, NOTHING, PARALLEL, PAUSE, PRESENT, SEQUENCE, SIGNAL, SUSPEND, TRAP,
 };
-use super::programs::{accepted, statement, Room, Shape, SHAPES, SHAPES_OF_PRESENTS};
+use super::programs::{accepted, any_shape, statement, Room, Shape, ALL_SHAPES};
 use super::random::Random;
 use crate::checks::{MOST_DEPTH, MOST_TRAPS};
 
 /// The numbers of `table` that give each kind of table and each shape its share.
 pub const NUMBERS: usize = 7 * ALL_SHAPES;
 
-const ALL_SHAPES: usize = SHAPES.len() + SHAPES_OF_PRESENTS.len();
-
 /// A table for each number in turn, of at most so many nodes but for a spoilt one. Most
 /// of them have a loop whose body ends.
 pub fn table(random: &mut Random, number: usize, nodes: usize) -> Vec<u8> {
-    let shape = shape(number);
+    let shape = any_shape(number);
     match number / ALL_SHAPES % 7 {
         0 | 1 => looped(random, shape, nodes),
         2 => beside(random, shape, nodes),
@@ -33,11 +31,6 @@ pub fn table(random: &mut Random, number: usize, nodes: usize) -> Vec<u8> {
             bad_table(random, number)
         }
     }
-}
-
-fn shape(number: usize) -> &'static Shape {
-    let shapes = SHAPES.iter().chain(&SHAPES_OF_PRESENTS);
-    shapes.cycle().nth(number % ALL_SHAPES).expect("a cycle")
 }
 
 /// A loop, some of whose exits may be to traps around it.

@@ -49,6 +49,16 @@ pub struct TickVector {
     pub line: String,
 }
 
+/// A run from the fresh start.
+pub struct RunVector {
+    pub table: Vec<u8>,
+    pub marks: Vec<u8>,
+    /// The answers of each instant.
+    pub steps: Vec<Vec<u8>>,
+    /// The nodes that are entered twice in each.
+    pub twice: Vec<Vec<usize>>,
+}
+
 /// Where the vector files are: BAVZHRONO_VECTORS, else beside the repository.
 pub fn directory() -> PathBuf {
     match std::env::var_os("BAVZHRONO_VECTORS") {
@@ -104,6 +114,26 @@ pub fn read_ticks(file: &Path) -> Vec<TickVector> {
         .collect()
 }
 
+pub fn read_runs(file: &Path) -> Vec<RunVector> {
+    read_objects(file)
+        .iter()
+        .map(|object| RunVector {
+            table: bytes(object, "table"),
+            marks: bytes(object, "marks"),
+            steps: list(object, "steps")
+                .iter()
+                .map(|answers| hex::decode(answers.text()))
+                .collect(),
+            twice: list(object, "twice").iter().map(nodes).collect(),
+        })
+        .collect()
+}
+
+fn nodes(list: &Value) -> Vec<usize> {
+    let nodes = list.list().iter();
+    nodes.map(|node| node.number() as usize).collect()
+}
+
 /// Signals are numbered from 0, so that the highest one tells how many there are.
 fn table_and_signals(object: &Object) -> (Vec<u8>, usize) {
     let table = bytes(object, "table");
@@ -122,7 +152,10 @@ fn closed(object: &Object) -> VectorClosed {
             entries: number(object, "entries") as usize,
         },
         after: bytes(object, "after"),
-        emits: list(object, "emits").iter().map(|&s| s as u8).collect(),
+        emits: list(object, "emits")
+            .iter()
+            .map(|signal| signal.number() as u8)
+            .collect(),
     }
 }
 
@@ -142,14 +175,40 @@ type Object = HashMap<String, Value>;
 enum Value {
     Text(String),
     Number(u64),
-    List(Vec<u64>),
+    List(Vec<Value>),
+}
+
+impl Value {
+    fn text(&self) -> &str {
+        match self {
+            Value::Text(text) => text,
+            other => panic!("this should be a text: {other:?}"),
+        }
+    }
+
+    fn number(&self) -> u64 {
+        match self {
+            Value::Number(number) => *number,
+            other => panic!("this should be a number: {other:?}"),
+        }
+    }
+
+    fn list(&self) -> &[Value] {
+        match self {
+            Value::List(list) => list,
+            other => panic!("this should be a list: {other:?}"),
+        }
+    }
+}
+
+fn value<'a>(object: &'a Object, key: &str) -> &'a Value {
+    object
+        .get(key)
+        .unwrap_or_else(|| panic!("there is no {key}: {object:?}"))
 }
 
 fn text<'a>(object: &'a Object, key: &str) -> &'a str {
-    match object.get(key) {
-        Some(Value::Text(text)) => text,
-        other => panic!("{key} should be a text: {other:?}"),
-    }
+    value(object, key).text()
 }
 
 fn bytes(object: &Object, key: &str) -> Vec<u8> {
@@ -157,17 +216,11 @@ fn bytes(object: &Object, key: &str) -> Vec<u8> {
 }
 
 fn number(object: &Object, key: &str) -> u64 {
-    match object.get(key) {
-        Some(Value::Number(number)) => *number,
-        other => panic!("{key} should be a number: {other:?}"),
-    }
+    value(object, key).number()
 }
 
-fn list<'a>(object: &'a Object, key: &str) -> &'a [u64] {
-    match object.get(key) {
-        Some(Value::List(list)) => list,
-        other => panic!("{key} should be a list: {other:?}"),
-    }
+fn list<'a>(object: &'a Object, key: &str) -> &'a [Value] {
+    value(object, key).list()
 }
 
 fn read_objects(file: &Path) -> Vec<Object> {
@@ -210,14 +263,14 @@ impl Reader<'_> {
         }
     }
 
-    fn list(&mut self) -> Vec<u64> {
+    fn list(&mut self) -> Vec<Value> {
         let mut list = Vec::new();
         self.expect('[');
         if self.accept(']') {
             return list;
         }
         loop {
-            list.push(self.number());
+            list.push(self.value());
             if !self.accept(',') {
                 break;
             }

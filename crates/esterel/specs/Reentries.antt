@@ -3,12 +3,12 @@ use Prim.Native.Nat.{ℕ}
 use mathlib.Core.Path.{_≡_}
 use mathlib.Core.Bool.{true}
 use mathlib.Core.List.{List, [], _∷_, map}
-use Rattle.esterel.specs.Statement.{Stmt, leaf, one, two, pause, exit, suspend, loop, trap, sequence, parallel}
+use Rattle.esterel.specs.Statement.{Stmt, leaf, one, two, nothing, pause, exit, suspend, loop, trap, sequence, parallel}
 use Rattle.esterel.specs.Sets.{placesOf, mark}
 use Rattle.esterel.specs.Table.{passed}
 use Rattle.esterel.specs.Checks.{verdict}
 use Rattle.esterel.specs.Instant.{Entry, entry, started, resumed, closed, start, resume, admitted}
-use Rattle.esterel.specs.Reentry.{Reached, Happens, Twice, Holding, Started}
+use Rattle.esterel.specs.Reentry.{Reached, Happens, Twice, Holding}
 
 -- A suspended pause, and beside it what drops it; the loop starts both again. In the second instant the pause, node 0, is held and not
 -- entered, dropped, and started.
@@ -44,13 +44,13 @@ pub record Idler : Type 0 where
       closed 1 (entry 4 resumed 1 ∷ entry 3 resumed 0 ∷ entry 2 resumed 0 ∷ entry 3 started 1 ∷ entry 1 started 1 ∷ entry 0 started 1 ∷ []) (1 ∷ 0 ∷ 0 ∷ 0 ∷ 0 ∷ []) []
   pub unreached : Reached idler (0 ∷ 0 ∷ 1 ∷ 0 ∷ 0 ∷ []) → ⊥
 
--- A mark is not always needed. A pause beside an endless wait: the parallel never ends, so the outer loop never starts it again, and no run
--- enters node 0 twice, or starts it while it is held. But S of a parallel's child has all codes, and node 0 has a mark.
-abbrev pub waiter : Stmt
-waiter = one loop (two parallel (leaf pause) (one loop (leaf pause)))
+-- A mark is not always needed. Beside a pause stands a nothing, node 0: the loop starts both again in each instant, but the nothing has ended
+-- before, and no instant enters it twice. Yet S of a parallel's child has all codes, and node 0 has a mark.
+abbrev pub pacer : Stmt
+pacer = one loop (two parallel (leaf nothing) (leaf pause))
 
-pub record Waiter : Type 0 where
-  pub read : verdict (2 ∷ 0 ∷ 2 ∷ 0 ∷ 8 ∷ 0 ∷ 10 ∷ 0 ∷ 8 ∷ 0 ∷ []) ≡ passed waiter
-  pub marks : map mark (placesOf waiter) ≡ 1 ∷ 1 ∷ 1 ∷ 0 ∷ 0 ∷ []
-  pub once : (held : List ℕ) (trail : List Entry) → Happens waiter held trail → Twice trail 0 → ⊥
-  pub unheld : (held : List ℕ) (trail : List Entry) → Happens waiter held trail → Holding waiter held 0 → Started 0 trail → ⊥
+pub record Pacer : Type 0 where
+  pub read : verdict (1 ∷ 0 ∷ 2 ∷ 0 ∷ 10 ∷ 0 ∷ 8 ∷ 0 ∷ []) ≡ passed pacer
+  pub marks : map mark (placesOf pacer) ≡ 1 ∷ 1 ∷ 1 ∷ 0 ∷ []
+  pub once : (held : List ℕ) (trail : List Entry) → Happens pacer held trail → Twice trail 0 → ⊥
+  pub unheld : (held : List ℕ) (trail : List Entry) → Happens pacer held trail → Holding pacer held 0 → ⊥

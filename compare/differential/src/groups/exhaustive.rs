@@ -1,6 +1,7 @@
 //! Every table of few nodes over a small alphabet; for an accepted one every
 //! state of bytes 0 and 1, and every list of answers that it can take.
 
+use compare::support::answers::every_list;
 use compare::support::cases::Call;
 use compare::support::every::{every_table, Letter};
 use compare::support::random::Random;
@@ -42,9 +43,6 @@ const TEXT: usize = 160;
 /// The answers that are lent for a tick: none, one too few, as many as are needed, and
 /// more.
 const LENT: [usize; 4] = [0, 511, 512, 520];
-
-/// Bytes that say present.
-const PRESENT: [u8; 3] = [1, 2, 255];
 
 pub fn all(tally: &mut Tally, _random: &mut Random) -> Result<(), Difference> {
     all_from(&mut Vec::new(), &mut |table| every_call(tally, table))
@@ -104,23 +102,16 @@ fn every_call(tally: &mut Tally, table: &[u8]) -> Result<(), Difference> {
     Ok(())
 }
 
-/// Where an answer is missing, both answers are tried.
 fn every_answer_list(
     tally: &mut Tally,
     call: Call,
     table: &[u8],
     state: &[u8],
 ) -> Result<(), Difference> {
-    let mut lists = vec![Vec::new()];
-    while let Some(answers) = lists.pop() {
-        let returned = tally.compare(&Instant::new(call, table, &answers, state))?;
-        if returned == 13 {
-            let present = PRESENT[answers.len() % PRESENT.len()];
-            lists.push([&answers[..], &[0]].concat());
-            lists.push([&answers[..], &[present]].concat());
-        }
-    }
-    Ok(())
+    every_list(|answers| {
+        let returned = tally.compare(&Instant::new(call, table, answers, state))?;
+        Ok(returned == 13)
+    })
 }
 
 #[cfg(test)]

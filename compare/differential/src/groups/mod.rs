@@ -10,6 +10,7 @@ mod exhaustive;
 mod instants;
 mod lengths;
 pub mod refusals;
+pub mod runs;
 mod tables;
 pub mod texts;
 pub mod ticks;
@@ -22,7 +23,7 @@ pub struct Group {
     pub random: bool,
 }
 
-pub const GROUPS: [Group; 28] = [
+pub const GROUPS: [Group; 31] = [
     Group {
         name: "Table W and the edges",
         run: tables::edges,
@@ -61,6 +62,21 @@ pub const GROUPS: [Group; 28] = [
     Group {
         name: "instants of programs up to 1,024 nodes",
         run: instants::larger,
+        random: true,
+    },
+    Group {
+        name: runs::SMALL,
+        run: runs::small,
+        random: false,
+    },
+    Group {
+        name: runs::DROPPED,
+        run: runs::dropped,
+        random: false,
+    },
+    Group {
+        name: "runs and marks of programs up to 1,024 nodes",
+        run: runs::drawn,
         random: true,
     },
     Group {

@@ -1,0 +1,86 @@
+//! Runs of accepted programs from their fresh start.
+
+use std::collections::{HashSet, VecDeque};
+
+use super::answers::every_list;
+use crate::instant::SIGNALS;
+use crate::{resume_with_trail, start_with_trail, Closed, Entry, Refusal};
+
+/// An instant that has closed.
+#[derive(Clone, Debug)]
+pub struct Instant {
+    /// The pauses held before, or none for a start.
+    pub before: Option<Vec<u8>>,
+    pub answers: Vec<u8>,
+    pub closed: Closed,
+    pub trail: Vec<Entry>,
+    /// The pauses held afterwards.
+    pub after: Vec<u8>,
+}
+
+impl Instant {
+    /// Resumes the program from the pauses held before or, without them, starts it.
+    pub fn of(table: &[u8], before: Option<&[u8]>, answers: &[u8]) -> Result<Instant, Refusal> {
+        let (call, mut state): (Call, Vec<u8>) = match before {
+            None => (start_with_trail, vec![0; table.len() / 2]),
+            Some(held) => (resume_with_trail, held.to_vec()),
+        };
+        let (closed, trail) = call(table, answers, &mut state, &mut [0; SIGNALS])?;
+        Ok(Instant {
+            before: before.map(<[u8]>::to_vec),
+            answers: answers.to_vec(),
+            closed,
+            trail,
+            after: state,
+        })
+    }
+}
+
+type Call = fn(&[u8], &[u8], &mut [u8], &mut [u8]) -> Result<(Closed, Vec<Entry>), Refusal>;
+
+/// The run with these answers for its instants.
+pub fn run(table: &[u8], steps: &[Vec<u8>]) -> Result<Vec<Instant>, Refusal> {
+    let mut instants: Vec<Instant> = Vec::new();
+    for answers in steps {
+        let before = instants.last().map(|last| &last.after[..]);
+        let instant = Instant::of(table, before, answers)?;
+        instants.push(instant);
+    }
+    Ok(instants)
+}
+
+/// Visits every instant of every run: the start and the resumptions from all states that
+/// are reached, with all lists of answers. The visitor's first error ends it. Only small
+/// programs have few enough of both.
+pub fn every_instant<E>(
+    table: &[u8],
+    mut visit: impl FnMut(&Instant) -> Result<(), E>,
+) -> Result<(), E> {
+    let mut reached = HashSet::new();
+    let mut due = VecDeque::from([None]);
+    while let Some(before) = due.pop_front() {
+        every_instant_from(table, before.as_deref(), |instant| {
+            visit(&instant)?;
+            if instant.closed.code == 1 && reached.insert(instant.after.clone()) {
+                due.push_back(Some(instant.after));
+            }
+            Ok(())
+        })?;
+    }
+    Ok(())
+}
+
+/// Visits the instants from one state, or the starts, with all lists of answers.
+pub fn every_instant_from<E>(
+    table: &[u8],
+    before: Option<&[u8]>,
+    mut visit: impl FnMut(Instant) -> Result<(), E>,
+) -> Result<(), E> {
+    every_list(|answers| match Instant::of(table, before, answers) {
+        Ok(instant) => visit(instant).map(|()| false),
+        Err(refusal) => {
+            assert_eq!(refusal.number, 13, "{table:?} from {before:?}");
+            Ok(true)
+        }
+    })
+}
