@@ -1,7 +1,7 @@
 #!/usr/bin/env python3
 """Runs the theory's definitions on outside vectors and on edges of documents 01 and 02, and reports each difference.
 
-    python3 tools/run_definitions.py [--vectors DIR] [--listings N] [--instants N] [--texts N] [--ticks N] [--seed S]
+    python3 tools/run_definitions.py [--vectors DIR] [--listings N] [--instants N] [--texts N] [--ticks N] [--runs N] [--seed S]
 
 Each vector becomes a theorem `what the definitions give ≡ what is expected`, proved by refl, so that the checker has to
 compute the definitions. All is written to a temporary repository, which has copies of crates/codes, crates/esterel,
@@ -10,7 +10,8 @@ they stand below.
 A text's derivation cannot be computed: its tree is the one that the machine of crates/grammar finds, of which it is proved
 that it finds exactly the derivations. Of a tick that is shown, the rules are run with its list (tick17); where table and list are
 small, all lists that come before it are run too, in their order, until one leads there (first17). Whether a list leads there is
-asked by a test here, which is proved to say what `Leads` does.
+asked by a test here, which is proved to say what `Leads` does; so is the test whether a node stands at two places of a trail, which tells
+of each instant of a run (run17) what is entered twice.
 """
 import argparse, collections, json, os, random, re, shutil, subprocess, sys, tempfile, time
 from pathlib import Path
@@ -25,18 +26,20 @@ CRATES_TXT = "codes:\nesterel: codes\ngrammar: esterel\nstarts: esterel codes\nc
 # and `verdict` makes them once more, with 4 to 11. The emission buffer is taken to be long enough.
 CALLS = """
 use Prim.Native.Nat.{ℕ, zero, suc, _-_, _/_}
-use mathlib.Core.Path.{_≡_, refl, ap}
+use mathlib.Core.Path.{_≡_, refl, sym, ap, subst}
 use mathlib.Core.Logic.{_↔_}
-use mathlib.Core.Bool.{Bool, true, false, cond, false≢true}
-use mathlib.Core.List.{List, [], _∷_, _++_}
+use mathlib.Core.Bool.{Bool, true, false, _&&_, _||_, cond, or-true, false≢true}
+use mathlib.Core.List.{List, [], _∷_, _++_, map}
 use mathlib.Core.Option.{Option, none, some}
 use lib.ListN.{length, take, drop}
-use lib.Dec.{eqb, ltb}
+use lib.Dec.{T, eqb, ltb, eqb→eq, eqb-refl}
 use Rattle.esterel.specs.Statement.{Stmt, size, nodes, loopDepth}
 use Rattle.esterel.specs.Table.{Verdict, passed, refused, read, checkLength, postfix}
 use Rattle.esterel.specs.Checks.{verdict, listing, Line, planned}
-use Rattle.esterel.specs.Instant.{Mode, started, resumed, Entry, Result, closed, starved, stuck, start, resume, admitted}
+use Rattle.esterel.specs.Sets.{placesOf, mark}
+use Rattle.esterel.specs.Instant.{Mode, started, resumed, Entry, entry, Result, closed, starved, stuck, start, resume, admitted}
 use Rattle.esterel.specs.Outcome.{Outcome, done, needsAnswer, noRule, outcome, statementAt}
+use Rattle.esterel.specs.Reentry.{Twice, Entered}
 use Rattle.grammar.specs.Limits.{maxSource}
 use Rattle.grammar.specs.Tokens.{tokens}
 use Rattle.grammar.specs.Meaning.{verdictOfTree}
@@ -48,6 +51,7 @@ pub data Shown : Type 0 where
   ran : (code taken entries : ℕ) (state emissions : List ℕ) → Shown
   written : (table : List ℕ) → Shown
   tick : (node : ℕ) (answers : List ℕ) → Shown
+  went : (marks : List ℕ) (twice : List (List ℕ)) → Shown
   refusal : (number node : ℕ) → Shown
   withoutRule : Shown
   noList : Shown
@@ -147,6 +151,101 @@ tickWith bytes answers = shownBy (given answers) (read bytes) (verdict bytes)
 
 abbrev pub firstTick : (bytes : List ℕ) (lengths : ℕ) → Shown
 firstTick bytes lengths = shownBy (λ run. shortest lengths 0 (λ l. leads (run l))) (read bytes) (verdict bytes)
+
+-- F-6: whether node n stands in a trail, and whether at two places of it. Where it is said so, it is `Entered`, and `Twice`, and the other way
+-- round.
+abbrev pub enters : ℕ → List Entry → Bool
+enters n [] = false
+enters n (entry i mode k ∷ t) = eqb n i || enters n t
+
+abbrev pub twiceIn : ℕ → List Entry → Bool
+twiceIn n [] = false
+twiceIn n (entry i mode k ∷ t) = eqb n i && enters n t || twiceIn n t
+
+same-node : (n : ℕ) → eqb n n ≡ true
+same-node n = fromT (eqb n n) (eqb-refl n)
+  where
+    fromT : (b : Bool) → T b → b ≡ true
+    fromT true t = refl
+    fromT false t = absurd t
+
+is-node : (n i : ℕ) → eqb n i ≡ true → n ≡ i
+is-node n i e = eqb→eq n i (subst T (sym e) tt)
+
+pub enters-sound : (n : ℕ) (t : List Entry) → enters n t ≡ true → Entered n t
+enters-sound n [] e = absurd (false≢true e)
+enters-sound n (entry i mode k ∷ t) e = go (eqb n i) refl (enters-sound n t) e
+  where
+    go : (b : Bool) → eqb n i ≡ b → (enters n t ≡ true → Entered n t) → (b || enters n t) ≡ true → Entered n (entry i mode k ∷ t)
+    go true z ih f = record { before = []; mode = mode; code = k; after = t; is = rw (is-node n i z) refl }
+    go false z ih f = let o = ih f in record { before = entry i mode k ∷ o .before; mode = o .mode; code = o .code; after = o .after; is = ap (λ l. entry i mode k ∷ l) (o .is) }
+
+enters-at : (n : ℕ) (b : List Entry) (mode : Mode) (k : ℕ) (a : List Entry) → enters n (b ++ (entry n mode k ∷ a)) ≡ true
+enters-at n [] mode k a = rw (same-node n)
+enters-at n (entry i m j ∷ b) mode k a = rw (enters-at n b mode k a, or-true)
+
+pub enters-exact : (n : ℕ) (t : List Entry) → (enters n t ≡ true) ↔ Entered n t
+enters-exact n t = (enters-sound n t, λ o. rw (o .is) (enters-at n (o .before) (o .mode) (o .code) (o .after)))
+
+pub twice-sound : (n : ℕ) (t : List Entry) → twiceIn n t ≡ true → Twice t n
+twice-sound n [] e = absurd (false≢true e)
+twice-sound n (entry i mode k ∷ t) e = go (eqb n i) (enters n t) refl (enters-sound n t) (twice-sound n t) e
+  where
+    here : eqb n i ≡ true → Entered n t → Twice (entry i mode k ∷ t) n
+    here z o =
+        record {
+          before = [];
+          mode = mode;
+          code = k;
+          between = o .before;
+          again = o .mode;
+          codeAgain = o .code;
+          after = o .after;
+          is = rw (← is-node n i z) (ap (λ l. entry n mode k ∷ l) (o .is));
+        }
+    later : Twice t n → Twice (entry i mode k ∷ t) n
+    later o =
+        record {
+          before = entry i mode k ∷ o .before;
+          mode = o .mode;
+          code = o .code;
+          between = o .between;
+          again = o .again;
+          codeAgain = o .codeAgain;
+          after = o .after;
+          is = ap (λ l. entry i mode k ∷ l) (o .is);
+        }
+    go : (b c : Bool) → eqb n i ≡ b → (c ≡ true → Entered n t) → (twiceIn n t ≡ true → Twice t n) → (b && c || twiceIn n t) ≡ true → Twice (entry i mode k ∷ t) n
+    go true true z f g y = here z (f refl)
+    go true false z f g y = later (g y)
+    go false c z f g y = later (g y)
+
+twice-at : (n : ℕ) (b : List Entry) (mode : Mode) (k : ℕ) (a : List Entry) → enters n a ≡ true → twiceIn n (b ++ (entry n mode k ∷ a)) ≡ true
+twice-at n [] mode k a e = rw (same-node n, e)
+twice-at n (entry i m j ∷ b) mode k a e = rw (twice-at n b mode k a e, or-true)
+
+pub twice-exact : (n : ℕ) (t : List Entry) → (twiceIn n t ≡ true) ↔ Twice t n
+twice-exact n t = (twice-sound n t, λ o. rw (o .is) (twice-at n (o .before) (o .mode) (o .code) _ (enters-at n (o .between) (o .again) (o .codeAgain) (o .after))))
+
+-- of the m nodes from n on, those that are entered twice
+abbrev pub entered : (m n : ℕ) → List Entry → List ℕ
+entered zero n t = []
+entered (suc m) n t = cond (twiceIn n t) (n ∷ entered m (suc n) t) (entered m (suc n) t)
+
+-- a run: what is entered twice in an instant, and in those after it, each with all of its answers
+abbrev pub instantsOf : Stmt → Result → (next : List ℕ → List (List ℕ)) → List (List ℕ)
+instantsOf p (closed k trail held []) next = entered (size p) 0 trail ∷ cond (eqb k 1) (next held) []
+instantsOf p (closed k trail held (a ∷ rest)) next = []
+instantsOf p starved next = []
+instantsOf p stuck next = []
+
+abbrev pub onward : Stmt → (steps : List (List ℕ)) → (held : List ℕ) → List (List ℕ)
+onward p [] held = []
+onward p (answers ∷ steps) held = instantsOf p (resume 0 p held answers) (onward p steps)
+
+abbrev pub runOf : Verdict → (first : List ℕ) (steps : List (List ℕ)) → Shown
+runOf (refused number node) first steps = refusal number node
+runOf (passed p) first steps = went (map mark (placesOf p)) (instantsOf p (start 0 p first) (onward p steps))
 """
 HEAD = """
 use mathlib.Core.Path.{_≡_, refl}
@@ -155,7 +254,7 @@ use Rattle.esterel.specs.Codes.{word}
 use Rattle.esterel.specs.Checks.{verdict, line}
 use Rattle.esterel.specs.Instant.{started, resumed}
 use Rattle.grammar.specs.Tokens.{tokens, classOf}
-use Rattle.CRATE.proofs.Calls.{shown, figures, call, readText, tickWith, firstTick, ok, ran, written, tick, refusal}
+use Rattle.CRATE.proofs.Calls.{shown, figures, call, readText, tickWith, firstTick, runOf, ok, ran, written, tick, went, refusal}
 """
 Theorem = collections.namedtuple("Theorem", "name left right")  # left: a call of the definitions; right: what is expected
 
@@ -214,6 +313,16 @@ def tick_theorems(at, vector):
     yield Theorem(f"tick{at}", f"tickWith {a_list(table)} {a_list(numbers)}", right)
     if len(table) <= 2 * SMALL and len(numbers) <= SHORT:
         yield Theorem(f"first{at}", f"firstTick {a_list(table)} {len(numbers) + 1}", right)
+
+def ran_through(table, steps):
+    return f"runOf (verdict {a_list(table)}) {a_list(steps[0])} {a_list(map(a_list, steps[1:]))}"
+
+def entered_twice(marks, twice):
+    return f"went {a_list(marks)} {a_list(map(a_list, twice))}"
+
+def run_theorem(at, vector):
+    steps = [bytes.fromhex(answers) for answers in vector["steps"]]
+    return Theorem(f"run{at}", ran_through(bytes.fromhex(vector["table"]), steps), entered_twice(bytes.fromhex(vector["marks"]), vector["twice"]))
 
 def vectors(file, wanted, chance, theorem):
     numbered = list(enumerate(file.read_text().splitlines(), 1))
@@ -294,6 +403,14 @@ TICKS = {  # the line's numbers, and tables; ties of length under a parallel, an
     # two branches, of which one at least must exit: the first by present, or the second by present
     (8, 0, 1): [[4, 0, 1, 0, 6, 0, 4, 0, 2, 0, 6, 1, 10, 0, 11, 0, 8, 0]],
 }
+LOCK, SLEEPER = [2, 0, 8, 0, 2, 0, 4, 0, 9, 0, 10, 0, 11, 0, 8, 0], [2, 0, 7, 5, 2, 0, 4, 0, 9, 0, 10, 0, 11, 0, 8, 0]
+RUNS = [  # table, the answers of each instant, marks, and what is entered twice
+    (LOCK, [[], [], []], [1, 1, 1, 0, 1, 1, 1, 0], [[], [0, 1, 2, 4, 5, 6], [0, 1, 2, 4, 5, 6]]),
+    # the pause under the suspend is not entered before it is dropped; resumed, it is
+    (SLEEPER, [[], [1], [0]], [1, 1, 1, 0, 1, 1, 1, 0], [[], [1, 2, 4, 5, 6], [0, 1, 2, 4, 5, 6]]),
+    # marks that no run needs: node 0; then a run that ends
+    ([1, 0, 2, 0, 10, 0, 8, 0], [[], [], []], [1, 1, 1, 0], [[], [1, 2], [1, 2]]), ([2, 0, 5, 7], [[], []], [0, 0], [[], []]),
+]
 INSTANTS = [  # mode, table, state, answers
     # 1 and 2, then 3, then 4; a start's state is measured too, and its old bytes are not looked at
     ("started", branches(513), [], [], refused(1, 0)), ("resumed", [12], [], [], refused(2, 0)),
@@ -326,6 +443,7 @@ def edge_theorems():
     edges += [(verdict(table, "figures"), ok(*key)) for key, tables in ACCEPTED.items() for table in tables]
     edges += [(verdict(table), right) for table, right in LISTINGS] + [(call(*lent), right) for *lent, right in INSTANTS] + list(text_edges())
     edges += [(f"firstTick {a_list(table)} {len(key)}", f"tick {key[0]} {a_list(key[1:])}") for key, tables in TICKS.items() for table in tables]
+    edges += [(ran_through(*lent), entered_twice(*right)) for *lent, right in ((table, steps, right) for table, steps, *right in RUNS)]
     return [Theorem(f"edge{at}", *edge) for at, edge in enumerate(edges, 1)]
 
 TEXTS = [  # what is expected was worked out by hand from F-1 of document 02
@@ -353,6 +471,8 @@ def control_theorems():
     edges += [(call("resumed", W1, [1, 0, 0, 0], []), right) for right in rights]
     edges += [(f"readText {a_list(b'emit A;pause')}", "written " + a_list(right)) for right in ([3, 0, 2, 0, 9, 0, 9, 0], [3, 1, 2, 0, 9, 0])]
     edges += [("firstTick (1 ∷ 0 ∷ 2 ∷ 0 ∷ 6 ∷ 5 ∷ 8 ∷ 0 ∷ []) 2", f"tick {right}") for right in ("3 []", "3 (0 ∷ [])", "2 (1 ∷ [])")]
+    edges += [(ran_through(LOCK, [[], []]), entered_twice(marks, twice)) for marks, twice in
+              (([1, 0, 1, 0, 1, 1, 1, 0], [[], [0, 1, 2, 4, 5, 6]]), ([1, 1, 1, 0, 1, 1, 1, 0], [[], [0, 2, 4, 5, 6]]), ([1, 1, 1, 0, 1, 1, 1, 0], [[]]))]
     return [Theorem(f"control{at}", *edge) for at, edge in enumerate(edges)]
 
 # ---- the temporary repository
@@ -413,13 +533,14 @@ def run(repo, args):
     instants = vectors(args.vectors / "instants7_open.jsonl", args.instants, chance, instant_theorem)
     texts = vectors(args.vectors / "text_open.jsonl", args.texts, chance, text_theorem)
     ticks = sum(vectors(args.vectors / "tick_open.jsonl", args.ticks, chance, lambda *vector: list(tick_theorems(*vector))), [])
+    runs = vectors(args.vectors / "reentry_open.jsonl", args.runs, chance, run_theorem)
     edges, controls = edge_theorems(), control_theorems()
-    theorems = {x.name: x for x in edges + listings + instants + texts + ticks}
+    theorems = {x.name: x for x in edges + listings + instants + texts + ticks + runs}
     copy_crates(repo, args.whole)
     write_crate(repo, "control", controls, 1)
     write_crate(repo, "vectors", list(theorems.values()), 250)
     (repo / "crates.txt").write_text(CRATES_TXT)
-    for what, some in (("listings", listings), ("instants", instants), ("texts", texts), ("ticks", ticks), ("edges", edges)):
+    for what, some in (("listings", listings), ("instants", instants), ("texts", texts), ("ticks", ticks), ("runs", runs), ("edges", edges)):
         tally(what, some)
 
     proved, refusals, said = check(repo, "control")
@@ -443,6 +564,7 @@ def main():
     parser.add_argument("--instants", type=int, metavar="N", help="likewise")
     parser.add_argument("--texts", type=int, metavar="N", help="likewise")
     parser.add_argument("--ticks", type=int, metavar="N", help="likewise")
+    parser.add_argument("--runs", type=int, metavar="N", help="likewise")
     parser.add_argument("--seed", type=int, default=random.randrange(10**6), metavar="S")
     parser.add_argument("--keep", action="store_true", help="keep the temporary repository")
     parser.add_argument("--whole", action="store_true", help="prove the three crates whole first; else their definitions and types alone are read")

@@ -140,7 +140,8 @@ extern "C" {
  *      contexts    S: the codes after which it may be started again in the same instant
  *      marks       1 if the node's A meets its S, which says that the statement may be
  *                  schizophrenic (end, exit, or pause and be dropped by a neighbour's exit,
- *                  and be started again in one instant), else 0
+ *                  and be started again in one instant), else 0. In a run from a fresh
+ *                  start every statement to which that happens has 1; not every 1 is needed
  *      answer      (n, loop depth d, 0). d is the greatest number of loops around any node, the
  *                  node itself included. An instant of the program has at most n(1 + d) entries
  *                  and takes at most n(1 + d) answers.

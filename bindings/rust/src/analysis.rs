@@ -9,7 +9,8 @@ pub struct Mark(pub u8);
 
 impl Mark {
     /// Whether the statement may be schizophrenic, that is, end, exit, or pause and be dropped by a
-    /// neighbour's exit, and be started again in one instant.
+    /// neighbour's exit, and be started again in one instant. In a run from a fresh start every
+    /// statement to which that happens is marked; not every mark is needed.
     pub fn may_be_schizophrenic(self) -> bool {
         self.0 != 0
     }
