@@ -11,4 +11,4 @@ pub mod Theorems
 pub mod Figure9
 pub mod TableW
 pub mod Lock
-pub mod Reentries
+pub mod Examples

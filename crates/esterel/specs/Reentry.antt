@@ -41,7 +41,8 @@ pub record Twice (trail : List Entry) (n : ℕ) : Type 0 where
   pub after : List Entry
   pub is : trail ≡ before ++ (entry n mode code ∷ (between ++ (entry n again codeAgain ∷ after)))
 
--- The request's own words: n is entered, is then over or dropped, and is started again.
+-- The request's own words: n is entered, is then over or dropped, and is started again. In the trail an entry stands before those of its
+-- children, and has the code that its node finishes with.
 
 -- node i is beneath node c: in the subtree of c, and another node than c
 abbrev pub Beneath : Stmt → (c i : ℕ) → Type 0
@@ -59,36 +60,31 @@ pub record Entered (n : ℕ) (t : List Entry) : Type 0 where
   pub after : List Entry
   pub is : t ≡ before ++ (entry n mode code ∷ after)
 
--- a trap around n catches: it is entered before n, all since then is beneath it, so that n runs within it, and its child leaves with code 2
+-- a trap around n catches: it is entered before n, and all since then is beneath it, so that n runs within it; its child finishes with 2, and
+-- it with 0
 pub record Catching (p : Stmt) (n : ℕ) (before : List Entry) : Type 0 where
   pub catcher : ℕ
-  pub isTrap : kind (statementAt (nodes p) catcher) ≡ 11
+  pub isTrap : kind (statementAt (nodes p) catcher) ≡ 11  -- a trap
   pub around : Beneath p catcher n
   pub mode : Mode
-  pub childMode : Mode
   pub earlier : List Entry
   pub since : List Entry
-  pub catches : before ≡ earlier ++ (entry catcher mode 0 ∷ (entry (catcher - 1) childMode 2 ∷ since))
+  pub catches : before ≡ earlier ++ (entry catcher mode 0 ∷ (entry (catcher - 1) mode 2 ∷ since))
   pub inside : AllBeneath p catcher since
 
--- a node n that paused is dropped: a trap around it catches, and is over before n is started again, since a node that is not beneath the trap is
--- entered in between
+-- n, which paused, is dropped: a trap around it catches, and is over before n is entered again, since it is itself entered again in between
 pub record Dropped (p : Stmt) (n : ℕ) (before between : List Entry) : Type 0 where
   pub caught : Catching p n before
-  pub next : ℕ
-  pub outside : Beneath p (caught .catcher) next → ⊥
-  pub over : Entered next between
+  pub over : Entered (caught .catcher) between
 
--- With a code other than 1 it is over; with code 1 it has paused, and is dropped.
-pub record Reentered (p : Stmt) (trail : List Entry) (n : ℕ) : Type 0 where
-  pub before : List Entry
-  pub mode : Mode
-  pub code : ℕ
-  pub between : List Entry
-  pub codeAgain : ℕ
-  pub after : List Entry
-  pub is : trail ≡ before ++ (entry n mode code ∷ (between ++ (entry n started codeAgain ∷ after)))
-  pub gone : code ≡ 1 → Dropped p n before between
+-- Of two places: the later entry is a start. With a code other than 1 the earlier one is over by then, since the later is not beneath it;
+-- with code 1 n has paused, and is dropped.
+pub record InWords (p : Stmt) (trail : List Entry) (n : ℕ) (places : Twice trail n) : Type 0 where
+  pub starts : places .again ≡ started
+  pub gone : places .code ≡ 1 → Dropped p n (places .before) (places .between)
+
+abbrev pub Reentered : Stmt → List Entry → ℕ → Type 0
+Reentered p trail n = (places : Twice trail n) × InWords p trail n places
 
 -- The further form: n is held and not entered, is dropped, and is started again.
 
@@ -106,25 +102,21 @@ pub record Started (n : ℕ) (t : List Entry) : Type 0 where
   pub after : List Entry
   pub is : t ≡ before ++ (entry n started code ∷ after)
 
--- n holds a pause when the instant begins, and is started, before which it is not entered
-pub record StartedUnresumed (p : Stmt) (held : List ℕ) (trail : List Entry) (n : ℕ) : Type 0 where
+-- n holds a pause when the instant begins, and is started in it, before which it is not entered
+pub record StartedUnentered (p : Stmt) (held : List ℕ) (trail : List Entry) (n : ℕ) : Type 0 where
   pub holding : Holding p held n
-  pub before : List Entry
-  pub code : ℕ
-  pub after : List Entry
-  pub is : trail ≡ before ++ (entry n started code ∷ after)
-  pub unentered : Entered n before → ⊥
+  pub begins : Started n trail
+  pub unentered : Entered n (begins .before) → ⊥
 
--- in words: it stands beneath a suspend that is resumed and pauses without entering it, the suspend is dropped, and n is started
-pub record DroppedUnentered (p : Stmt) (held : List ℕ) (trail : List Entry) (n : ℕ) : Type 0 where
-  pub holding : Holding p held n
+-- a suspend around n is resumed, pauses, and is dropped
+pub record SuspendDropped (p : Stmt) (n : ℕ) (before : List Entry) : Type 0 where
   pub pauser : ℕ
-  pub isSuspend : kind (statementAt (nodes p) pauser) ≡ 7
+  pub isSuspend : kind (statementAt (nodes p) pauser) ≡ 7  -- a suspend
   pub around : Beneath p pauser n
-  pub before : List Entry
+  pub earlier : List Entry
   pub between : List Entry
-  pub code : ℕ
-  pub after : List Entry
-  pub is : trail ≡ before ++ (entry pauser resumed 1 ∷ (between ++ (entry n started code ∷ after)))
-  pub unentered : Entered n (before ++ (entry pauser resumed 1 ∷ between)) → ⊥
-  pub gone : Dropped p pauser before between
+  pub is : before ≡ earlier ++ (entry pauser resumed 1 ∷ between)
+  pub gone : Dropped p pauser earlier between
+
+abbrev pub DroppedUnentered : Stmt → List ℕ → List Entry → ℕ → Type 0
+DroppedUnentered p held trail n = (o : StartedUnentered p held trail n) × SuspendDropped p n (o .begins .before)

@@ -14,7 +14,7 @@ use Rattle.esterel.specs.Table.{Node, takes1, takes2, nodeOf, passed, re
 use Rattle.esterel.specs.Checks.{tooDeep, tooManyTraps, uncaught, firstNode, checkPlaces, verdict, planned}
 use Rattle.esterel.specs.Instant.{Mode, Entry, entry, Result, closed, starved, stuck, zeros, start, resume, admitted}
 use Rattle.esterel.specs.Outcome.{statementAt, taken, allIn, allGoOn}
-use Rattle.esterel.specs.Reentry.{Reached, Happens, markAt, Twice, Reentered, Holding, Started, StartedUnresumed, DroppedUnentered}
+use Rattle.esterel.specs.Reentry.{Reached, Happens, markAt, Twice, InWords, Reentered, Holding, Started, StartedUnentered, SuspendDropped, DroppedUnentered}
 
 -- Reading. A table that is read is the bytes of its program; the bytes of a program of at most 1,024 nodes are read as it.
 pub record Reading : Type 0 where
@@ -195,7 +195,8 @@ abbrev pub LowCodes : Type 0
 LowCodes = (p : Stmt) → Accepted p → (i : ℕ) → i < size p → NoneLost (placeAt p i)
 
 -- F-6. The invariant of reached states: where a statement holds a pause, 1 is in its A; the second of a sequence holds only if 0 is in the
--- first's A; where one child of a parallel holds and the other does not, 0 is in the other's A; a sequence or present holds in one child only
+-- first's A; where one child of a parallel holds and the other does not, 0 is in the other's A; a sequence or present holds in one child only.
+-- The children of node i are i − 1 − size r and i − 1.
 pub record Invariant (p : Stmt) (held : List ℕ) : Type 0 where
   pub paused : (i : ℕ) → Holding p held i → anyInstantSet (statementAt (nodes p) i) 1 ≡ true
   pub second : (i : ℕ) (q r : Stmt) → statementAt (nodes p) i ≡ two sequence q r → Holding p held (i - 1) → anyInstantSet q 0 ≡ true
@@ -209,28 +210,39 @@ pub record Invariant (p : Stmt) (held : List ℕ) : Type 0 where
       (i : ℕ) (b : Binary) (q r : Stmt) → statementAt (nodes p) i ≡ two b q r →
       Holding p held (i - 1 - size r) → Holding p held (i - 1) → b ≡ parallel
 
--- The runs of an accepted program: a reached state is admitted and keeps the invariant; and every code of an instant is in A of its node, that of a
--- resumed statement too. (Of a state that is admitted and not reached the latter is false: `Idler`.)
+-- The runs of an accepted program. A reached state is admitted and has the invariant, which goes over from any admitted state that has it to
+-- the next; and every code of an instant is in A of its node, that of a resumed statement too. (Of a state that is merely admitted this is
+-- false: `Idler`.)
 pub record Runs : Type 0 where
   pub admits : (p : Stmt) → Accepted p → (held : List ℕ) → Reached p held → admitted p held ≡ true
   pub keeps : (p : Stmt) → Accepted p → (held : List ℕ) → Reached p held → Invariant p held
+  pub carries :
+      (p : Stmt) → Accepted p → (held answers : List ℕ) → admitted p held ≡ true → Invariant p held →
+      (trail : List Entry) (left rest : List ℕ) → resume 0 p held answers ≡ closed 1 trail left rest → Invariant p left
   pub inA :
       (p : Stmt) → Accepted p → (held : List ℕ) (trail : List Entry) → Happens p held trail →
       (before : List Entry) (n : ℕ) (mode : Mode) (k : ℕ) (after : List Entry) →
       trail ≡ before ++ (entry n mode k ∷ after) → anyInstantSet (statementAt (nodes p) n) k ≡ true
 
--- In every instant of a run of an accepted program: a node that stands at two places of the trail has mark 1, and these nodes are those of the
--- request's words; a node that holds a pause when the instant begins and is started in it has mark 1, and where it is not entered before, it is
--- as in the words of the further form. A start, of any program, enters no node twice.
+-- In every instant of a run of an accepted program: a node that stands at two places of the trail has mark 1. Whatever the two places, it is as
+-- in the request's words, so these are the nodes of the request.
 pub record NoUnmarkedReentry : Type 0 where
   pub marked : (p : Stmt) → Accepted p → (held : List ℕ) (trail : List Entry) → Happens p held trail → (n : ℕ) → Twice trail n → markAt p n ≡ 1
-  pub inWords : (p : Stmt) → Accepted p → (held : List ℕ) (trail : List Entry) → Happens p held trail → (n : ℕ) → Twice trail n ↔ Reentered p trail n
+  pub inWords :
+      (p : Stmt) → Accepted p → (held : List ℕ) (trail : List Entry) → Happens p held trail → (n : ℕ) (places : Twice trail n) → InWords p trail n places
+  pub same : (p : Stmt) → Accepted p → (held : List ℕ) (trail : List Entry) → Happens p held trail → (n : ℕ) → Twice trail n ↔ Reentered p trail n
+  -- the further form: a node that holds a pause when the instant begins and is started in it has mark 1, and where it is not entered before,
+  -- it is as in these words
   pub heldMarked :
       (p : Stmt) → Accepted p → (held : List ℕ) (trail : List Entry) → Happens p held trail → (n : ℕ) →
       Holding p held n → Started n trail → markAt p n ≡ 1
   pub heldInWords :
+      (p : Stmt) → Accepted p → (held : List ℕ) (trail : List Entry) → Happens p held trail → (n : ℕ) (o : StartedUnentered p held trail n) →
+      SuspendDropped p n (o .begins .before)
+  pub heldSame :
       (p : Stmt) → Accepted p → (held : List ℕ) (trail : List Entry) → Happens p held trail → (n : ℕ) →
-      StartedUnresumed p held trail n ↔ DroppedUnentered p held trail n
+      StartedUnentered p held trail n ↔ DroppedUnentered p held trail n
+  -- a start, of any program, enters no node twice
   pub startsOnce :
       (p : Stmt) (answers : List ℕ) (k : ℕ) (trail : List Entry) (held rest : List ℕ) →
       start 0 p answers ≡ closed k trail held rest → (n : ℕ) → Twice trail n → ⊥

@@ -115,7 +115,7 @@ module _ (p : Stmt) (run : List ℕ → Result) (answers state emissions state�
   instant-of stuck e sure st o = absurd sure
 
 module _ (t answers state emissions state′ emissions′ : List ℕ) (p : Stmt) (r : Reaction) (l : Lent t p state emissions) where
-  starts-as : startCall (verdictFor t (length state) (length emissions)) answers ≡ closing (outcome p (start 0 p answers))
+  pub starts-as : startCall (verdictFor t (length state) (length emissions)) answers ≡ closing (outcome p (start 0 p answers))
   unfolding startCall
   starts-as = ap (λ v. startCall v answers) (passes l)
 
@@ -124,7 +124,7 @@ module _ (t answers state emissions state′ emissions′ : List ℕ) (p : Stmt)
       instant-of p (start 0 p) answers state emissions state′ emissions′ (l .places) (start 0 p answers) refl (demand3 .starts p (sound l) answers) (starving .starts p (sound l) answers) (reacts-as starts-as o)
 
   module _ {b : Bool} (a : admitted p (take (size p) state) ≡ b) where
-    resumes-as : resumeCall (verdictFor t (length state) (length emissions)) state answers ≡ cond b (closing (outcome p (resume 0 p (take (size p) state) answers))) (refuses 12 0)
+    pub resumes-as : resumeCall (verdictFor t (length state) (length emissions)) state answers ≡ cond b (closing (outcome p (resume 0 p (take (size p) state) answers))) (refuses 12 0)
     unfolding resumeCall
     resumes-as = ap (λ v. resumeCall v state answers) (passes l) ∙ ap (λ x. cond x (closing (outcome p (resume 0 p (take (size p) state) answers))) (refuses 12 0)) a
 

@@ -7,13 +7,10 @@ use lib.Dec.{eqb}
 use Rattle.codes.proofs.Members.{only-in}
 use Rattle.esterel.specs.Codes.{bit}
 use Rattle.esterel.specs.Instant.{Mode, Entry, entry, started, resumed, closed, start, resume}
-use Rattle.esterel.specs.Reentry.{Reached, fresh, onward, Happens, starts, resumes, Twice, Holding}
-use Rattle.esterel.specs.Reentries.{Sleeper, Idler, idler, Pacer, pacer}
+use Rattle.esterel.specs.Reentry.{Reached, fresh, onward, Happens, starts, resumes, Twice, Entered, Dropped, Holding, Started}
+use Rattle.esterel.specs.Examples.{Walker, walker, Sleeper, sleeper, asleep, roused, Idler, idler, Pacer, pacer}
 use Rattle.esterel.proofs.Reentry.Kept.{false-true}
 use Rattle.esterel.proofs.Reentry.Theorem.{runs}
-
-pub sleeperSays : Sleeper
-sleeperSays = record { read = refl; marks = refl; first = refl; next = refl }
 
 -- the second of its sequence holds, and 0 is not in A of the first
 idler-unreached : Reached idler (0 ∷ 0 ∷ 1 ∷ 0 ∷ 0 ∷ []) → ⊥
@@ -39,6 +36,59 @@ twice-times : {n : ℕ} {t : List Entry} → Twice t n → 2 ≤ times n t
 twice-times {n} o =
     let e = times-at n (o .before) (o .mode) (o .code) (o .between ++ (entry n (o .again) (o .codeAgain) ∷ o .after)) in
     omega (arith, ap (times n) (o .is), e, times-at n (o .between) (o .again) (o .codeAgain) (o .after))
+
+walker-reached : Reached walker (0 ∷ 1 ∷ 0 ∷ 0 ∷ [])
+walker-reached = onward (1 ∷ 0 ∷ 0 ∷ 0 ∷ []) [] _ _ [] (fresh [] _ _ [] refl) refl
+
+pub walkerSays : Walker
+walkerSays = record { reached = walker-reached; third = resumes _ [] 1 _ _ [] walker-reached refl }
+
+-- the sleeper's second instant, up to the suspend's first entry, and from there to the parallel's second one
+abbrev upTo : List Entry
+upTo = entry 7 resumed 1 ∷ entry 6 resumed 0 ∷ entry 5 resumed 2 ∷ []
+
+abbrev since : List Entry → List Entry
+since more = entry 4 resumed 2 ∷ entry 2 resumed 0 ∷ entry 3 started 2 ∷ entry 6 started 1 ∷ entry 5 started 1 ∷ more
+
+suspend-dropped : (more : List Entry) → Dropped sleeper 1 upTo (since more)
+suspend-dropped more =
+    record {
+      caught = record { catcher = 6; isTrap = refl; around = (omega arith, omega arith); mode = resumed; earlier = entry 7 resumed 1 ∷ []; since = []; catches = refl; inside = tt };
+      over = record { before = entry 4 resumed 2 ∷ entry 2 resumed 0 ∷ entry 3 started 2 ∷ []; mode = started; code = 1; after = entry 5 started 1 ∷ more; is = refl };
+    }
+
+abbrev begun : Started 0 roused
+begun = record { before = upTo ++ (entry 1 resumed 1 ∷ since (entry 1 started 1 ∷ [])); code = 1; after = entry 4 started 1 ∷ entry 2 started 1 ∷ []; is = refl }
+
+pause-unentered : Entered 0 (upTo ++ (entry 1 resumed 1 ∷ since (entry 1 started 1 ∷ []))) → ⊥
+unfolding times
+pause-unentered o = omega (arith, ap (times 0) (o .is), times-at 0 (o .before) (o .mode) (o .code) (o .after))
+
+pub sleeperSays : Sleeper
+sleeperSays =
+    record {
+      read = refl;
+      marks = refl;
+      first = refl;
+      next = refl;
+      happens = resumes asleep (1 ∷ []) 1 roused asleep [] (fresh [] _ asleep [] refl) refl;
+      reenters = (
+        record { before = upTo; mode = resumed; code = 1; between = since []; again = started; codeAgain = 1; after = entry 0 started 1 ∷ entry 4 started 1 ∷ entry 2 started 1 ∷ []; is = refl },
+        record { starts = refl; gone = λ _. suspend-dropped [] },
+      );
+      unentered = (
+        record { holding = refl; begins = begun; unentered = pause-unentered },
+        record {
+          pauser = 1;
+          isSuspend = refl;
+          around = (omega arith, omega arith);
+          earlier = upTo;
+          between = since (entry 1 started 1 ∷ []);
+          is = refl;
+          gone = suspend-dropped (entry 1 started 1 ∷ []);
+        },
+      );
+    }
 
 -- the pacer holds its pause, and has two instants
 abbrev paused : List ℕ

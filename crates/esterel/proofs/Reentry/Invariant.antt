@@ -12,13 +12,13 @@ use Rattle.esterel.specs.Instant.{zeros, holds, first, second, apart}
 use Rattle.esterel.specs.Outcome.{statementAt}
 use Rattle.esterel.specs.Reentry.{bytesAt, Holding}
 use Rattle.esterel.specs.Theorems.{Invariant}
-use Rattle.esterel.proofs.Held.{holds-zeros, Joint, Shaped, Fits, fits-length, child-fits, left-fits, right-fits, joint}
+use Rattle.esterel.proofs.Held.{holds-zeros, Joint, Shaped, Fits, fits-leaf, fits-pause, fits-one, fits-two, first-one, first-two, second-two, fits-length, child-fits, left-fits, right-fits, joint}
 use Rattle.esterel.proofs.Parts.{part-at, holds-front, holds-rest}
 use Rattle.esterel.proofs.Sizes.{length-nodes, size-pos}
 use Rattle.esterel.proofs.Ranges.{Over, over-join, over-last}
 use Rattle.esterel.proofs.Nodes.{Sits, sits-own}
 use Rattle.esterel.proofs.Subtrees.{inside, two-children}
-use Rattle.esterel.proofs.Reentry.Kept.{false-true, Kept, holds-one}
+use Rattle.esterel.proofs.Reentry.Kept.{false-true, Joined, Kept, holds-one}
 
 -- the bytes of the s nodes from n on
 abbrev pub partOf : ℕ → ℕ → List ℕ → List ℕ
@@ -113,6 +113,30 @@ invariant p held f g =
       rightAlone = λ i q r e n h. children-keep p held f i parallel q r e .1 (not-held _ n) h;
       oneChild = λ i b q r e h h′. both-hold b (rw (h, h′) at (children-keep p held g i b q r e));
     }
+
+-- and back: a state that fits and has the invariant is kept
+module _ (p₀ : Stmt) (held : List ℕ) (o : Invariant p₀ held) where
+  kept-joint : (i : ℕ) (b : Binary) (q r : Stmt) → statementAt (nodes p₀) i ≡ two b q r → Joined b q r (holds (bytesAt p₀ held (i - 1 - size r))) (holds (bytesAt p₀ held (i - 1)))
+  kept-joint i (present s) q r e = tt
+  kept-joint i sequence q r e = o .second i q r e
+  kept-joint i parallel q r e = (λ h n. o .leftAlone i q r e h (λ y. false-true (sym n ∙ y)), λ n h. o .rightAlone i q r e (λ y. false-true (sym n ∙ y)) h)
+
+  kept-part : (q : Stmt) (n : ℕ) {h : List ℕ} → Sits (nodes p₀) n q → Fits q h → h ≡ partOf n (size q) held → Kept q h
+  kept-part _ n w (fits-leaf l) e = fits-leaf l
+  kept-part _ n w fits-pause e = fits-pause
+  kept-part _ n w (fits-one {p = p} u f) e = fits-one u (kept-part p n (w .0) f (sym (first-one f) ∙ ap (first p) e ∙ child-part n p held))
+  kept-part _ n w (fits-two {p = p} {q = q} b f g z) e =
+      let i = n + (size p + size q) in
+      let pos = size-pos q in
+      let left = sym (first-two f g) ∙ ap (first p) e ∙ left-part n p q held in
+      let right = sym (second-two f g) ∙ ap (second p q) e ∙ right-part n p q held in
+      let c = two-children p₀ i b p q (w .2) in
+      let at-left = left ∙ sym (bytes-own p₀ held p n (i - 1 - size q) (c .2) (let pos′ = size-pos p in omega arith)) in
+      let at-right = right ∙ sym (bytes-own p₀ held q (n + size p) (i - 1) (c .1) (omega arith)) in
+      fits-two b (kept-part p n (w .0) f left) (kept-part q (n + size p) (w .1) g right) (rw (at-left, at-right) (kept-joint i b p q (w .2)))
+
+  pub kept-of : Fits p₀ held → Kept p₀ held
+  kept-of f = kept-part p₀ 0 (sits-own p₀) f (sym (take-all (size p₀) held (omega (arith, fits-length f))))
 
 -- nothing is held before the start
 pub none-holding : {A : Type 0} (p : Stmt) (n i : ℕ) → Holding p (zeros n) i → A

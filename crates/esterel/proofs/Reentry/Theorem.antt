@@ -9,14 +9,14 @@ use lib.ListN.{take}
 use Rattle.esterel.specs.Statement.{Stmt, size, nodes}
 use Rattle.esterel.specs.Codes.{empty, bit}
 use Rattle.esterel.specs.Sets.{Place, at, contextOf, stmtOf, placesOf, placeAt, mark, anyInstantSet}
-use Rattle.esterel.specs.Instant.{Mode, started, resumed, Entry, entry, Result, closed, holds, admitted}
+use Rattle.esterel.specs.Instant.{Mode, started, resumed, Entry, entry, Result, closed, resume, holds, admitted}
 use Rattle.esterel.specs.Outcome.{statementAt}
-use Rattle.esterel.specs.Reentry.{Reached, fresh, onward, Happens, starts, resumes, markAt, Twice, Entered, Dropped, Reentered, Holding, StartedUnresumed, DroppedUnentered}
+use Rattle.esterel.specs.Reentry.{Reached, fresh, onward, Happens, starts, resumes, markAt, Twice, Entered, Dropped, InWords, Holding, StartedUnentered, SuspendDropped}
 use Rattle.esterel.specs.Theorems.{Accepted, Closes, Invariant, Runs, NoUnmarkedReentry}
 use Rattle.esterel.proofs.Every.{Every, every-map}
 use Rattle.esterel.proofs.Held.{fits-length}
 use Rattle.esterel.proofs.Low.{any-low}
-use Rattle.esterel.proofs.Admitted.{admitted-fits}
+use Rattle.esterel.proofs.Admitted.{admitted-holds, admitted-fits}
 use Rattle.esterel.proofs.Accepted.{place-statement, passes}
 use Rattle.esterel.proofs.Theorems.{demand3}
 use Rattle.esterel.proofs.Nodes.{sits-own}
@@ -25,7 +25,7 @@ use Rattle.esterel.proofs.Reentry.Trails.{Pairs, pairs-two}
 use Rattle.esterel.proofs.Reentry.Contexts.{meets-in}
 use Rattle.esterel.proofs.Reentry.Places.{placed-own}
 use Rattle.esterel.proofs.Reentry.Kept.{Kept}
-use Rattle.esterel.proofs.Reentry.Invariant.{invariant, holding-inside, none-holding}
+use Rattle.esterel.proofs.Reentry.Invariant.{invariant, kept-of, holding-inside, none-holding}
 use Rattle.esterel.proofs.Reentry.Results.{left-of}
 use Rattle.esterel.proofs.Reentry.Went.{Behind}
 use Rattle.esterel.proofs.Reentry.Seen.{nodeOf, modeOf, InA, InS, Again}
@@ -73,6 +73,12 @@ module _ (p : Stmt) (a : Accepted p) where
   keeps : (held : List ℕ) → Reached p held → Invariant p held
   keeps held o = invariant p held (reached-kept o .0) (admitted-fits p held (reached-admitted p a held o))
 
+  carries : (held answers : List ℕ) → admitted p held ≡ true → Invariant p held → (trail : List Entry) (left rest : List ℕ) → resume 0 p held answers ≡ closed 1 trail left rest → Invariant p left
+  carries held answers y o trail left rest e =
+      let f = kept-of p held o (admitted-fits p held y) in
+      let z = held-of (left-of (rw e at (resume-went (placesOf p) caught p 0 1 0 empty held answers (placed-own p) f (admitted-holds p held y)))) in
+      invariant p left (z .0) (admitted-fits p left (closed-admitted p answers (demand3 .resumes p a held answers y) e))
+
   -- each code of a trail is in A, and in S if the node is entered again
   trails : {held : List ℕ} {t : List Entry} → Happens p held t → Every (InA (placesOf p)) t × Pairs (Again (placesOf p)) t
   trails (starts ans k t h r e) =
@@ -113,19 +119,8 @@ module _ (p : Stmt) (a : Accepted p) where
       is-marked = marks n (w .code) (member-of (w .before) (entry n (w .mode) (w .code)) _ (w .is) (trails o .0)) (is-back .0)
 
       -- the request's words
-      words : Reentered p t n
-      words =
-          let z : w .again ≡ started = is-back .1 in
-          record {
-            before = w .before;
-            mode = w .mode;
-            code = w .code;
-            between = w .between;
-            codeAgain = w .codeAgain;
-            after = w .after;
-            is = rw z at (w .is);
-            gone = goes o (w .before) (entry n (w .mode) (w .code)) (w .between) (entry n (w .again) (w .codeAgain)) (w .after) (w .is) refl;
-          }
+      words : InWords p t n w
+      words = record { starts = is-back .1; gone = goes o (w .before) (entry n (w .mode) (w .code)) (w .between) (entry n (w .again) (w .codeAgain)) (w .after) (w .is) refl }
 
     -- the suspend beneath which n is held is entered again before n is
     module _ (n : ℕ) (y : Rests p n t) (m : List Entry) (e : Entry) (z : List Entry) (w : y .after ≡ m ++ (e ∷ z)) (q : nodeOf e ≡ n) where
@@ -143,7 +138,7 @@ module _ (p : Stmt) (a : Accepted p) where
       pauser-gone : Dropped p (y .pauser) (y .before) m
       pauser-gone =
           let d = goes o (y .before) (entry (y .pauser) resumed 1) (next .before) _ (next .after ++ (e ∷ z)) pauser-again refl refl in
-          record { caught = d .caught; next = d .next; outside = d .outside; over = subst (Entered (d .next)) (sym (next .is)) (entered-before _ (d .over)) }
+          record { caught = d .caught; over = subst (Entered (d .caught .catcher)) (sym (next .is)) (entered-before _ (d .over)) }
 
     -- n is held and started
     module _ (n : ℕ) (h : Holding p held n) (b : List Entry) (k : ℕ) (z : List Entry) (w : t ≡ b ++ (entry n started k ∷ z)) where
@@ -169,52 +164,38 @@ module _ (p : Stmt) (a : Accepted p) where
           }
       held-marked (rests y) = let l = after-rest y in rested-marked n y (l .between) (entry n started k) z (l .back) refl h
 
-      -- where it is not entered before
-      unresumed : (Entered n b → ⊥) → Fate p n t → DroppedUnentered p held t n
-      unresumed first (met y) =
-          let l = after-met y in
-          absurd (first (entered (y .before) (entry n resumed (y .code)) (l .between) refl (l .front)))
-      unresumed first (rests y) =
-          let l = after-rest y in
-          record {
-            holding = h;
-            pauser = y .pauser;
-            isSuspend = y .isSuspend;
-            around = y .around;
-            before = y .before;
-            between = l .between;
-            code = k;
-            after = z;
-            is = y .is ∙ ap (λ u. y .before ++ (entry (y .pauser) resumed 1 ∷ u)) (l .back);
-            unentered = λ e. first (subst (Entered n) (sym (l .front)) e);
-            gone = pauser-gone n y (l .between) (entry n started k) z (l .back) refl;
-          }
+    -- where it is not entered before
+    suspended : (n : ℕ) (w : StartedUnentered p held t n) → Fate p n t → SuspendDropped p n (w .begins .before)
+    suspended n w (met y) =
+        let l = after-met n (w .holding) (w .begins .before) (w .begins .code) (w .begins .after) (w .begins .is) y in
+        absurd (w .unentered (entered (y .before) (entry n resumed (y .code)) (l .between) refl (l .front)))
+    suspended n w (rests y) =
+        let l = after-rest n (w .holding) (w .begins .before) (w .begins .code) (w .begins .after) (w .begins .is) y in
+        record {
+          pauser = y .pauser;
+          isSuspend = y .isSuspend;
+          around = y .around;
+          earlier = y .before;
+          between = l .between;
+          is = l .front;
+          gone = pauser-gone n y (l .between) (entry n started (w .begins .code)) (w .begins .after) (l .back) refl;
+        }
 
-twice-of : {p : Stmt} {t : List Entry} {n : ℕ} → Reentered p t n → Twice t n
-twice-of o = record { before = o .before; mode = o .mode; code = o .code; between = o .between; again = started; codeAgain = o .codeAgain; after = o .after; is = o .is }
+    suspends : (n : ℕ) (w : StartedUnentered p held t n) → SuspendDropped p n (w .begins .before)
+    suspends n w = suspended n w (fates o n (w .holding))
 
 pub runs : Runs
-runs = record { admits = reached-admitted; keeps = keeps; inA = code-in }
-
-unresumed-of : {p : Stmt} {held : List ℕ} {t : List Entry} {n : ℕ} → DroppedUnentered p held t n → StartedUnresumed p held t n
-unresumed-of o =
-    record {
-      holding = o .holding;
-      before = o .before ++ (entry (o .pauser) resumed 1 ∷ o .between);
-      code = o .code;
-      after = o .after;
-      is = o .is ∙ sym (append-assoc (o .before) (entry (o .pauser) resumed 1 ∷ o .between) _);
-      unentered = o .unentered;
-    }
+runs = record { admits = reached-admitted; keeps = keeps; carries = carries; inA = code-in }
 
 pub noUnmarkedReentry : NoUnmarkedReentry
 noUnmarkedReentry =
     record {
       marked = is-marked;
-      inWords = λ p a held t o n. (words p a held t o n, twice-of);
+      inWords = words;
+      same = λ p a held t o n. (λ w. (w, words p a held t o n w), λ (w, _). w);
       heldMarked = λ p a held t o n h s. held-marked p a held t o n h (s .before) (s .code) (s .after) (s .is) (fates p a o n h);
-      heldInWords = λ p a held t o n.
-          (λ s. unresumed p a held t o n (s .holding) (s .before) (s .code) (s .after) (s .is) (s .unentered) (fates p a o n (s .holding)), unresumed-of);
+      heldInWords = suspends;
+      heldSame = λ p a held t o n. (λ w. (w, suspends p a held t o n w), λ (w, _). w);
       startsOnce = λ p answers k t h r e n w.
           left-of (rw e at (start-track p (λ b e m. ⊥) (λ x b e m y. y) p 0 answers (sits-own p))) .0 .pairs
           (w .before) (entry n (w .mode) (w .code)) (w .between) (entry n (w .again) (w .codeAgain)) (w .after) (w .is) refl;

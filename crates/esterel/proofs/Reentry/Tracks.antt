@@ -114,7 +114,6 @@ module _ (p₀ : Stmt) where
         isTrap = c .isTrap;
         around = c .around;
         mode = c .mode;
-        childMode = c .childMode;
         earlier = x ++ c .earlier;
         since = c .since;
         catches = ap (λ l. x ++ l) (c .catches) ∙ sym (append-assoc x (c .earlier) _);

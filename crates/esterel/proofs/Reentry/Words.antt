@@ -13,7 +13,7 @@ use Rattle.esterel.proofs.Every.{Every, none, also, every-map, every-le
 use Rattle.esterel.proofs.Nodes.{Sits}
 use Rattle.esterel.proofs.Reentry.Seen.{nodeOf}
 use Rattle.esterel.proofs.Reentry.Results.{leaves, asked, noRule, same-leaves, enter-leaves, alone-leaves, skip-leaves, body-leaves, andThen-leaves, beside-leaves, again-leaves, cond-leaves}
-use Rattle.esterel.proofs.Reentry.Tracks.{codeOf, Tracked, trap-tracked, Revisits, revisits-join, never, revisits-none, revisits-one, Drops, drops-none, drops-one, drops-join, drops-same, entered, catching-behind, Around, Clear, clear-none, clear-sits, around-none, around-wide, around-join, around-own}
+use Rattle.esterel.proofs.Reentry.Tracks.{codeOf, Tracked, trap-tracked, Revisits, revisits-join, never, revisits-none, revisits-one, Drops, drops-none, drops-one, drops-join, drops-same, entered-behind, catching-behind, Around, Clear, clear-none, clear-sits, around-none, around-wide, around-join, around-own}
 
 abbrev pub Within : (n s : ℕ) → Entry → Type 0
 Within n s e = (n ≤ nodeOf e) × (nodeOf e < n + s)
@@ -125,7 +125,6 @@ module _ (p₀ : Stmt) where
               isTrap = rw is-trap refl;
               around = (here .1, omega (arith, here .0));
               mode = m;
-              childMode = m;
               earlier = [];
               since = b;
               catches = rw (top, second, before) refl;
@@ -172,7 +171,7 @@ module _ (p₀ : Stmt) where
   pub gone-further : (x b : List Entry) (e : Entry) (m : List Entry) → Gone b e m → Gone (x ++ b) e m
   gone-further x b e m f c =
       let d = f c in
-      record { caught = catching-behind p₀ x (d .caught); next = d .next; outside = d .outside; over = d .over }
+      record { caught = catching-behind p₀ x (d .caught); over = d .over }
 
   abbrev pub Goes : Mode → (n s k : ℕ) → List Entry → Type 0
   Goes m n s k t = Track Gone gone-further n s k t × Began m n s k t
@@ -180,22 +179,9 @@ module _ (p₀ : Stmt) where
   -- a resumed body that ended, and the body started once more
   module _ {n s l : ℕ} {t u : List Entry} (o : Goes resumed n s 0 t) (v : Goes started n s (suc l) u) where
     across : (b : List Entry) (e : Entry) (r m : List Entry) (e′ : Entry) (a : List Entry) → t ≡ b ++ (e ∷ r) → u ≡ m ++ (e′ ∷ a) → nodeOf e ≡ nodeOf e′ → Gone b e (r ++ m)
-    across b e r [] e′ a y z q c =
+    across b e r m e′ a y z q c =
         let d = o .0 .drops b e r y c refl in
-        let began = v .1 .is in
-        let first : e′ ≡ entry (v .1 .last) started (suc l) = cc in
-        let same : nodeOf e′ ≡ v .1 .last = ap nodeOf first in
-        absurd (omega (arith, d .low, d .caught .around .0, v .1 .lastIs))
-    across b e r (x ∷ m) e′ a y z q c =
-        let d = o .0 .drops b e r y c refl in
-        let began = v .1 .is in
-        let first : x ≡ entry (v .1 .last) started (suc l) = cc in
-        record {
-          caught = d .caught;
-          next = v .1 .last;
-          outside = λ w. omega (arith, d .low, v .1 .lastIs, w .0);
-          over = entered r x m (ap nodeOf first) refl;
-        }
+        record { caught = d .caught; over = entered-behind r (v .0 .around m e′ a z (d .caught .catcher) (d .low) (rw (← q) (d .caught .around))) }
 
     again-track : Track Gone gone-further n s (suc l) (t ++ u)
     again-track =

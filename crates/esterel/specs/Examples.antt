@@ -1,4 +1,4 @@
--- Three small programs of F-6. What is said of them is proved in proofs/Reentry/Examples.antt.
+-- Four small programs of F-6. What is said of them is proved in proofs/Reentry/Examples.antt.
 use Prim.Native.Nat.{ℕ}
 use mathlib.Core.Path.{_≡_}
 use mathlib.Core.Bool.{true}
@@ -8,12 +8,29 @@ use Rattle.esterel.specs.Sets.{placesOf, mark}
 use Rattle.esterel.specs.Table.{passed}
 use Rattle.esterel.specs.Checks.{verdict}
 use Rattle.esterel.specs.Instant.{Entry, entry, started, resumed, closed, start, resume, admitted}
-use Rattle.esterel.specs.Reentry.{Reached, Happens, Twice, Holding}
+use Rattle.esterel.specs.Reentry.{Reached, Happens, Twice, Reentered, Holding, DroppedUnentered}
 
--- A suspended pause, and beside it what drops it; the loop starts both again. In the second instant the pause, node 0, is held and not
--- entered, dropped, and started.
+-- Two pauses in turn: the second is held only after two instants, and the third enters the sequence, node 2, twice.
+abbrev pub walker : Stmt
+walker = one loop (two sequence (leaf pause) (leaf pause))
+
+pub record Walker : Type 0 where
+  pub reached : Reached walker (0 ∷ 1 ∷ 0 ∷ 0 ∷ [])
+  pub third :
+      Happens walker (0 ∷ 1 ∷ 0 ∷ 0 ∷ []) (entry 3 resumed 1 ∷ entry 2 resumed 0 ∷ entry 1 resumed 0 ∷ entry 2 started 1 ∷ entry 0 started 1 ∷ [])
+
+-- A suspended pause, and beside it what drops it; the loop starts both again. In the second instant the suspend, node 1, pauses, is dropped and
+-- started again; its pause, node 0, is held and not entered, dropped, and started.
 abbrev pub sleeper : Stmt
 sleeper = one loop (one trap (two parallel (one (suspend 5) (leaf pause)) (two sequence (leaf pause) (leaf (exit 0)))))
+
+abbrev pub asleep : List ℕ
+asleep = 1 ∷ 0 ∷ 1 ∷ 0 ∷ 0 ∷ 0 ∷ 0 ∷ 0 ∷ []
+
+abbrev pub roused : List Entry
+roused =
+    entry 7 resumed 1 ∷ entry 6 resumed 0 ∷ entry 5 resumed 2 ∷ entry 1 resumed 1 ∷ entry 4 resumed 2 ∷ entry 2 resumed 0 ∷ entry 3 started 2 ∷ entry 6 started 1 ∷
+    entry 5 started 1 ∷ entry 1 started 1 ∷ entry 0 started 1 ∷ entry 4 started 1 ∷ entry 2 started 1 ∷ []
 
 pub record Sleeper : Type 0 where
   pub read : verdict (2 ∷ 0 ∷ 7 ∷ 5 ∷ 2 ∷ 0 ∷ 4 ∷ 0 ∷ 9 ∷ 0 ∷ 10 ∷ 0 ∷ 11 ∷ 0 ∷ 8 ∷ 0 ∷ []) ≡ passed sleeper
@@ -22,13 +39,11 @@ pub record Sleeper : Type 0 where
       start 0 sleeper [] ≡
       closed 1
       (entry 7 started 1 ∷ entry 6 started 1 ∷ entry 5 started 1 ∷ entry 1 started 1 ∷ entry 0 started 1 ∷ entry 4 started 1 ∷ entry 2 started 1 ∷ [])
-      (1 ∷ 0 ∷ 1 ∷ 0 ∷ 0 ∷ 0 ∷ 0 ∷ 0 ∷ []) []
-  pub next :
-      resume 0 sleeper (1 ∷ 0 ∷ 1 ∷ 0 ∷ 0 ∷ 0 ∷ 0 ∷ 0 ∷ []) (1 ∷ []) ≡
-      closed 1
-      (entry 7 resumed 1 ∷ entry 6 resumed 0 ∷ entry 5 resumed 2 ∷ entry 1 resumed 1 ∷ entry 4 resumed 2 ∷ entry 2 resumed 0 ∷ entry 3 started 2 ∷ entry 6 started 1 ∷
-      entry 5 started 1 ∷ entry 1 started 1 ∷ entry 0 started 1 ∷ entry 4 started 1 ∷ entry 2 started 1 ∷ [])
-      (1 ∷ 0 ∷ 1 ∷ 0 ∷ 0 ∷ 0 ∷ 0 ∷ 0 ∷ []) []
+      asleep []
+  pub next : resume 0 sleeper asleep (1 ∷ []) ≡ closed 1 roused asleep []
+  pub happens : Happens sleeper asleep roused
+  pub reenters : Reentered sleeper roused 1
+  pub unentered : DroppedUnentered sleeper asleep roused 0
 
 -- An endless wait, and after it a pause that is never come to. Held all the same, that pause, node 2, makes the sequence, node 3, be entered
 -- twice without a mark, and end with 0, which is not in its A: the state is admitted, and no run reaches it.
