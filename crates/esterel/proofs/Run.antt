@@ -14,6 +14,13 @@ use Rattle.esterel.specs.Instant.{Mode, started, resumed, Entry, entry, 
 use Rattle.esterel.specs.Outcome.{statementAt, asks, taken, startedIn, allIn}
 use Rattle.esterel.proofs.Held.{holds-append, holds-zeros, Shows, shows-max}
 
+-- what two equal results leave
+pub closed-held : {k j : ℕ} {t u : List Entry} {h g r s : List ℕ} → closed k t h r ≡ closed j u g s → h ≡ g
+closed-held e = cc
+
+pub closed-trail : {k j : ℕ} {t u : List Entry} {h g r s : List ℕ} → closed k t h r ≡ closed j u g s → t ≡ u
+closed-trail e = cc
+
 pub in-append : (ps : List Stmt) (t u : List Entry) → allIn ps t ≡ true → allIn ps u ≡ true → allIn ps (t ++ u) ≡ true
 in-append ps [] u a b = b
 in-append ps (entry n started k ∷ t) u a b =

@@ -14,11 +14,12 @@ use Rattle.esterel.specs.Limits.{maxNodes, signals}
 use Rattle.esterel.specs.Statement.{Stmt, size, nodes}
 use Rattle.esterel.specs.Table.{Verdict, passed, refused}
 use Rattle.esterel.specs.Checks.{verdict}
-use Rattle.esterel.specs.Instant.{Entry, Result, closed, starved, stuck, start, resume, admitted}
+use Rattle.esterel.specs.Instant.{Result, closed, starved, stuck, start, resume, admitted}
 use Rattle.esterel.specs.Outcome.{emitted, emissionBytes, outcome}
 use Rattle.esterel.specs.Theorems.{Accepted, Closes, NeedsMore}
 use Rattle.esterel.proofs.Reading.{length-postfix}
 use Rattle.esterel.proofs.Accepted.{acceptance}
+use Rattle.esterel.proofs.Run.{closed-held}
 use Rattle.esterel.proofs.Refusals.{Numbered, Told, told-numbered}
 use Rattle.esterel.proofs.Theorems.{demand3, starving}
 use Rattle.analysis.specs.Analysis.{checked}
@@ -137,10 +138,6 @@ module _ (t answers state emissions state′ emissions′ : List ℕ) (p : Stmt)
 
 -- ---- refusals
 
--- the pauses of two equal results
-held-of : {k j : ℕ} {t u : List Entry} {h g r s : List ℕ} → closed k t h r ≡ closed j u g s → h ≡ g
-held-of e = cc
-
 -- a call that is refused with this number and node
 abbrev Numbers : (number node : ℕ) → Type 0
 Numbers number node = (1 ≤ number) × (number ≤ 13) × (node < maxNodes)
@@ -224,7 +221,7 @@ demand3OfCalls =
                 (let l′ : Lent t p other emissions = record { accepted = l .accepted; places = omega (arith, l .places); marks = l .marks } in
                 let x = starts-instant t answers state emissions state′ emissions′ p r l o .exact code k entries z in
                 let y = starts-instant t answers other emissions other′ emissions″ p s l′ w .exact code k entries (sym alike ∙ z) in
-                held-of (sym (x .rules) ∙ y .rules)),
+                closed-held (sym (x .rules) ∙ y .rules)),
           ));
       onward = λ t answers state emissions state′ emissions′ more next state″ next′ p run k entries r l i m o.
           resumes-instant t more state′ next state″ next′ p r (record { accepted = l .accepted; places = omega (arith, l .places, i .sameLength); marks = m }) (i .paused k entries refl) o;

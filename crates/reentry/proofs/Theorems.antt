@@ -20,6 +20,7 @@ use Rattle.esterel.specs.Reentry.{Reached, Happens, markAt}
 use Rattle.esterel.specs.Theorems.{Accepted}
 use Rattle.esterel.proofs.Accepted.{acceptance, length-places}
 use Rattle.esterel.proofs.Held.{fits-length}
+use Rattle.esterel.proofs.Run.{closed-held}
 use Rattle.esterel.proofs.Admitted.{admitted-fits}
 use Rattle.esterel.proofs.Reentry.Theorem.{runs, noUnmarkedReentry}
 use Rattle.analysis.proofs.Theorems.{demand2OfCall}
@@ -28,10 +29,6 @@ use Rattle.instant.specs.Theorems.{Lent, Exact}
 use Rattle.instant.specs.declared.Reaction.the-variants.{Closed, Refused}
 use Rattle.instant.proofs.Theorems.{starts-as, resumes-as, demand3OfCalls}
 use Rattle.reentry.specs.Theorems.{MarksOf, Left, fresh, onward, Marked, NoUnmarkedReentryOfCalls}
-
--- what two equal results leave
-held-of : {k j : ℕ} {t u : List Entry} {h g r s : List ℕ} → closed k t h r ≡ closed j u g s → h ≡ g
-held-of e = cc
 
 -- a node with a mark is one of the program's
 marked-inside : (p : Stmt) (n : ℕ) → markAt p n ≡ 1 → n < size p
@@ -92,7 +89,7 @@ module _ (t : List ℕ) (p : Stmt) where
           let is : call ≡ closing (outcome p (closed 1 trail held rest)) = starts-as t answers state emissions state emissions p (Refused 0 0) l ∙ ap (λ x. closing (outcome p x)) e in
           let o : Starting t answers state emissions (stateAfter call state) (emissionsAfter call emissions) (Closed 1 (taken (nodes p) trail) (length trail)) =
           record { answer = sym (ap answerOf is); stateIs = refl; emissionsAre = refl } in
-          subst (Left t p) (held-of (sym (start-exact answers o .rules) ∙ e)) (fresh answers state emissions _ _ _ _ o)
+          subst (Left t p) (closed-held (sym (start-exact answers o .rules) ∙ e)) (fresh answers state emissions _ _ _ _ o)
 
       resumed-left : {before : List ℕ} → Reached p before → Left t p before → resume 0 p before answers ≡ closed 1 trail held rest → Left t p held
       resumed-left {before} w y e =
@@ -106,7 +103,7 @@ module _ (t : List ℕ) (p : Stmt) where
           resumes-as t answers before emissions before emissions p (Refused 0 0) l {b = true} (rw whole admits) ∙ ap (λ x. closing (outcome p x)) (ap (λ s. resume 0 p s answers) whole ∙ e) in
           let o : Resuming t answers before emissions (stateAfter call before) (emissionsAfter call emissions) (Closed 1 (taken (nodes p) trail) (length trail)) =
           record { answer = sym (ap answerOf is); stateIs = refl; emissionsAre = refl } in
-          subst (Left t p) (held-of (sym (resume-exact answers (rw whole w) o .rules) ∙ ap (λ s. resume 0 p s answers) whole ∙ e)) (onward answers before emissions _ _ _ _ (rw whole y) o)
+          subst (Left t p) (closed-held (sym (resume-exact answers (rw whole w) o .rules) ∙ ap (λ s. resume 0 p s answers) whole ∙ e)) (onward answers before emissions _ _ _ _ (rw whole y) o)
 
     reached-left : {held : List ℕ} → Reached p held → Left t p held
     reached-left (Reached.fresh answers trail held rest e) = started-left answers e

@@ -9,6 +9,7 @@ use Rattle.esterel.specs.Codes.{bit}
 use Rattle.esterel.specs.Instant.{Mode, Entry, entry, started, resumed, closed, start, resume}
 use Rattle.esterel.specs.Reentry.{Reached, fresh, onward, Happens, starts, resumes, Twice, Entered, Dropped, Holding, Started}
 use Rattle.esterel.specs.Examples.{Walker, walker, Sleeper, sleeper, asleep, roused, Idler, idler, Pacer, pacer}
+use Rattle.esterel.proofs.Run.{closed-held, closed-trail}
 use Rattle.esterel.proofs.Reentry.Kept.{false-true}
 use Rattle.esterel.proofs.Reentry.Theorem.{runs}
 
@@ -106,23 +107,16 @@ begin ans = refl
 go-on : (ans : List ℕ) → resume 0 pacer paused ans ≡ closed 1 goesOn paused ans
 go-on ans = refl
 
--- what two equal results leave
-held-of : {k j : ℕ} {t u : List Entry} {h g r s : List ℕ} → closed k t h r ≡ closed j u g s → h ≡ g
-held-of e = cc
-
-trail-of : {k j : ℕ} {t u : List Entry} {h g r s : List ℕ} → closed k t h r ≡ closed j u g s → t ≡ u
-trail-of e = cc
-
 reached-paused : {h : List ℕ} → Reached pacer h → paused ≡ h
-reached-paused (fresh ans t h r e) = held-of (sym (begin ans) ∙ e)
-reached-paused (onward before ans t h r o e) = held-of (sym (go-on ans) ∙ ap (λ s. resume 0 pacer s ans) (reached-paused o) ∙ e)
+reached-paused (fresh ans t h r e) = closed-held (sym (begin ans) ∙ e)
+reached-paused (onward before ans t h r o e) = closed-held (sym (go-on ans) ∙ ap (λ s. resume 0 pacer s ans) (reached-paused o) ∙ e)
 
 pacer-once : {h : List ℕ} {t : List Entry} → Happens pacer h t → (times 0 t ≤ 1) × (Holding pacer h 0 → ⊥)
 unfolding times
-pacer-once (starts ans k t h r e) = (let z = trail-of (sym (begin ans) ∙ e) in rw (← z) (omega arith), λ y. false-true y)
+pacer-once (starts ans k t h r e) = (let z = closed-trail (sym (begin ans) ∙ e) in rw (← z) (omega arith), λ y. false-true y)
 pacer-once (resumes held ans k t h r o e) =
     let at : paused ≡ held = reached-paused o in
-    let z = trail-of (sym (go-on ans) ∙ ap (λ s. resume 0 pacer s ans) at ∙ e) in
+    let z = closed-trail (sym (go-on ans) ∙ ap (λ s. resume 0 pacer s ans) at ∙ e) in
     (rw (← z) (omega arith), λ y. false-true (rw (← at) at y))
 
 pub pacerSays : Pacer

@@ -1,12 +1,13 @@
 -- What the bytes of a program keep, they keep at each of its nodes.
 use mathlib.Core.Path.{_≡_, refl, sym, ap, _∙_, subst}
-use mathlib.Core.Bool.{Bool, true, false}
+use mathlib.Core.Bool.{true}
 use mathlib.Core.List.{List, []}
 use Prim.Native.Nat.{ℕ, suc, _+_, _-_, _<_}
 use native.Mathlib.Decide.{decLt}
 use native.Mathlib.Omega.{arith}
 use lib.ListN.{take, drop, List·getD-eq-default, drop-of-length-le}
 use lib.Seq.{take-all, take-take}
+use Rattle.codes.proofs.Bools.{cannot-pass}
 use Rattle.esterel.specs.Statement.{nothing, Binary, present, sequence, parallel, Stmt, leaf, one, two, size, nodes}
 use Rattle.esterel.specs.Instant.{zeros, holds, first, second, apart}
 use Rattle.esterel.specs.Outcome.{statementAt}
@@ -95,10 +96,6 @@ module _ (p₀ : Stmt) (held : List ℕ) where
 
 -- The invariant of specs/Theorems.antt.
 
-not-held : (b : Bool) → (b ≡ true → ⊥) → b ≡ false
-not-held true f = absurd (f refl)
-not-held false f = refl
-
 both-hold : (b : Binary) → apart b true true ≡ true → b ≡ parallel
 both-hold (present s) e = false-true e
 both-hold sequence e = false-true e
@@ -109,8 +106,8 @@ invariant p held f g =
     record {
       paused = λ i h. holds-one (at-node p held f i (holding-inside p held f i h)) h;
       second = λ i q r e h. children-keep p held f i sequence q r e h;
-      leftAlone = λ i q r e h n. children-keep p held f i parallel q r e .0 h (not-held _ n);
-      rightAlone = λ i q r e n h. children-keep p held f i parallel q r e .1 (not-held _ n) h;
+      leftAlone = λ i q r e h n. children-keep p held f i parallel q r e .0 h (cannot-pass _ n);
+      rightAlone = λ i q r e n h. children-keep p held f i parallel q r e .1 (cannot-pass _ n) h;
       oneChild = λ i b q r e h h′. both-hold b (rw (h, h′) at (children-keep p held g i b q r e));
     }
 

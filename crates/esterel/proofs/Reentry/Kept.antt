@@ -1,10 +1,9 @@
 -- The invariant of reached states. Where the second of a sequence holds, 0 is in the first's A; where one child of a parallel holds
 -- and the other does not, 0 is in the other's A. So 1 is in A of every statement that holds.
 use mathlib.Core.Path.{_≡_, refl, sym, _∙_}
-use mathlib.Core.Bool.{Bool, true, false, _||_, or-false}
+use mathlib.Core.Bool.{Bool, true, false, _||_, or-false, false≢true}
 use mathlib.Core.List.{List, [], _∷_, _++_}
 use Prim.Native.Nat.{ℕ}
-use native.Mathlib.Omega.{arith}
 use Rattle.codes.proofs.Bools.{inl-true, inr-true}
 use Rattle.codes.proofs.Members.{larger-in, sequence-first, sequence-second}
 use Rattle.esterel.specs.Statement.{Unary, signal, suspend, loop, trap, Binary, present, sequence, parallel, Stmt, one, two, size}
@@ -13,7 +12,7 @@ use Rattle.esterel.specs.Instant.{zeros, holds}
 use Rattle.esterel.proofs.Held.{holds-append, Joint, Shaped, fits-leaf, fits-pause, fits-one, fits-two, shaped-zeros}
 
 pub false-true : {A : Type 0} → false ≡ true → A
-false-true e = let z : _≡_ {A = ℕ} 0 1 = cc in absurd (omega arith)
+false-true e = absurd (false≢true e)
 
 -- of two children of which the first holds if x, the second if y
 abbrev pub Joined : Joint
