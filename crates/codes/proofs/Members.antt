@@ -77,11 +77,14 @@ caught-out a zero e = go (either (a 0) (a 2) e)
 caught-out a (suc zero) e = (1, e, refl)
 caught-out a (suc (suc k)) e = (suc (suc (suc k)), e, refl)
 
+pub meets-in : (a b : Codes) (k : ℕ) → k ≤ 63 → a k ≡ true → b k ≡ true → meets a b ≡ true
+meets-in a b k h e f = upTo-in (λ j. a j && b j) k 63 h (both e f)
+
 -- `meets` looks below 64, and so overlooks no code where one set has none above 63
 pub meets-common : (a b : Codes) → AtMost 63 b → (meets a b ≡ true) ↔ ((k : ℕ) × (a k ≡ true) × (b k ≡ true))
 meets-common a b low = (
   λ e. let (k, l, f) = upTo-out (λ k. a k && b k) 63 e in (k, left (a k) (b k) f, right (a k) f),
-  λ (k, e, f). upTo-in (λ k. a k && b k) k 63 (low k f) (both e f),
+  λ (k, e, f). meets-in a b k (low k f) e f,
 )
 
 -- ---- the highest code that each can have

@@ -55,22 +55,24 @@ lent-of t state emissions p e =
       marks = leb-true signals (length emissions) (right (leb (length t / 2) (length state)) room);
     }
 
-module _ (t answers state emissions : List ℕ) (code k entries : ℕ) where
-  started-lent : Closed code k entries ≡ answerOf (startCall (verdictFor t (length state) (length emissions)) answers) → (p : Stmt) × Lent t p state emissions
-  unfolding startCall
-  started-lent = go (verdictFor t (length state) (length emissions)) refl
-    where
-      go : (v : Verdict) → verdictFor t (length state) (length emissions) ≡ v → Closed code k entries ≡ answerOf (startCall v answers) → (p : Stmt) × Lent t p state emissions
-      go (passed p) e z = (p, lent-of t state emissions p e)
-      go (refused a b) e z = let y : _≡_ {A = ℕ} 0 1 = cc in absurd (omega arith)
+-- a call that closes passes them, where a refused table refuses it
+closed-lent : (t state emissions : List ℕ) (call : Verdict → Call) (code k entries : ℕ) → ((a b : ℕ) → call (refused a b) ≡ refuses a b) → Closed code k entries ≡ answerOf (call (verdictFor t (length state) (length emissions))) → (p : Stmt) × Lent t p state emissions
+closed-lent t state emissions call code k entries by = go (verdictFor t (length state) (length emissions)) refl
+  where
+    go : (v : Verdict) → verdictFor t (length state) (length emissions) ≡ v → Closed code k entries ≡ answerOf (call v) → (p : Stmt) × Lent t p state emissions
+    go (passed p) e z = (p, lent-of t state emissions p e)
+    go (refused a b) e z =
+        let r : Closed code k entries ≡ Refused a b = z ∙ ap answerOf (by a b) in
+        let y : _≡_ {A = ℕ} 0 1 = cc in
+        absurd (omega arith)
 
-  resumed-lent : Closed code k entries ≡ answerOf (resumeCall (verdictFor t (length state) (length emissions)) state answers) → (p : Stmt) × Lent t p state emissions
-  unfolding resumeCall
-  resumed-lent = go (verdictFor t (length state) (length emissions)) refl
-    where
-      go : (v : Verdict) → verdictFor t (length state) (length emissions) ≡ v → Closed code k entries ≡ answerOf (resumeCall v state answers) → (p : Stmt) × Lent t p state emissions
-      go (passed p) e z = (p, lent-of t state emissions p e)
-      go (refused a b) e z = let y : _≡_ {A = ℕ} 0 1 = cc in absurd (omega arith)
+start-by : (answers : List ℕ) (a b : ℕ) → startCall (refused a b) answers ≡ refuses a b
+unfolding startCall
+start-by answers a b = refl
+
+resume-by : (state answers : List ℕ) (a b : ℕ) → resumeCall (refused a b) state answers ≡ refuses a b
+unfolding resumeCall
+resume-by state answers a b = refl
 
 -- a call that comes to the rules' outcome of x
 module _ (p : Stmt) (run : List ℕ → Result) (answers state emissions state′ emissions′ : List ℕ) (room : size p ≤ length state) where
@@ -204,8 +206,10 @@ unchanged {call} {state} {emissions} {state′} {emissions′} {number} {node} t
 pub demand3OfCalls : Demand3OfCalls
 demand3OfCalls =
     record {
-      startLent = λ t answers state emissions state′ emissions′ code k entries o. started-lent t answers state emissions code k entries (o .answer);
-      resumeLent = λ t answers state emissions state′ emissions′ code k entries o. resumed-lent t answers state emissions code k entries (o .answer);
+      startLent = λ t answers state emissions state′ emissions′ code k entries o.
+          closed-lent t state emissions (λ v. startCall v answers) code k entries (start-by answers) (o .answer);
+      resumeLent = λ t answers state emissions state′ emissions′ code k entries o.
+          closed-lent t state emissions (λ v. resumeCall v state answers) code k entries (resume-by state answers) (o .answer);
       starts = starts-instant;
       resumes = resumes-instant;
       refuses = resumes-refused;

@@ -6,9 +6,9 @@ use Prim.Native.Nat.{ℕ, zero, suc, _+_, _≤_}
 use native.Mathlib.Omega.{arith}
 use borrow.Author.Tests.{le-leb}
 use Rattle.codes.proofs.Bools.{both, left, right, either, inl-true, inr-true}
-use Rattle.codes.proofs.Members.{upTo-in, larger-in, larger-out, sequence-first, sequence-second, caught-in, caught-out}
+use Rattle.codes.proofs.Members.{meets-in, larger-in, larger-out, sequence-first, sequence-second, caught-in, caught-out}
 use Rattle.esterel.specs.Statement.{nothing, pause, emit, exit, signal, suspend, loop, trap, present, sequence, parallel, Stmt, leaf, one, two}
-use Rattle.esterel.specs.Codes.{Codes, only, union, catchCode, meets, underTrap, underParallel}
+use Rattle.esterel.specs.Codes.{Codes, only, union, catchCode, underTrap, underParallel}
 use Rattle.esterel.specs.Sets.{codes, startSet, anyInstantSet}
 
 -- the more codes a pause has, the more has a statement
@@ -40,9 +40,6 @@ module _ (a b : Codes) (more : (k : ℕ) → a k ≡ true → b k ≡ true) wher
 
 pub start-any : (p : Stmt) (k : ℕ) → startSet p k ≡ true → anyInstantSet p k ≡ true
 start-any = codes-more (only 1) (union (only 0) (only 1)) (λ k e. inr-true (only 0 k) (only 1 k) e)
-
-pub meets-in : (a b : Codes) (k : ℕ) → k ≤ 63 → a k ≡ true → b k ≡ true → meets a b ≡ true
-meets-in a b k h e f = upTo-in (λ j. a j && b j) k 63 h (both e f)
 
 -- a trap's body may leave with what the trap turns into a code of P
 pub under-trap-in : (P : Codes) (k : ℕ) → P (catchCode k) ≡ true → underTrap P k ≡ true

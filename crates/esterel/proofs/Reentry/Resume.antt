@@ -6,32 +6,29 @@ use Prim.Native.Nat.{ℕ, zero, suc, _+_, _≤_, max}
 use native.Mathlib.Nat.{le-refl}
 use native.Mathlib.Omega.{arith}
 use Rattle.codes.proofs.Bools.{both, inl-true, inr-true}
-use Rattle.codes.proofs.Members.{larger-in, sequence-first, sequence-second, caught-in}
-use Rattle.esterel.specs.Statement.{nothing, pause, emit, exit, Unary, signal, suspend, loop, trap, Binary, present, sequence, parallel, Stmt, leaf, one, two, size}
-use Rattle.esterel.specs.Codes.{Codes, only}
+use Rattle.codes.proofs.Members.{meets-in, larger-in, sequence-first, sequence-second, caught-in}
+use Rattle.esterel.specs.Statement.{nothing, pause, emit, exit, signal, suspend, loop, trap, present, sequence, parallel, Stmt, leaf, one, two, size}
+use Rattle.esterel.specs.Codes.{Codes, only, union}
 use Rattle.esterel.specs.Sets.{Place, at, startSet, anyInstantSet, under, underLeft, underRight}
 use Rattle.esterel.specs.Instant.{resumed, entry, Result, zeros, enter, resume, idle, holds, first, second}
 use Rattle.esterel.proofs.Every.{none}
 use Rattle.esterel.proofs.Held.{holds-zeros, fits-leaf, fits-one, fits-two, fits-length, child-fits, left-fits, right-fits, joint, child-holds, left-holds, right-holds}
 use Rattle.esterel.proofs.Start.{In}
-use Rattle.esterel.proofs.Low.{any-low}
+use Rattle.esterel.proofs.Low.{any-pause}
 use Rattle.esterel.proofs.Caught.{Caught}
 use lib.ListN.{length-replicate}
 use Rattle.esterel.proofs.Reentry.Trails.{empty}
-use Rattle.esterel.proofs.Reentry.Contexts.{start-any, meets-in, under-trap-in, under-parallel-in}
+use Rattle.esterel.proofs.Reentry.Contexts.{start-any, under-trap-in, under-parallel-in}
 use Rattle.esterel.proofs.Reentry.Places.{placeIn, Placed}
 use Rattle.esterel.proofs.Reentry.Kept.{Kept, kept-zeros, holds-one}
 use Rattle.esterel.proofs.Reentry.Results.{leaves, asked, noRule, cond-leaves}
 use Rattle.esterel.proofs.Reentry.Went.{Went, single-went, enter-went, same-went, alone-went, skip-went, catch-went, andThen-went, beside-went, again-went}
 use Rattle.esterel.proofs.Reentry.Seen.{Live, Again, Seen, lift, own-seen, apart, before-own}
-use Rattle.esterel.proofs.Reentry.Start.{first-alone, both-joined, caught-here, started-low, start-went}
+use Rattle.esterel.proofs.Reentry.Start.{first-alone, both-joined, code-low, started-low, start-went}
 
 module _ (xs : List Place) (caught : (i : ℕ) → Caught (placeIn xs i)) where
   any-code-low : (p : Stmt) (n d t : ℕ) (P : Codes) → Placed xs n d t P p → (k : ℕ) → anyInstantSet p k ≡ true → (k ≤ suc t) × (k ≤ 63)
-  any-code-low p n d t P w k c =
-      let z = caught-here xs caught p n d t P w in
-      let low = any-low p t (z .exits) k c in
-      (low, omega (arith, z .few))
+  any-code-low = code-low xs caught (union (only 0) (only 1)) any-pause
 
   abbrev pub Resumes : Stmt → ℕ → Codes → Result → Type 0
   Resumes p n P x = Went (Again xs) (size p) (Kept p) (In (anyInstantSet p)) (Seen xs n (size p) (Live n p) P) x
@@ -40,15 +37,11 @@ module _ (xs : List Place) (caught : (i : ℕ) → Caught (placeIn xs i)) where
   abbrev Inner : Stmt → (n s : ℕ) → Codes → Result → Type 0
   Inner w n s P x = Went (Again xs) s (λ h. Kept w (h ++ (0 ∷ []))) (In (anyInstantSet w)) (Seen xs n s (Live n w) P) x
 
-  enter-one : {x : Result} (u : Unary) (p : Stmt) (n d t : ℕ) (P : Codes) → placeIn xs (n + size p) ≡ at d t P (one u p) → Inner (one u p) n (size p) P x → Resumes (one u p) n P (enter (n + size p) resumed x)
-  enter-one u p n d t P e o =
-      enter-went (n + size p) resumed (λ h b. b) (λ k c. own-seen xs (one u p) n (size p) d t P resumed k e c)
-      (λ k e. lift xs (le-refl n) (omega arith) (λ i lo hi l c. (l, c)) e) (λ k e y. before-own xs resumed k e y) o
-
-  enter-two : {x : Result} (b : Binary) (p q : Stmt) (n d t : ℕ) (P : Codes) → placeIn xs (n + (size p + size q)) ≡ at d t P (two b p q) → Inner (two b p q) n (size p + size q) P x → Resumes (two b p q) n P (enter (n + (size p + size q)) resumed x)
-  enter-two b p q n d t P e o =
-      enter-went (n + (size p + size q)) resumed (λ h b. b) (λ k c. own-seen xs (two b p q) n (size p + size q) d t P resumed k e c)
-      (λ k e. lift xs (le-refl n) (omega arith) (λ i lo hi l c. (l, c)) e) (λ k e y. before-own xs resumed k e y) o
+  -- w itself is entered, after the s nodes beneath it
+  enter-own : {x : Result} (w : Stmt) (n s d t : ℕ) (P : Codes) → placeIn xs (n + s) ≡ at d t P w → Inner w n s P x → Went (Again xs) (suc s) (Kept w) (In (anyInstantSet w)) (Seen xs n (suc s) (Live n w) P) (enter (n + s) resumed x)
+  enter-own w n s d t P e o =
+      enter-went (n + s) resumed (λ h b. b) (λ k c. own-seen xs w n s d t P resumed k e c) (λ k e. lift xs (le-refl n) (omega arith) (λ i lo hi l c. (l, c)) e)
+      (λ k e y. before-own xs resumed k e y) o
 
   -- a parallel's child that has ended
   idle-went : (p : Stmt) (n : ℕ) (P : Codes) (ans : List ℕ) → anyInstantSet p 0 ≡ true → Resumes p n P (idle (size p) ans)
@@ -64,7 +57,7 @@ module _ (xs : List Place) (caught : (i : ℕ) → Caught (placeIn xs i)) where
   resume-went (leaf (exit level)) n d t P held ans w f h = noRule
   resume-went (leaf (emit s)) n d t P held ans w f h = noRule
   resume-went (two sequence p q) n d t P held ans w f h =
-      enter-two sequence p q n d t P (w .2)
+      enter-own (two sequence p q) n (size p + size q) d t P (w .2)
       (cond-leaves (holds (first p held))
       (λ b. andThen-went (λ h k. fits-two sequence k (kept-zeros q) (first-alone p q (holds h))) (λ h g c k l. fits-two sequence k l (λ _. c))
       (sequence-first (anyInstantSet p) (anyInstantSet q)) (λ l c cq. sequence-second (anyInstantSet p) (anyInstantSet q) l c (start-any q l cq))
@@ -79,7 +72,7 @@ module _ (xs : List Place) (caught : (i : ℕ) → Caught (placeIn xs i)) where
       (λ k e. lift xs (omega arith) (omega arith) (λ i lo hi l c. let o = l .1 lo (omega arith) in (o .1, both (o .0) c)) e)
       (resume-went q (n + size p) (suc d) t (underRight sequence t P p) (second p q held) ans (w .1) (right-fits f) (right-holds f h b))))
   resume-went (two (present s) p q) n d t P held ans w f h =
-      enter-two (present s) p q n d t P (w .2)
+      enter-own (two (present s) p q) n (size p + size q) d t P (w .2)
       (cond-leaves (holds (first p held))
       (λ b. alone-went (size q) (λ h k. fits-two (present s) k (kept-zeros q) tt) (λ k c. inl-true (anyInstantSet p k) (anyInstantSet q k) c)
       (λ k e. lift xs (le-refl n) (omega arith) (λ i lo hi l c. (l .0 hi, c)) e)
@@ -88,12 +81,12 @@ module _ (xs : List Place) (caught : (i : ℕ) → Caught (placeIn xs i)) where
       (λ k e. lift xs (omega arith) (omega arith) (λ i lo hi l c. (l .1 lo (omega arith) .1, c)) e)
       (resume-went q (n + size p) (suc d) t P (second p q held) ans (w .1) (right-fits f) (right-holds f h b))))
   resume-went (one trap p) n d t P held ans w f h =
-      enter-one trap p n d t P (w .1)
+      enter-own (one trap p) n (size p) d t P (w .1)
       (catch-went (λ h k. fits-one trap k) (fits-one trap (kept-zeros p)) (caught-in (anyInstantSet p))
       (λ k e. lift xs (le-refl n) (le-refl (n + size p)) (λ i lo hi l c. (l hi, under-trap-in P k c)) e)
       (resume-went p n (suc d) (suc t) (under trap P) (first p held) ans (w .0) (child-fits f) (child-holds f h)))
   resume-went (two parallel p q) n d t P held ans w f h =
-      enter-two parallel p q n d t P (w .2)
+      enter-own (two parallel p q) n (size p + size q) d t P (w .2)
       (beside-went (λ h g k l k1 l1 c cq s r x y. fits-two parallel x y (both-joined p q k l _ _ k1 l1 c cq s r)) (larger-in (anyInstantSet p) (anyInstantSet q))
       (λ k l e cp cq. lift xs (le-refl n) (omega arith)
       (λ i lo hi y c.
@@ -113,7 +106,7 @@ module _ (xs : List Place) (caught : (i : ℕ) → Caught (placeIn xs i)) where
       (λ r. cond-leaves (holds (second p q held)) (λ b. resume-went q (n + size p) (suc d) t (underRight parallel t P p) (second p q held) r (w .1) (right-fits f) b)
       (λ b. idle-went q (n + size p) (underRight parallel t P p) r (joint f .0 (left-holds f h b) b))))
   resume-went (one loop p) n d t P held ans w f h =
-      enter-one loop p n d t P (w .1)
+      enter-own (one loop p) n (size p) d t P (w .1)
       (again-went (λ h k. fits-one loop k) (λ k c. c) (λ k c. start-any p (suc k) c)
       (λ k e. lift xs (le-refl n) (le-refl (n + size p)) (λ i lo hi l c. (l hi, inl-true (P (suc k)) (only 0 (suc k)) c)) e)
       (λ k e. lift xs (le-refl n) (le-refl (n + size p)) (λ i lo hi l c. (l hi, inr-true (P 0) (only 0 0) refl)) e)
@@ -121,7 +114,7 @@ module _ (xs : List Place) (caught : (i : ℕ) → Caught (placeIn xs i)) where
       (λ l e e′ y y′ z. (y .back (rw z (y′ .1 .live)) (inr-true (P 0) (only 0 0) refl), y′ .1 .mode))
       (resume-went p n (suc d) t (under loop P) (first p held) ans (w .0) (child-fits f) (child-holds f h)) (λ r. start-went xs caught p n (suc d) t (under loop P) r (w .0)))
   resume-went (one (signal s) p) n d t P held ans w f h =
-      enter-one (signal s) p n d t P (w .1)
+      enter-own (one (signal s) p) n (size p) d t P (w .1)
       (same-went (λ h k. fits-one (signal s) k) (λ k c. c) (λ k e. lift xs (le-refl n) (le-refl (n + size p)) (λ i lo hi l c. (l hi, c)) e)
       (resume-went p n (suc d) t P (first p held) ans (w .0) (child-fits f) (child-holds f h)))
   resume-went (one (suspend s) p) n d t P held [] w f h = asked
@@ -129,6 +122,6 @@ module _ (xs : List Place) (caught : (i : ℕ) → Caught (placeIn xs i)) where
       single-went 1 (entry (n + size p) resumed 1) held ans (holds-one f h) record { long = fits-length f; shown = h; kept = λ le. f }
       (own-seen xs (one (suspend s) p) n (size p) d t P resumed 1 (w .1) (holds-one f h))
   resume-went (one (suspend s) p) n d t P held (zero ∷ ans) w f h =
-      enter-one (suspend s) p n d t P (w .1)
+      enter-own (one (suspend s) p) n (size p) d t P (w .1)
       (same-went (λ h k. fits-one (suspend s) k) (λ k c. c) (λ k e. lift xs (le-refl n) (le-refl (n + size p)) (λ i lo hi l c. (l hi, c)) e)
       (resume-went p n (suc d) t P (first p held) ans (w .0) (child-fits f) (child-holds f h)))

@@ -6,16 +6,16 @@ use Prim.Native.Nat.{ℕ, zero, suc, _+_, _≤_, max}
 use native.Mathlib.Nat.{le-refl}
 use native.Mathlib.Omega.{arith}
 use Rattle.codes.proofs.Bools.{both, inl-true, inr-true}
-use Rattle.codes.proofs.Members.{only-in, larger-in, sequence-first, sequence-second, caught-in}
-use Rattle.esterel.specs.Statement.{Leaf, nothing, pause, emit, exit, Unary, signal, suspend, loop, trap, Binary, present, sequence, parallel, Stmt, leaf, one, two, size}
-use Rattle.esterel.specs.Codes.{Codes, only}
-use Rattle.esterel.specs.Sets.{Place, at, startSet, anyInstantSet, under, underLeft, underRight}
+use Rattle.codes.proofs.Members.{only-in, meets-in, larger-in, sequence-first, sequence-second, caught-in}
+use Rattle.esterel.specs.Statement.{Leaf, nothing, pause, emit, exit, signal, suspend, loop, trap, present, sequence, parallel, Stmt, leaf, one, two, size}
+use Rattle.esterel.specs.Codes.{Codes, only, AtMost}
+use Rattle.esterel.specs.Sets.{Place, at, codes, startSet, anyInstantSet, under, underLeft, underRight}
 use Rattle.esterel.specs.Instant.{started, Entry, entry, Result, single, enter, zeros, start, holds}
 use Rattle.esterel.proofs.Held.{holds-zeros, Shows, fits-leaf, fits-pause, fits-one, fits-two}
 use Rattle.esterel.proofs.Start.{In}
-use Rattle.esterel.proofs.Low.{start-low}
+use Rattle.esterel.proofs.Low.{codes-low, start-pause}
 use Rattle.esterel.proofs.Caught.{Caught}
-use Rattle.esterel.proofs.Reentry.Contexts.{start-any, meets-in, under-trap-in, under-parallel-in}
+use Rattle.esterel.proofs.Reentry.Contexts.{start-any, under-trap-in, under-parallel-in}
 use Rattle.esterel.proofs.Reentry.Places.{placeIn, Placed, placed-root}
 use Rattle.esterel.proofs.Reentry.Kept.{false-true, Joined, Kept, kept-zeros}
 use Rattle.esterel.proofs.Reentry.Results.{asked}
@@ -38,18 +38,21 @@ module _ (xs : List Place) (caught : (i : ℕ) → Caught (placeIn xs i)) where
   pub caught-here : (p : Stmt) (n d t : ℕ) (P : Codes) → Placed xs n d t P p → Caught (at d t P p)
   caught-here p n d t P w = let (i, e) = placed-root xs p n d t P w in rw e at (caught i)
 
-  -- a started code is below 64
-  pub started-low : (p : Stmt) (n d t : ℕ) (P : Codes) → Placed xs n d t P p → (k : ℕ) → startSet p k ≡ true → (k ≤ suc t) × (k ≤ 63)
-  started-low p n d t P w k c =
+  -- a code is below 64, where those of a pause are 0 and 1 alone
+  pub code-low : (paused : Codes) → AtMost 1 paused → (p : Stmt) (n d t : ℕ) (P : Codes) → Placed xs n d t P p → (k : ℕ) → codes paused p k ≡ true → (k ≤ suc t) × (k ≤ 63)
+  code-low paused few p n d t P w k c =
       let z = caught-here p n d t P w in
-      let low = start-low p t (z .exits) k c in
+      let low = codes-low paused few p t (z .exits) k c in
       (low, omega (arith, z .few))
 
-  abbrev StartEntry : Stmt → (n s : ℕ) → Codes → ℕ → Entry → Type 0
+  pub started-low : (p : Stmt) (n d t : ℕ) (P : Codes) → Placed xs n d t P p → (k : ℕ) → startSet p k ≡ true → (k ≤ suc t) × (k ≤ 63)
+  started-low = code-low (only 1) start-pause
+
+  abbrev pub StartEntry : Stmt → (n s : ℕ) → Codes → ℕ → Entry → Type 0
   StartEntry w n s P k e = Seen xs n s (Live n w) P k e × Fresh xs (Live n w) e
 
   abbrev pub Starts : Stmt → ℕ → Codes → Result → Type 0
-  Starts p n P x = Went (Again xs) (size p) (Kept p) (In (startSet p)) (λ k e. Seen xs n (size p) (Live n p) P k e × Fresh xs (Live n p) e) x
+  Starts p n P x = Went (Again xs) (size p) (Kept p) (In (startSet p)) (StartEntry p n (size p) P) x
 
   -- what the children of w, of s nodes, left
   abbrev Inner : Stmt → (n s : ℕ) → Codes → Result → Type 0
@@ -60,16 +63,10 @@ module _ (xs : List Place) (caught : (i : ℕ) → Caught (placeIn xs i)) where
       single-went k (entry n started k) (b ∷ []) ans c record { long = refl; shown = s; kept = λ le. f }
       (record { lo = le-refl n; hi = omega arith; any = rw e (start-any (leaf l) k c); back = λ l c. rw e c }, record { live = tt; mode = refl })
 
-  enter-one : {x : Result} (u : Unary) (p : Stmt) (n d t : ℕ) (P : Codes) → placeIn xs (n + size p) ≡ at d t P (one u p) → Inner (one u p) n (size p) P x → Starts (one u p) n P (enter (n + size p) started x)
-  enter-one u p n d t P e o =
-      enter-went (n + size p) started (λ h b. b)
-      (λ k c. (own-seen xs (one u p) n (size p) d t P started k e (start-any (one u p) k c), record { live = live-one n u p; mode = refl }))
-      (λ k e. lift-both xs (le-refl n) (omega arith) (λ i lo hi l c. (l, c)) (λ i lo hi l. l) e) (λ k e y. before-own xs started k e (y .0)) o
-
-  enter-two : {x : Result} (b : Binary) (p q : Stmt) (n d t : ℕ) (P : Codes) → placeIn xs (n + (size p + size q)) ≡ at d t P (two b p q) → Inner (two b p q) n (size p + size q) P x → Starts (two b p q) n P (enter (n + (size p + size q)) started x)
-  enter-two b p q n d t P e o =
-      enter-went (n + (size p + size q)) started (λ h b. b)
-      (λ k c. (own-seen xs (two b p q) n (size p + size q) d t P started k e (start-any (two b p q) k c), record { live = live-two n b p q; mode = refl }))
+  -- w itself is entered, after the s nodes beneath it
+  enter-own : {x : Result} (w : Stmt) (n s d t : ℕ) (P : Codes) → Live n w (n + s) → placeIn xs (n + s) ≡ at d t P w → Inner w n s P x → Went (Again xs) (suc s) (Kept w) (In (startSet w)) (StartEntry w n (suc s) P) (enter (n + s) started x)
+  enter-own w n s d t P l e o =
+      enter-went (n + s) started (λ h b. b) (λ k c. (own-seen xs w n s d t P started k e (start-any w k c), record { live = l; mode = refl }))
       (λ k e. lift-both xs (le-refl n) (omega arith) (λ i lo hi l c. (l, c)) (λ i lo hi l. l) e) (λ k e y. before-own xs started k e (y .0)) o
 
   pub start-went : (p : Stmt) (n d t : ℕ) (P : Codes) (ans : List ℕ) → Placed xs n d t P p → Starts p n P (start n p ans)
@@ -79,7 +76,7 @@ module _ (xs : List Place) (caught : (i : ℕ) → Caught (placeIn xs i)) where
       leaf-went (exit level) n d t P (2 + level) 0 ans w (only-in (2 + level)) (fits-leaf (exit level)) (let z : 2 + level ≡ suc (suc level) = omega arith in rw z tt)
   start-went (leaf (emit s)) n d t P ans w = leaf-went (emit s) n d t P 0 0 ans w refl (fits-leaf (emit s)) refl
   start-went (two sequence p q) n d t P ans w =
-      enter-two sequence p q n d t P (w .2)
+      enter-own (two sequence p q) n (size p + size q) d t P (live-two n sequence p q) (w .2)
       (andThen-went (λ h k. fits-two sequence k (kept-zeros q) (first-alone p q (holds h))) (λ h g c k l. fits-two sequence k l (λ _. start-any p 0 c))
       (sequence-first (startSet p) (startSet q)) (sequence-second (startSet p) (startSet q))
       (λ k e. lift-both xs (le-refl n) (omega arith) (λ i lo hi l c. (l .0 hi, c)) (λ i lo hi l. live-first n sequence p q i hi l) e)
@@ -90,22 +87,22 @@ module _ (xs : List Place) (caught : (i : ℕ) → Caught (placeIn xs i)) where
       (start-went p n (suc d) t (underLeft sequence t P q) ans (w .0)) (λ r. start-went q (n + size p) (suc d) t (underRight sequence t P p) r (w .1)))
   start-went (two (present s) p q) n d t P [] w = asked
   start-went (two (present s) p q) n d t P (suc a ∷ ans) w =
-      enter-two (present s) p q n d t P (w .2)
+      enter-own (two (present s) p q) n (size p + size q) d t P (live-two n (present s) p q) (w .2)
       (alone-went (size q) (λ h k. fits-two (present s) k (kept-zeros q) tt) (λ k c. inl-true (startSet p k) (startSet q k) c)
       (λ k e. lift-both xs (le-refl n) (omega arith) (λ i lo hi l c. (l .0 hi, c)) (λ i lo hi l. live-first n (present s) p q i hi l) e)
       (start-went p n (suc d) t P ans (w .0)))
   start-went (two (present s) p q) n d t P (zero ∷ ans) w =
-      enter-two (present s) p q n d t P (w .2)
+      enter-own (two (present s) p q) n (size p + size q) d t P (live-two n (present s) p q) (w .2)
       (skip-went (size p) (λ h k. fits-two (present s) (kept-zeros p) k tt) (λ k c. inr-true (startSet p k) (startSet q k) c)
       (λ k e. lift-both xs (omega arith) (omega arith) (λ i lo hi l c. (l .1 lo (omega arith) .1, c)) (λ i lo hi l. live-second n (present s) p q i lo tt l) e)
       (start-went q (n + size p) (suc d) t P ans (w .1)))
   start-went (one trap p) n d t P ans w =
-      enter-one trap p n d t P (w .1)
+      enter-own (one trap p) n (size p) d t P (live-one n trap p) (w .1)
       (catch-went (λ h k. fits-one trap k) (fits-one trap (kept-zeros p)) (caught-in (startSet p))
       (λ k e. lift-both xs (le-refl n) (le-refl (n + size p)) (λ i lo hi l c. (l hi, under-trap-in P k c)) (λ i lo hi l _. l) e)
       (start-went p n (suc d) (suc t) (under trap P) ans (w .0)))
   start-went (two parallel p q) n d t P ans w =
-      enter-two parallel p q n d t P (w .2)
+      enter-own (two parallel p q) n (size p + size q) d t P (live-two n parallel p q) (w .2)
       (beside-went (λ h g k l k1 l1 c cq s r x y. fits-two parallel x y (both-joined p q k l _ _ k1 l1 (start-any p k c) (start-any q l cq) s r)) (larger-in (startSet p) (startSet q))
       (λ k l e cp cq. lift-both xs (le-refl n) (omega arith)
       (λ i lo hi y c.
@@ -122,15 +119,15 @@ module _ (xs : List Place) (caught : (i : ℕ) → Caught (placeIn xs i)) where
       (λ k l e e′ y y′. apart xs (le-refl (n + size p)) e e′ (y .0) (y′ .0))
       (start-went p n (suc d) t (underLeft parallel t P q) ans (w .0)) (λ r. start-went q (n + size p) (suc d) t (underRight parallel t P p) r (w .1)))
   start-went (one loop p) n d t P ans w =
-      enter-one loop p n d t P (w .1)
+      enter-own (one loop p) n (size p) d t P (live-one n loop p) (w .1)
       (body-went (λ h k. fits-one loop k) (λ k c. c)
       (λ k e. lift-both xs (le-refl n) (le-refl (n + size p)) (λ i lo hi l c. (l hi, inl-true (P (suc k)) (only 0 (suc k)) c)) (λ i lo hi l _. l) e)
       (start-went p n (suc d) t (under loop P) ans (w .0)))
   start-went (one (signal s) p) n d t P ans w =
-      enter-one (signal s) p n d t P (w .1)
+      enter-own (one (signal s) p) n (size p) d t P (live-one n (signal s) p) (w .1)
       (same-went (λ h k. fits-one (signal s) k) (λ k c. c)
       (λ k e. lift-both xs (le-refl n) (le-refl (n + size p)) (λ i lo hi l c. (l hi, c)) (λ i lo hi l _. l) e) (start-went p n (suc d) t P ans (w .0)))
   start-went (one (suspend s) p) n d t P ans w =
-      enter-one (suspend s) p n d t P (w .1)
+      enter-own (one (suspend s) p) n (size p) d t P (live-one n (suspend s) p) (w .1)
       (same-went (λ h k. fits-one (suspend s) k) (λ k c. c)
       (λ k e. lift-both xs (le-refl n) (le-refl (n + size p)) (λ i lo hi l c. (l hi, c)) (λ i lo hi l _. l) e) (start-went p n (suc d) t P ans (w .0)))

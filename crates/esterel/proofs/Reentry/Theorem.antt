@@ -6,6 +6,7 @@ use Prim.Native.Nat.{ℕ, _≤_}
 use native.Mathlib.Omega.{arith}
 use lib.Seq.{take-all}
 use lib.ListN.{take}
+use Rattle.codes.proofs.Members.{meets-in}
 use Rattle.esterel.specs.Statement.{Stmt, size, nodes}
 use Rattle.esterel.specs.Codes.{empty, bit}
 use Rattle.esterel.specs.Sets.{Place, at, contextOf, stmtOf, placesOf, placeAt, mark, anyInstantSet}
@@ -22,7 +23,6 @@ use Rattle.esterel.proofs.Theorems.{demand3}
 use Rattle.esterel.proofs.Nodes.{sits-own}
 use Rattle.esterel.proofs.Caught.{Caught, caught-at}
 use Rattle.esterel.proofs.Reentry.Trails.{Pairs, pairs-two}
-use Rattle.esterel.proofs.Reentry.Contexts.{meets-in}
 use Rattle.esterel.proofs.Reentry.Places.{placed-own}
 use Rattle.esterel.proofs.Reentry.Kept.{Kept}
 use Rattle.esterel.proofs.Reentry.Invariant.{invariant, kept-of, holding-inside, none-holding}
@@ -142,11 +142,15 @@ module _ (p : Stmt) (a : Accepted p) where
 
     -- n is held and started
     module _ (n : ℕ) (h : Holding p held n) (b : List Entry) (k : ℕ) (z : List Entry) (w : t ≡ b ++ (entry n started k ∷ z)) where
+      -- the start comes after a resumed entry before which n is not entered
+      after : (c : List Entry) (x : Entry) (y : List Entry) → t ≡ c ++ (x ∷ y) → (Entered n c → ⊥) → modeOf x ≡ resumed → Later c x y b (entry n started k) z
+      after c x y i first m = later c x y b (entry n started k) z (sym i ∙ w) first (λ e. resumed-started (sym m ∙ ap modeOf e))
+
       after-met : (y : Met p n t) → Later (y .before) (entry n resumed (y .code)) (y .after) b (entry n started k) z
-      after-met y = later (y .before) (entry n resumed (y .code)) (y .after) b (entry n started k) z (sym (y .is) ∙ w) (y .unentered) (λ e. resumed-started (ap modeOf e))
+      after-met y = after (y .before) (entry n resumed (y .code)) (y .after) (y .is) (y .unentered) refl
 
       after-rest : (y : Rests p n t) → Later (y .before) (entry (y .pauser) resumed 1) (y .after) b (entry n started k) z
-      after-rest y = later (y .before) (entry (y .pauser) resumed 1) (y .after) b (entry n started k) z (sym (y .is) ∙ w) (y .unentered) (λ e. resumed-started (ap modeOf e))
+      after-rest y = after (y .before) (entry (y .pauser) resumed 1) (y .after) (y .is) (y .unentered) refl
 
       held-marked : Fate p n t → markAt p n ≡ 1
       held-marked (met y) =
