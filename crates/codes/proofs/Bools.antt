@@ -46,6 +46,9 @@ pub cannot-pass : (b : Bool) → (b ≡ true → ⊥) → b ≡ false
 cannot-pass true f = absurd (f refl)
 cannot-pass false f = refl
 
+pub false-not-true : {b : Bool} → b ≡ false → b ≡ true → ⊥
+false-not-true e f = let z : _≡_ {A = ℕ} 0 1 = cc in omega arith
+
 -- two tests are the same where each passes if the other does
 pub same-test : (p q : Bool) → (p ≡ true → q ≡ true) → (q ≡ true → p ≡ true) → p ≡ q
 same-test true q f g = sym (f refl)

@@ -8,7 +8,7 @@ use Prim.Native.Nat.{ℕ, zero, suc, _+_, _<_}
 use native.Mathlib.Decide.{decLt}
 use native.Mathlib.Omega.{arith}
 use lib.ListN.{length, getD, List·getD-eq-default}
-use Rattle.codes.proofs.Bools.{cannot-pass}
+use Rattle.codes.proofs.Bools.{cannot-pass, false-not-true}
 use Rattle.esterel.specs.Statement.{nothing, signal, suspend, loop, trap, Stmt, leaf, one, two, nodes}
 use Rattle.esterel.specs.Codes.{empty}
 use Rattle.esterel.specs.Sets.{startSet, Place, at, stmtOf, placesOf, outside, placeAt}
@@ -86,9 +86,6 @@ loop-of (one (suspend s) p) e = (leaf nothing, cc, cc)
 loop-of (one loop p) e = (p, refl, e)
 loop-of (one trap p) e = (leaf nothing, cc, cc)
 loop-of (two b p q) e = (leaf nothing, cc, cc)
-
-false-not-true : {b : Bool} → b ≡ false → b ≡ true → ⊥
-false-not-true e f = let z : _≡_ {A = ℕ} 0 1 = cc in omega arith
 
 -- a loop is one of the nodes
 pub loop-within : (p : Stmt) (i : ℕ) (q : Stmt) → statementAt (nodes p) i ≡ one loop q → i < length (placesOf p)

@@ -1,0 +1,194 @@
+-- The theorem `Damage` of specs/Theorems.antt.
+use mathlib.Core.Path.{_≡_, refl, sym, ap, _∙_}
+use mathlib.Core.Logic.{inl, inr, ⊎-elim}
+use mathlib.Core.Bool.{Bool, true, false}
+use mathlib.Core.List.{List, [], _∷_}
+use Prim.Native.Nat.{ℕ, zero, suc, _+_, _-_, _≤_, _<_}
+use native.Mathlib.Nat.{add-zero, add-mod-right, div-add-mod}
+use native.Mathlib.Decide.{decLt}
+use native.Mathlib.Omega.{arith}
+use borrow.Author.Tests.{eqb-true}
+use lib.Dec.{eqb}
+use lib.ListN.{length, getD, take, drop, set}
+use lib.Seq.{take-set-lt, take-set-le, drop-set-lt, getD-set-same, getD-set-other, getD-take, getD-drop, length-take-le}
+use Rattle.blocks.specs.Block.{contentSize, word, usedIn, reduced, sum, firstCheck, runningFrom, secondCheck, allZero, zeroFilled, good}
+use Rattle.blocks.specs.Theorems.{Changed, Alike, Unruled, Damage}
+use Rattle.blocks.proofs.Good.{Good, good-is, is-good}
+use Rattle.codes.proofs.Bools.{left, right}
+
+-- sums, with one value changed for one that is alike
+same-reduced : (a : ℕ) → reduced (a + 255) ≡ reduced (a + 0)
+same-reduced a = add-mod-right a 255 ∙ ap reduced (sym (add-zero a))
+
+reduced-alike : (a x y : ℕ) → Alike x y → reduced (a + y) ≡ reduced (a + x)
+reduced-alike a x y (inl (p, q)) = rw (p, q) (same-reduced a)
+reduced-alike a x y (inr (p, q)) = rw (p, q) (sym (same-reduced a))
+
+running-alike : (a : ℕ) (xs : List ℕ) (i v : ℕ) → i < length xs → Alike (getD xs i 0) v → runningFrom a (set xs i v) ≡ runningFrom a xs
+running-alike a [] i v h s = absurd (omega arith)
+running-alike a (x ∷ xs) zero v h s = ap (λ n. n ∷ runningFrom n xs) (reduced-alike a x v s)
+running-alike a (x ∷ xs) (suc i) v h s = ap (λ l. reduced (a + x) ∷ l) (running-alike (reduced (a + x)) xs i v (omega arith) s)
+
+second-alike : (xs : List ℕ) (i v : ℕ) → i < length xs → Alike (getD xs i 0) v → secondCheck (set xs i v) ≡ secondCheck xs
+unfolding secondCheck
+second-alike xs i v h s = ap (λ l. reduced (sum l)) (running-alike 0 xs i v h s)
+
+-- the sum of the others
+rest : List ℕ → ℕ → ℕ
+rest xs i = sum (set xs i 0)
+
+sum-rest : (xs : List ℕ) (i v : ℕ) → i < length xs → sum (set xs i v) ≡ rest xs i + v
+unfolding rest
+sum-rest [] i v h = absurd (omega arith)
+sum-rest (x ∷ xs) zero v h = omega arith
+sum-rest (x ∷ xs) (suc i) v h = omega (arith, sum-rest xs i v (omega arith))
+
+sum-own : (xs : List ℕ) (i : ℕ) → i < length xs → sum xs ≡ rest xs i + getD xs i 0
+unfolding rest
+sum-own [] i h = absurd (omega arith)
+sum-own (x ∷ xs) zero h = omega arith
+sum-own (x ∷ xs) (suc i) h = omega (arith, sum-own xs i (omega arith))
+
+first-alike : (xs : List ℕ) (i v : ℕ) → i < length xs → Alike (getD xs i 0) v → firstCheck (set xs i v) ≡ firstCheck xs
+unfolding firstCheck
+first-alike xs i v h s = ap reduced (sum-rest xs i v h) ∙ reduced-alike (rest xs i) (getD xs i 0) v s ∙ ap reduced (sym (sum-own xs i h))
+
+-- and only those are alike
+reduced-differ : (a x y : ℕ) → x < 256 → y < 256 → (y ≡ x → ⊥) → reduced (a + x) ≡ reduced (a + y) → Alike x y
+reduced-differ a x y hx hy d e = go (decLt x y) (decLt y x)
+  where
+    go : Dec (x < y) → Dec (y < x) → Alike x y
+    go (yes l) r = inl (omega (arith, div-add-mod (a + x) 255, div-add-mod (a + y) 255), omega (arith, div-add-mod (a + x) 255, div-add-mod (a + y) 255))
+    go (no l) (yes r) = inr (omega (arith, div-add-mod (a + x) 255, div-add-mod (a + y) 255), omega (arith, div-add-mod (a + x) 255, div-add-mod (a + y) 255))
+    go (no l) (no r) = absurd (d (omega arith))
+
+first-differ : (xs : List ℕ) (i v : ℕ) → i < length xs → getD xs i 0 < 256 → v < 256 → (v ≡ getD xs i 0 → ⊥) → firstCheck xs ≡ firstCheck (set xs i v) → Alike (getD xs i 0) v
+unfolding firstCheck
+first-differ xs i v h hx hv d e =
+    reduced-differ (rest xs i) (getD xs i 0) v hx hv d (ap reduced (sym (sum-own xs i h)) ∙ e ∙ ap reduced (sum-rest xs i v h))
+
+zero-at : (xs : List ℕ) (j : ℕ) → allZero xs ≡ true → getD xs j 0 ≡ 0
+zero-at [] j z = refl
+zero-at (x ∷ xs) zero z = eqb-true _ _ (left (eqb x 0) (allZero xs) z)
+zero-at (x ∷ xs) (suc j) z = zero-at xs j (right (eqb x 0) z)
+
+filler-zero : (b : List ℕ) (i : ℕ) → zeroFilled b ≡ true → 8 + usedIn b ≤ i → i < 510 → getD b i 0 ≡ 0
+unfolding zeroFilled
+filler-zero b i z l h =
+    let m = 8 + usedIn b in
+    let same : m + (i - m) ≡ i = omega arith in
+    ap (λ n. getD b n 0) (sym same)
+    ∙ sym (getD-take (contentSize - usedIn b) (drop m b) (i - m) 0 (omega arith) ∙ getD-drop m b (i - m) 0)
+    ∙ zero-at (take (contentSize - usedIn b) (drop m b)) (i - m) z
+
+-- a block with one byte changed
+module _ (b : List ℕ) (i v : ℕ) (c : Changed b i v) where
+  before-checks : length (take 510 b) ≡ 510
+  before-checks = length-take-le 510 b (omega (arith, c .size))
+
+  own : i < 510 → getD (take 510 b) i 0 ≡ getD b i 0
+  own h = getD-take 510 b i 0 h
+
+  stored : (j : ℕ) → (j ≡ i → ⊥) → getD (set b i v) j 0 ≡ getD b j 0
+  stored j d = getD-set-other b i j v 0 d
+
+  new : getD (set b i v) i 0 ≡ v
+  new = getD-set-same b i v 0 (omega (arith, c .size, c .place))
+
+  used-kept : (6 ≡ i → ⊥) → (7 ≡ i → ⊥) → usedIn (set b i v) ≡ usedIn b
+  unfolding word
+  used-kept p q = omega (arith, stored 6 p, stored 7 q)
+
+  alike-if : Good b → Good (set b i v) → (i < 510) × Alike (getD b i 0) v
+  alike-if g k = go (decLt i 510) (decLt 510 i)
+    where
+      go : Dec (i < 510) → Dec (510 < i) → (i < 510) × Alike (getD b i 0) v
+      go (yes h) r =
+          let same : firstCheck (take 510 b) ≡ firstCheck (set (take 510 b) i v) =
+          sym (g .first) ∙ sym (stored 510 (λ e. omega arith)) ∙ k .first ∙ ap firstCheck (take-set-lt 510 b i v h) in
+          (h, rw (own h) at (first-differ (take 510 b) i v (omega (arith, before-checks)) (rw (own h) (c .bytes i)) (c .byte) (λ e. c .other (e ∙ own h)) same))
+      go (no h) (no r) =
+          let at : i ≡ 510 = omega arith in
+          let front : take 510 (set b i v) ≡ take 510 b = take-set-le 510 b i v (omega arith) in
+          absurd (c .other (sym new ∙ ap (λ n. getD (set b i v) n 0) at ∙ k .first ∙ ap firstCheck front ∙ sym (g .first) ∙ ap (λ n. getD b n 0) (sym at)))
+      go (no h) (yes r) =
+          let at : i ≡ 511 = omega (arith, c .place) in
+          let front : take 510 (set b i v) ≡ take 510 b = take-set-le 510 b i v (omega arith) in
+          absurd (c .other (sym new ∙ ap (λ n. getD (set b i v) n 0) at ∙ k .second ∙ ap secondCheck front ∙ sym (g .second) ∙ ap (λ n. getD b n 0) (sym at)))
+
+  not-6 : Good b → Good (set b i v) → Alike (getD b i 0) v → i ≡ 6 → ⊥
+  unfolding word
+  not-6 g k s e =
+      let x : getD b 6 0 ≡ getD b i 0 = ap (λ n. getD b n 0) (sym e) in
+      let y : getD (set b i v) 6 0 ≡ v = ap (λ n. getD (set b i v) n 0) (sym e) ∙ new in
+      ⊎-elim (λ a. omega (arith, g .some, g .short, k .some, k .short, stored 7 (λ q. omega arith)))
+      (λ a. omega (arith, g .some, g .short, k .some, k .short, stored 7 (λ q. omega arith))) s
+
+  not-7 : Good b → Good (set b i v) → Alike (getD b i 0) v → i ≡ 7 → ⊥
+  unfolding word
+  not-7 g k s e =
+      let x : getD b 7 0 ≡ getD b i 0 = ap (λ n. getD b n 0) (sym e) in
+      let y : getD (set b i v) 7 0 ≡ v = ap (λ n. getD (set b i v) n 0) (sym e) ∙ new in
+      ⊎-elim (λ a. omega (arith, g .short, k .short)) (λ a. omega (arith, g .short, k .short)) s
+
+  not-filler : Good b → Good (set b i v) → i < 510 → 8 + usedIn b ≤ i → ⊥
+  not-filler g k h l =
+      let used : usedIn (set b i v) ≡ usedIn b = used-kept (λ e. omega arith) (λ e. omega arith) in
+      c .other (sym new ∙ filler-zero (set b i v) i (k .zeros) (omega arith) h ∙ sym (filler-zero b i (g .zeros) l h))
+
+  unruled-if : Good b → Good (set b i v) → i < 510 → Alike (getD b i 0) v → Unruled b i
+  unruled-if g k h s = go (decLt i 6) (decLt i 8) (decLt i (8 + usedIn b))
+    where
+      go : Dec (i < 6) → Dec (i < 8) → Dec (i < 8 + usedIn b) → Unruled b i
+      go (yes a) q r = inl a
+      go (no a) (yes q) r = absurd (between (decLt i 7))
+        where
+          between : Dec (i < 7) → ⊥
+          between (yes l) = not-6 g k s (omega arith)
+          between (no l) = not-7 g k s (omega arith)
+      go (no a) (no q) (yes r) = inr (omega arith, r)
+      go (no a) (no q) (no r) = absurd (not-filler g k h (omega arith))
+
+  still-good : Good b → Alike (getD b i 0) v → Unruled b i → Good (set b i v)
+  unfolding zeroFilled
+  still-good g s u =
+      let low : i < 8 + usedIn b = ⊎-elim (λ a. omega (arith, g .some)) (λ a. a .1) u in
+      let h : i < 510 = omega (arith, g .short) in
+      let p : 6 ≡ i → ⊥ = λ e. ⊎-elim (λ a. omega arith) (λ a. omega arith) u in
+      let q : 7 ≡ i → ⊥ = λ e. ⊎-elim (λ a. omega arith) (λ a. omega arith) u in
+      let used : usedIn (set b i v) ≡ usedIn b = used-kept p q in
+      let front : take 510 (set b i v) ≡ set (take 510 b) i v = take-set-lt 510 b i v h in
+      let alike : Alike (getD (take 510 b) i 0) v = rw (own h) s in
+      record {
+        first =
+            stored 510 (λ e. omega arith) ∙ g .first ∙ sym (ap firstCheck front ∙ first-alike (take 510 b) i v (omega (arith, before-checks)) alike);
+        second =
+            stored 511 (λ e. omega arith) ∙ g .second ∙ sym (ap secondCheck front ∙ second-alike (take 510 b) i v (omega (arith, before-checks)) alike);
+        some = omega (arith, g .some);
+        short = omega (arith, g .short);
+        zeros =
+            ap (λ n. allZero (take (contentSize - n) (drop (8 + n) (set b i v)))) used
+            ∙ ap (λ l. allZero (take (contentSize - usedIn b) l)) (drop-set-lt (8 + usedIn b) b i v low)
+            ∙ g .zeros;
+      }
+
+passed-over : (b : List ℕ) (i v : ℕ) → good b ≡ true → Changed b i v → ((i < 510) × Alike (getD b i 0) v → ⊥) → good (set b i v) ≡ false
+passed-over b i v g c d = go (good (set b i v)) refl
+  where
+    go : (r : Bool) → good (set b i v) ≡ r → good (set b i v) ≡ false
+    go true e = absurd (d (alike-if b i v c (good-is b g) (good-is (set b i v) e)))
+    go false e = e
+
+pub damage : Damage
+damage =
+    record {
+      passedOver = passed-over;
+      unseen =
+          λ b i v g c. (
+            λ e.
+                let k = good-is (set b i v) e in
+                let seen = alike-if b i v c (good-is b g) k in
+                (seen .1, unruled-if b i v c (good-is b g) k (seen .0) (seen .1)),
+            λ (s, u). is-good (set b i v) (still-good b i v c (good-is b g) s u),
+          );
+    }

@@ -1,0 +1,14 @@
+pub mod Examples
+pub mod Running
+pub mod Zeros
+pub mod Good
+pub mod Blocks
+pub mod Finding
+pub mod Last
+pub mod Counted
+pub mod Joining
+pub mod Completing
+pub mod Choosing
+pub mod Fetches
+pub mod Damage
+pub mod Theorems

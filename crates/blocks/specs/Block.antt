@@ -1,0 +1,74 @@
+-- A block of the service partition (F-4): its fields, its check bytes, and whether it is good.
+use Prim.Native.Nat.{ℕ, _+_, _-_, _*_, _%_}
+use mathlib.Core.Bool.{Bool, true, _&&_}
+use mathlib.Core.List.{List, [], _∷_}
+use lib.ListN.{getD, take, drop}
+use lib.Dec.{eqb, leb}
+
+-- the sizes of a block and of its content; the content starts at byte 8 and the check bytes are 510 and 511
+abbrev pub blockSize : ℕ
+blockSize = 512
+
+abbrev pub contentSize : ℕ
+contentSize = 502
+
+-- two bytes, lowest first
+unfoldable pub word : List ℕ → ℕ → ℕ
+word b i = getD b i 0 + 256 * getD b (i + 1) 0
+
+-- the fields of a block
+abbrev pub programIn : List ℕ → ℕ
+programIn b = word b 0
+
+abbrev pub editionIn : List ℕ → ℕ
+editionIn b = word b 2
+
+abbrev pub partIn : List ℕ → ℕ
+partIn b = getD b 4 0
+
+abbrev pub partsIn : List ℕ → ℕ
+partsIn b = getD b 5 0
+
+abbrev pub usedIn : List ℕ → ℕ
+usedIn b = word b 6
+
+-- modulo 255
+abbrev pub reduced : ℕ → ℕ
+reduced n = n % 255
+
+abbrev pub sum : List ℕ → ℕ
+sum [] = 0
+sum (x ∷ xs) = x + sum xs
+
+-- the first check byte of some bytes
+unfoldable pub firstCheck : List ℕ → ℕ
+firstCheck xs = reduced (sum xs)
+
+-- its running values, one after each byte
+abbrev pub runningFrom : ℕ → List ℕ → List ℕ
+runningFrom a [] = []
+runningFrom a (x ∷ xs) = reduced (a + x) ∷ runningFrom (reduced (a + x)) xs
+
+-- the second check byte
+unfoldable pub secondCheck : List ℕ → ℕ
+secondCheck xs = reduced (sum (runningFrom 0 xs))
+
+-- the stored check bytes are those of bytes 0 to 509
+unfoldable pub checksMatch : List ℕ → Bool
+checksMatch b = eqb (getD b 510 0) (firstCheck (take 510 b)) && eqb (getD b 511 0) (secondCheck (take 510 b))
+
+-- the used length is 1 to 502
+unfoldable pub lengthFits : List ℕ → Bool
+lengthFits b = leb 1 (usedIn b) && leb (usedIn b) contentSize
+
+abbrev pub allZero : List ℕ → Bool
+allZero [] = true
+allZero (x ∷ xs) = eqb x 0 && allZero xs
+
+-- zeros after the used bytes of the content
+unfoldable pub zeroFilled : List ℕ → Bool
+zeroFilled b = allZero (take (contentSize - usedIn b) (drop (8 + usedIn b) b))
+
+-- a block that is not passed over
+unfoldable pub good : List ℕ → Bool
+good b = checksMatch b && (lengthFits b && zeroFilled b)
