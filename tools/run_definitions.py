@@ -1,24 +1,26 @@
 #!/usr/bin/env python3
 """Runs the theory's definitions on outside vectors and on edges of documents 01 and 02, and reports each difference.
 
-    python3 tools/run_definitions.py [--vectors DIR] [--listings N] [--instants N] [--texts N] [--ticks N] [--runs N] [--seed S]
+    python3 tools/run_definitions.py [--vectors DIR] [--listings N] [--instants N] [--texts N] [--ticks N] [--runs N] [--blocks N] [--seed S]
 
 Each vector becomes a theorem `what the definitions give ≡ what is expected`, proved by refl, so that the checker has to
 compute the definitions. All is written to a temporary repository, which has copies of crates/codes, crates/esterel,
-crates/grammar and crates/starts. The theorem listing17 is the vector in line 17 of the listings; edges are numbered as
+crates/grammar, crates/starts and crates/blocks. The theorem listing17 is the vector in line 17 of the listings; edges are numbered as
 they stand below.
 A text's derivation cannot be computed: its tree is the one that the machine of crates/grammar finds, of which it is proved
 that it finds exactly the derivations. Of a tick that is shown, the rules are run with its list (tick17); where table and list are
 small, all lists that come before it are run too, in their order, until one leads there (first17). Whether a list leads there is
 asked by a test here, which is proved to say what `Leads` does; so is the test whether a node stands at two places of a trail, which tells
-of each instant of a run (run17) what is entered twice.
+of each instant of a run (run17) what is entered twice. Of the 65,536 editions of a file of blocks (block17) only those that its blocks name
+are tried, from the highest down: no other is whole, which crates/blocks proves.
 """
 import argparse, collections, json, os, random, re, shutil, subprocess, sys, tempfile, time
 from pathlib import Path
 
 ROOT = Path(__file__).resolve().parent.parent
-COPIED = ("codes", "esterel", "grammar", "starts")
-CRATES_TXT = "codes:\nesterel: codes\ngrammar: esterel\nstarts: esterel codes\ncontrol: starts grammar esterel codes\nvectors: starts grammar esterel codes\n"
+COPIED = ("codes", "esterel", "grammar", "starts", "blocks")
+CRATES_TXT = "codes:\nesterel: codes\ngrammar: esterel\nstarts: esterel codes\nblocks: esterel codes bytes\n" + "".join(
+    f"{name}: blocks starts grammar esterel codes\n" for name in ("control", "vectors"))
 
 # ---- the theorems in antt
 
@@ -45,6 +47,8 @@ use Rattle.grammar.specs.Tokens.{tokens}
 use Rattle.grammar.specs.Meaning.{verdictOfTree}
 use Rattle.grammar.specs.Machine as M
 use Rattle.starts.specs.Ticks.{Leads}
+use Rattle.blocks.specs.Editions as B
+use Rattle.blocks.specs.Fetching as F
 
 pub data Shown : Type 0 where
   ok : (n d planned : ℕ) (lines : List Line) → Shown
@@ -246,6 +250,21 @@ onward p (answers ∷ steps) held = instantsOf p (resume 0 p held answers) (onwa
 abbrev pub runOf : Verdict → (first : List ℕ) (steps : List (List ℕ)) → Shown
 runOf (refused number node) first steps = refusal number node
 runOf (passed p) first steps = went (map mark (placesOf p)) (instantsOf p (start 0 p first) (onward p steps))
+
+-- a fetch with a lent table that is long enough: the first of some editions that is whole
+abbrev pub firstWhole : (file : List ℕ) (program : ℕ) (editions : List ℕ) → Option ℕ
+firstWhole file p [] = none
+firstWhole file p (e ∷ es) = cond (B.whole file p e) (some e) (firstWhole file p es)
+
+abbrev pub fetchedAs : F.Outcome → Shown
+fetchedAs (F.found e m t) = written t
+fetchedAs (F.refused number) = refusal number 0
+
+abbrev pub fetchOf : (file : List ℕ) (program : ℕ) (editions : List ℕ) → Shown
+fetchOf file p es = fetchedAs (cond (B.fileFits file) (F.checkEdition file p (firstWhole file p es)) (F.refused 17))
+
+abbrev pub partOf : (file : List ℕ) (program edition part : ℕ) → Shown
+partOf file p e k = written (B.contentOf file (F.handed file p e k))
 """
 HEAD = """
 use mathlib.Core.Path.{_≡_, refl}
@@ -254,8 +273,12 @@ use Rattle.esterel.specs.Codes.{word}
 use Rattle.esterel.specs.Checks.{verdict, line}
 use Rattle.esterel.specs.Instant.{started, resumed}
 use Rattle.grammar.specs.Tokens.{tokens, classOf}
-use Rattle.CRATE.proofs.Calls.{shown, figures, call, readText, tickWith, firstTick, runOf, ok, ran, written, tick, went, refusal}
+use Rattle.CRATE.proofs.Calls.{shown, figures, call, readText, tickWith, firstTick, runOf, fetchOf, partOf, ok, ran, written, tick, went, refusal}
+use Rattle.blocks.specs.Block.{word as wordOf, firstCheck, secondCheck, checksMatch, lengthFits, zeroFilled, good}
+use Rattle.blocks.specs.Editions.{fileFits, blocksIn, blockAt, isFor, counted, partsOf, completes, whole, tableOf}
+use Rattle.blocks.specs.Fetching.{handed}
 """
+UNFOLDING = "unfolding word tokens classOf wordOf firstCheck secondCheck checksMatch lengthFits zeroFilled good fileFits blocksIn blockAt isFor counted partsOf completes whole tableOf handed"
 Theorem = collections.namedtuple("Theorem", "name left right")  # left: a call of the definitions; right: what is expected
 
 refused = "refusal {} {}".format  # number, node
@@ -323,6 +346,22 @@ def entered_twice(marks, twice):
 def run_theorem(at, vector):
     steps = [bytes.fromhex(answers) for answers in vector["steps"]]
     return Theorem(f"run{at}", ran_through(bytes.fromhex(vector["table"]), steps), entered_twice(bytes.fromhex(vector["marks"]), vector["twice"]))
+
+def fetch_of(file, program):
+    editions = {int.from_bytes(file[block + 2 : block + 4], "little") for block in range(0, len(file), 512)}
+    return f"fetchOf {a_list(file)} {program} {a_list(sorted(editions, reverse=True))}"
+
+def part_of(file, program, edition, part):
+    return f"partOf {a_list(file)} {program} {edition} {part}"
+
+def block_theorem(at, vector):
+    file, program = bytes.fromhex(vector["file"]), vector["program"]
+    left = part_of(file, program, vector["edition"], vector["part"]) if "part" in vector else fetch_of(file, program)
+    if "refused" in vector:
+        right = refused(vector["refused"], vector["node"])
+    else:
+        right = "written " + a_list(bytes.fromhex(vector["content" if "part" in vector else "table"]))
+    return Theorem(f"block{at}", left, right)
 
 def vectors(file, wanted, chance, theorem):
     numbered = list(enumerate(file.read_text().splitlines(), 1))
@@ -438,12 +477,41 @@ INSTANTS = [  # mode, table, state, answers
     ("resumed", LOCK_62, held(69, 0, 2), [], ran(1, 0, 70 + 67, held(69, 0, 2), [])),
 ]
 
+def a_block(program, edition, part, parts, content, used=None, filler=0, seals=lambda *checks: checks):
+    two = lambda number: list(number.to_bytes(2, "little"))
+    block = two(program) + two(edition) + [part, parts] + two(len(content) if used is None else used) + content + [filler] * (502 - len(content))
+    running = [sum(block[: i + 1]) % 255 for i in range(len(block))]
+    return block + list(seals(running[-1], sum(running) % 255))
+
+FULL, SHORT_BLOCK = a_block(7, 2, 0, 2, [5] * 502), a_block(7, 2, 1, 2, [9, 8])
+ZERO = a_block(0, 0, 0, 1, [253])  # its first check byte is 0, since 1 + 1 + 253 is 255
+FETCHES = [  # program 7 unless another is named; what is expected was worked out by hand from F-4 of document 02
+    (FULL + SHORT_BLOCK, [5] * 502 + [9, 8]), (SHORT_BLOCK + FULL, [5] * 502 + [9, 8]), (FULL, 18), (SHORT_BLOCK, 18), ([], 18), ([0] * 511, 17), ([0] * 512, 18),
+    (FULL + a_block(7, 2, 1, 3, [9]), 18), (a_block(7, 2, 0, 2, [5] * 501) + SHORT_BLOCK, 18), (FULL + SHORT_BLOCK + a_block(7, 2, 2, 9, [1]), [5] * 502 + [9, 8]),
+    (a_block(7, 0, 0, 1, [4]) + a_block(7, 0, 0, 1, [3]), [3]), (a_block(7, 0, 0, 1, [4]) + a_block(7, 0, 0, 1, [3], seals=lambda a, b: (a + 1, b)), [4]),
+    (a_block(7, 1, 0, 1, [4]) + a_block(7, 1, 0, 2, [3]), 18), (a_block(7, 1, 0, 1, [4]) + a_block(7, 256, 0, 1, [3]), [3]), (a_block(8, 1, 0, 1, [4]), 18),
+    (a_block(7, 1, 0, 0, [4]), 18), (a_block(7, 1, 0, 1, [], used=0), 18), (a_block(7, 1, 0, 1, [1] * 502, used=503), 18), (a_block(7, 1, 0, 1, [4], filler=1), 18),
+    (sum((a_block(7, 1, part, 5, [6] * 502) for part in range(4)), []) + a_block(7, 1, 4, 5, [6] * 40), [6] * 2048),
+    (sum((a_block(7, 1, part, 5, [6] * 502) for part in range(4)), []) + a_block(7, 1, 4, 5, [6] * 41) + a_block(7, 0, 0, 1, [3]), 1),
+]
+PARTS = [  # program, edition and part follow the file
+    (FULL, 7, 2, 0, [5] * 502), (SHORT_BLOCK, 7, 2, 1, [9, 8]), (SHORT_BLOCK, 7, 2, 0, []), (SHORT_BLOCK[:511], 7, 2, 1, []),
+    (ZERO, 0, 0, 0, [253]), (ZERO[:510] + [255] + ZERO[511:], 0, 0, 0, []),
+]
+
+def block_edges():
+    for file, right in FETCHES:
+        yield fetch_of(bytes(file), 7), refused(right, 0) if isinstance(right, int) else "written " + a_list(right)
+    for file, *numbers, right in PARTS:
+        yield part_of(file, *numbers), "written " + a_list(right)
+
 def edge_theorems():
     edges = [(verdict(table, "figures"), refused(*key)) for key, tables in REFUSED.items() for table in tables]
     edges += [(verdict(table, "figures"), ok(*key)) for key, tables in ACCEPTED.items() for table in tables]
     edges += [(verdict(table), right) for table, right in LISTINGS] + [(call(*lent), right) for *lent, right in INSTANTS] + list(text_edges())
     edges += [(f"firstTick {a_list(table)} {len(key)}", f"tick {key[0]} {a_list(key[1:])}") for key, tables in TICKS.items() for table in tables]
     edges += [(ran_through(*lent), entered_twice(*right)) for *lent, right in ((table, steps, right) for table, steps, *right in RUNS)]
+    edges += block_edges()
     return [Theorem(f"edge{at}", *edge) for at, edge in enumerate(edges, 1)]
 
 TEXTS = [  # what is expected was worked out by hand from F-1 of document 02
@@ -473,6 +541,8 @@ def control_theorems():
     edges += [("firstTick (1 ∷ 0 ∷ 2 ∷ 0 ∷ 6 ∷ 5 ∷ 8 ∷ 0 ∷ []) 2", f"tick {right}") for right in ("3 []", "3 (0 ∷ [])", "2 (1 ∷ [])")]
     edges += [(ran_through(LOCK, [[], []]), entered_twice(marks, twice)) for marks, twice in
               (([1, 0, 1, 0, 1, 1, 1, 0], [[], [0, 1, 2, 4, 5, 6]]), ([1, 1, 1, 0, 1, 1, 1, 0], [[], [0, 2, 4, 5, 6]]), ([1, 1, 1, 0, 1, 1, 1, 0], [[]]))]
+    edges += [(fetch_of(bytes(FULL + SHORT_BLOCK), 7), right) for right in ("written " + a_list([5] * 502 + [9]), refused(18, 0))]
+    edges += [(part_of(SHORT_BLOCK, 7, 2, 1), "written " + a_list(right)) for right in ([9], [])]
     return [Theorem(f"control{at}", *edge) for at, edge in enumerate(edges)]
 
 # ---- the temporary repository
@@ -495,7 +565,7 @@ def write_crate(repo, name, theorems, a_file):
     texts = {"src/lib.rt": f"pub const THEOREMS: usize = {len(theorems)};\n", "proofs/Calls.antt": CALLS}
     texts["proofs/Lib.antt"] = "pub mod Calls\n" + "".join(f"pub mod Part{at}\n" for at in range(len(parts)))
     for at, part in enumerate(parts):
-        proofs = (f"\n{x.name} : {x.left} ≡ {x.right}\nunfolding word tokens classOf\n{x.name} = refl\n" for x in part)
+        proofs = (f"\n{x.name} : {x.left} ≡ {x.right}\n{UNFOLDING}\n{x.name} = refl\n" for x in part)
         texts[f"proofs/Part{at}.antt"] = HEAD.replace("CRATE", name) + "".join(proofs)
     for file, text in texts.items():
         (folder / file).parent.mkdir(parents=True, exist_ok=True)
@@ -534,13 +604,14 @@ def run(repo, args):
     texts = vectors(args.vectors / "text_open.jsonl", args.texts, chance, text_theorem)
     ticks = sum(vectors(args.vectors / "tick_open.jsonl", args.ticks, chance, lambda *vector: list(tick_theorems(*vector))), [])
     runs = vectors(args.vectors / "reentry_open.jsonl", args.runs, chance, run_theorem)
+    blocks = vectors(args.vectors / "blocks_open.jsonl", args.blocks, chance, block_theorem)
     edges, controls = edge_theorems(), control_theorems()
-    theorems = {x.name: x for x in edges + listings + instants + texts + ticks + runs}
+    theorems = {x.name: x for x in edges + listings + instants + texts + ticks + runs + blocks}
     copy_crates(repo, args.whole)
     write_crate(repo, "control", controls, 1)
     write_crate(repo, "vectors", list(theorems.values()), 250)
     (repo / "crates.txt").write_text(CRATES_TXT)
-    for what, some in (("listings", listings), ("instants", instants), ("texts", texts), ("ticks", ticks), ("runs", runs), ("edges", edges)):
+    for what, some in (("listings", listings), ("instants", instants), ("texts", texts), ("ticks", ticks), ("runs", runs), ("blocks", blocks), ("edges", edges)):
         tally(what, some)
 
     proved, refusals, said = check(repo, "control")
@@ -565,9 +636,10 @@ def main():
     parser.add_argument("--texts", type=int, metavar="N", help="likewise")
     parser.add_argument("--ticks", type=int, metavar="N", help="likewise")
     parser.add_argument("--runs", type=int, metavar="N", help="likewise")
+    parser.add_argument("--blocks", type=int, metavar="N", help="likewise")
     parser.add_argument("--seed", type=int, default=random.randrange(10**6), metavar="S")
     parser.add_argument("--keep", action="store_true", help="keep the temporary repository")
-    parser.add_argument("--whole", action="store_true", help="prove the three crates whole first; else their definitions and types alone are read")
+    parser.add_argument("--whole", action="store_true", help="prove the copied crates whole first; else their definitions and types alone are read")
     args = parser.parse_args()
     print(f"seed {args.seed}")
     repo = Path(tempfile.mkdtemp(prefix="definitions-"))

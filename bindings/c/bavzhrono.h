@@ -1,7 +1,8 @@
 /*
  * Bavzhrono: the checker and the runner of single instants for tables of pure Esterel, the reader
- * that makes such a table from text, and the finder of the tick in which a refused loop's body ends
- * at once, for C (C99) and C++. Link with libabi.a (x86-64), which needs nothing but the C library.
+ * that makes such a table from text, the finder of the tick in which a refused loop's body ends at
+ * once, and the fetcher of tables that are stored in blocks on the service partition, for C (C99)
+ * and C++. Link with libabi.a (x86-64), which needs nothing but the C library.
  *
  * The table
  *
@@ -47,6 +48,32 @@
  * declared again keeps its number. An exit means the nearest trap of its name around it. A trap
  * and a signal may have the same name.
  *
+ * The service partition
+ *
+ * A file, for bavzhrono_fetch and bavzhrono_part, is at most 64 blocks of 512 bytes:
+ *
+ *        bytes  what they say
+ *         0, 1  number of the program, lowest byte first
+ *         2, 3  edition, lowest byte first
+ *            4  part, from 0
+ *            5  number of parts
+ *         6, 7  used length, lowest byte first, 1 to 502
+ *     8 to 509  content: the used bytes, and zeros after them
+ *          510  first check byte: the sum of bytes 0 to 509, modulo 255
+ *          511  second check byte: the sum of all running values of that sum, modulo 255
+ *
+ * A running value is the sum up to one of the bytes 0 to 509, that byte included. A block with a
+ * bad check byte, used length or filler is passed over, and any other is good. Of two good blocks
+ * for one program, edition and part the later in the file counts.
+ *
+ * An edition is whole if part 0 names m parts, m at least 1, the parts 0 to m - 1 are all there and
+ * all name m, and all but the last use 502 bytes. A part from m on makes no difference. The highest
+ * whole edition of a program supersedes its others, and its parts, joined, are the table.
+ *
+ * A part is only as trustworthy as its check bytes. A change of one byte between 0 and 255 is not
+ * seen by them in the numbers (bytes 0 to 5) and in the used content; after any other change of one
+ * byte a good block is passed over.
+ *
  * Codes and sets
  *
  * Completion code 0 is ended, 1 is paused, 2 + level is an exit. A set of codes is a 64-bit number
@@ -61,7 +88,8 @@
  * After 0 the function's three values are in the first three entries of `answer`. After a refusal
  * no buffer has changed, `answer` among them. An `answer` of fewer than 3 entries is a buffer that
  * is too short, like any other: number 3, once checks 1 and 2 are passed, which bavzhrono_render
- * does not make. bavzhrono_read makes check 3 ahead of all others.
+ * and bavzhrono_part do not make. bavzhrono_read and bavzhrono_fetch make check 3 ahead of all
+ * others.
  *
  *     number  refused if                                                        names a node
  *          1  the table has more than 2,048 bytes (1,024 nodes)                 no
@@ -80,11 +108,14 @@
  *         14  the text has more than 16,384 bytes or is outside the grammar     no
  *         15  an exit of the text has no trap of its name around it             no
  *         16  the text has a 257th signal name                                  no
+ *         17  the file is not of whole blocks of 512 bytes or has more than 64  no
+ *         18  the program has no whole edition in the file                      no
  *
  * 4 to 6 are decided node by node: the first faulty node counts, with its lowest number. Each of
  * 8 to 11 covers the whole table before the next begins. 11 is not returned by bavzhrono_tick,
  * which shows the fault in its place. 12 is for bavzhrono_resume, 13 for it and bavzhrono_start,
- * and 14 to 16 are for bavzhrono_read: each covers the whole text before the next begins.
+ * and 14 to 16 are for bavzhrono_read: each covers the whole text before the next begins. 17 and 18
+ * are for bavzhrono_fetch, whose check 1 is of the parts, joined.
  *
  * Buffers
  *
@@ -120,6 +151,10 @@
 #define BAVZHRONO_MAX_SOURCE 16384
 /* The bytes of answers that bavzhrono_tick needs: any list fits. It is no limit of the instants. */
 #define BAVZHRONO_TICK_ANSWERS 512
+/* The bytes of a block on the service partition. */
+#define BAVZHRONO_BLOCK 512
+/* The most blocks of a file. */
+#define BAVZHRONO_MAX_BLOCKS 64
 /* The entries of an answer that are needed. */
 #define BAVZHRONO_ANSWER 3
 /* The number and the node of a returned value, each a uint32_t; 0 and 0 where nothing is refused. */
@@ -237,6 +272,35 @@ uint32_t bavzhrono_read(const uint8_t *text, size_t text_length,
  */
 uint32_t bavzhrono_tick(const uint8_t *table, size_t table_length,
                         uint8_t *answers, size_t answers_length,
+                        uint64_t *answer, size_t answer_length);
+
+/*
+ * The table of a program's highest whole edition in a file; checks 3, 17, 18 and 1, in this order.
+ *
+ * In:  the file, which may have other programs and editions too, and the number of the program.
+ * Out: table   2 * BAVZHRONO_MAX_NODES bytes needed, for a short table too: the edition's parts,
+ *              joined, at the front. The old bytes past them stay.
+ *      answer  (length of the table in bytes, edition, number of parts).
+ *
+ * An empty file is refused by 18. 1 is of the highest whole edition: no lower one stands in for it.
+ * The bytes are not checked as a table beyond that, which is left to the other functions.
+ */
+uint32_t bavzhrono_fetch(const uint8_t *file, size_t file_length, uint16_t program,
+                         uint8_t *table, size_t table_length,
+                         uint64_t *answer, size_t answer_length);
+
+/*
+ * Where in a file the used content of a part is.
+ *
+ * In:  the file, and the numbers of the program, the edition and the part.
+ * Out: answer  (from, length, 0): the content is file[from] to file[from + length - 1]. Nothing is
+ *              copied. (0, 0, 0) if no good block is for these numbers, or if the file is one that
+ *              17 refuses. Whether the edition is whole makes no difference.
+ *
+ * Returns 0 in these cases. The only refusal is 3, whatever the file: the answer is too short.
+ */
+uint32_t bavzhrono_part(const uint8_t *file, size_t file_length, uint16_t program,
+                        uint16_t edition, uint8_t part,
                         uint64_t *answer, size_t answer_length);
 
 #ifdef __cplusplus

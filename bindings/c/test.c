@@ -3,8 +3,8 @@
  *
  * The expected values are those that document 01 prints (Table W and its edges) or that its rules,
  * as F-5 and F-7 amend them, give by hand; the sets of W3 are those of the implementation in
- * compare/. The tables of texts and the lists of ticks are by hand, from F-1 and F-2 of document 02
- * and their readings.
+ * compare/. The tables of texts, the lists of ticks and what files of blocks give are by hand, from
+ * F-1, F-2 and F-4 of document 02 and their readings.
  */
 #include "bavzhrono.h"
 #include "bavzhrono.h" /* twice, for the include guard */
@@ -16,7 +16,7 @@
 #define FILL 0xA5
 #define SPARE 8
 #define NODE_ROOM (BAVZHRONO_MAX_NODES + SPARE)
-/* The bytes of the table that bavzhrono_read writes to. */
+/* The bytes of the table that bavzhrono_read and bavzhrono_fetch write to. */
 #define TABLE_NEED (2 * BAVZHRONO_MAX_NODES)
 
 /* All buffers that a call can write to. */
@@ -141,6 +141,18 @@ static uint32_t read_text(const char *text, size_t length, lengths lent)
 static uint32_t tick(const uint8_t *table, size_t length, lengths lent)
 {
     return bavzhrono_tick(table, length, actual.answers, lent.answers, actual.answer, lent.answer);
+}
+
+static uint32_t fetch(const uint8_t *bytes, size_t length, uint16_t program, lengths lent)
+{
+    return bavzhrono_fetch(bytes, length, program, actual.table, lent.table, actual.answer,
+                           lent.answer);
+}
+
+static uint32_t part_of(const uint8_t *bytes, size_t length, uint16_t program, uint16_t edition,
+                        uint8_t part, lengths lent)
+{
+    return bavzhrono_part(bytes, length, program, edition, part, actual.answer, lent.answer);
 }
 
 /* Accepted tables: the sets of each node. */
@@ -1072,6 +1084,502 @@ static void test_short_lists(void)
           bavzhrono_tick(w8, sizeof w8, actual.answers, sizeof actual.answers, NULL, 0), 3);
 }
 
+/* The service partition. Files of blocks are written by the functions below, from F-4. */
+
+/* The content counts up from its first byte, so that no two parts of a test are alike. */
+typedef struct {
+    uint16_t program, edition;
+    uint8_t part, parts;
+    uint16_t used;
+    uint8_t first;
+} block;
+
+#define MOST_USED 502
+#define MOST_BYTES ((size_t)BAVZHRONO_MAX_BLOCKS * BAVZHRONO_BLOCK)
+
+/* A file of the most blocks, and one more. */
+static uint8_t file[MOST_BYTES + BAVZHRONO_BLOCK];
+
+/* The sums have room for all bytes, so 255 need not be taken off on the way. */
+static void put_check_bytes(uint8_t *bytes)
+{
+    uint32_t sum = 0, running = 0;
+    for (size_t i = 0; i < 510; i++) {
+        sum += bytes[i];
+        running += sum;
+    }
+    bytes[510] = (uint8_t)(sum % 255);
+    bytes[511] = (uint8_t)(running % 255);
+}
+
+static size_t put_content(uint8_t *bytes, const block *written)
+{
+    for (size_t i = 0; i < written->used; i++)
+        bytes[i] = (uint8_t)(written->first + i);
+    return written->used;
+}
+
+static size_t put_block(uint8_t *bytes, const block *written)
+{
+    memset(bytes, 0, BAVZHRONO_BLOCK);
+    bytes[0] = (uint8_t)(written->program % 256);
+    bytes[1] = (uint8_t)(written->program / 256);
+    bytes[2] = (uint8_t)(written->edition % 256);
+    bytes[3] = (uint8_t)(written->edition / 256);
+    bytes[4] = written->part;
+    bytes[5] = written->parts;
+    bytes[6] = (uint8_t)(written->used % 256);
+    bytes[7] = (uint8_t)(written->used / 256);
+    put_content(bytes + 8, written);
+    put_check_bytes(bytes);
+    return BAVZHRONO_BLOCK;
+}
+
+static size_t put_file(const block *blocks, size_t count)
+{
+    for (size_t i = 0; i < count; i++)
+        put_block(file + i * BAVZHRONO_BLOCK, &blocks[i]);
+    return count * BAVZHRONO_BLOCK;
+}
+
+/* Files whose program 1 has a whole edition, and others. */
+
+typedef struct {
+    const char *name;
+    block blocks[5];
+    size_t count;
+    const char *joined; /* the table's blocks as digits; none where 18 refuses */
+} fetch_test;
+
+static const fetch_test fetch_tests[] = {
+    {"one part", {{1, 7, 0, 1, 8, 10}}, 1, "0"},
+    {"one byte", {{1, 7, 0, 1, 1, 10}}, 1, "0"},
+    {"one part of 502 bytes", {{1, 7, 0, 1, 502, 10}}, 1, "0"},
+    {"two parts", {{1, 7, 0, 2, 502, 10}, {1, 7, 1, 2, 1, 20}}, 2, "01"},
+    {"two parts of 502 bytes", {{1, 7, 0, 2, 502, 10}, {1, 7, 1, 2, 502, 20}}, 2, "01"},
+    {"parts in reversed order",
+     {{1, 7, 2, 3, 100, 10}, {1, 7, 1, 3, 502, 20}, {1, 7, 0, 3, 502, 30}}, 3, "210"},
+    {"parts among others",
+     {{2, 7, 1, 2, 9, 10}, {1, 7, 0, 2, 502, 20}, {1, 6, 1, 2, 9, 30}, {2, 7, 0, 2, 502, 40},
+      {1, 7, 1, 2, 9, 50}}, 5, "14"},
+    {"the later of two blocks", {{1, 7, 0, 1, 8, 10}, {1, 7, 0, 1, 6, 20}}, 2, "1"},
+    {"the later of two last parts",
+     {{1, 7, 1, 2, 8, 10}, {1, 7, 0, 2, 502, 20}, {1, 7, 1, 2, 9, 30}}, 3, "12"},
+    {"the later names fewer parts", {{1, 7, 0, 2, 502, 10}, {1, 7, 0, 1, 8, 20}}, 2, "1"},
+    {"18, the later names more parts", {{1, 7, 0, 1, 8, 10}, {1, 7, 0, 2, 502, 20}}, 2, ""},
+    {"18, the later is not full",
+     {{1, 7, 0, 2, 502, 10}, {1, 7, 1, 2, 8, 20}, {1, 7, 0, 2, 501, 30}}, 3, ""},
+    {"18, a part before the last is not full",
+     {{1, 7, 0, 3, 502, 10}, {1, 7, 1, 3, 501, 20}, {1, 7, 2, 3, 8, 30}}, 3, ""},
+    {"18, the last part is missing", {{1, 7, 0, 3, 502, 10}, {1, 7, 1, 3, 502, 20}}, 2, ""},
+    {"18, a part between is missing", {{1, 7, 0, 3, 502, 10}, {1, 7, 2, 3, 8, 20}}, 2, ""},
+    {"18, part 0 is missing", {{1, 7, 1, 2, 8, 10}}, 1, ""},
+    {"18, a part names more parts", {{1, 7, 0, 2, 502, 10}, {1, 7, 1, 3, 8, 20}}, 2, ""},
+    {"18, a part names fewer parts", {{1, 7, 0, 2, 502, 10}, {1, 7, 1, 1, 8, 20}}, 2, ""},
+    {"18, part 0 names no part", {{1, 7, 0, 0, 8, 10}}, 1, ""},
+    {"parts past their number",
+     {{1, 7, 0, 1, 8, 10}, {1, 7, 1, 1, 8, 20}, {1, 7, 255, 9, 8, 30}}, 3, "0"},
+    {"the highest edition",
+     {{1, 7, 0, 1, 8, 10}, {1, 9, 0, 1, 8, 20}, {1, 8, 0, 1, 8, 30}}, 3, "1"},
+    {"edition 256 after 255", {{1, 256, 0, 1, 8, 10}, {1, 255, 0, 1, 8, 20}}, 2, "0"},
+    {"edition 65,535", {{1, 65535, 0, 1, 8, 10}, {1, 0, 0, 1, 8, 20}}, 2, "0"},
+    {"edition 0", {{1, 0, 0, 1, 8, 10}}, 1, "0"},
+    {"a higher edition that is not whole", {{1, 7, 0, 1, 8, 10}, {1, 8, 0, 2, 502, 20}}, 2, "0"},
+    {"18, parts of two editions", {{1, 7, 0, 2, 502, 10}, {1, 8, 1, 2, 8, 20}}, 2, ""},
+    {"18, parts of two programs", {{1, 7, 0, 2, 502, 10}, {2, 7, 1, 2, 8, 20}}, 2, ""},
+    {"18, another program", {{2, 7, 0, 1, 8, 10}}, 1, ""},
+    {"18, program 256", {{256, 7, 0, 1, 8, 10}}, 1, ""},
+    {"18, program 257", {{257, 7, 0, 1, 8, 10}}, 1, ""},
+};
+
+static void run_fetch(const fetch_test *test, lengths lent, const char *call)
+{
+    size_t length = put_file(test->blocks, test->count), parts = strlen(test->joined), joined = 0;
+
+    for (size_t part = 0; part < parts; part++)
+        joined += put_content(expected.table + joined, &test->blocks[test->joined[part] - '0']);
+    if (parts != 0)
+        expect_answer(joined, test->blocks[test->joined[0] - '0'].edition, parts);
+    check(call, test->name, fetch(file, length, 1, lent), parts != 0 ? 0 : 18);
+}
+
+static void test_fetch_by_hand(void)
+{
+    for (size_t i = 0; i < sizeof fetch_tests / sizeof fetch_tests[0]; i++) {
+        run_fetch(&fetch_tests[i], needed(0, 0), "fetch");
+        run_fetch(&fetch_tests[i], spare(), "fetch, more lent");
+    }
+}
+
+/* Program numbers of two bytes. */
+static void test_fetch_programs(void)
+{
+    static const block blocks[] = {{0, 7, 0, 1, 3, 10},
+                                   {258, 7, 0, 1, 4, 20},
+                                   {513, 7, 0, 1, 5, 30},
+                                   {65535, 7, 0, 1, 6, 40}};
+    size_t length = put_file(blocks, 4);
+    char name[64];
+
+    for (size_t i = 0; i < 4; i++) {
+        expect_answer(put_content(expected.table, &blocks[i]), 7, 1);
+        sprintf(name, "program %u", (unsigned)blocks[i].program);
+        check("fetch", name, fetch(file, length, blocks[i].program, spare()), 0);
+    }
+}
+
+/* A block of W1 whose check bytes are by hand: it is fetched and then listed. */
+static void test_fetch_then_render(void)
+{
+    static const uint8_t front[] = {1, 0, 2, 0, 0, 1, 8, 0, 2, 0, 3, 7, 9, 0, 8, 0};
+    size_t length = strlen(w1_listing);
+
+    memset(file, 0, BAVZHRONO_BLOCK);
+    memcpy(file, front, sizeof front);
+    file[510] = 41;
+    file[511] = 110;
+    memcpy(expected.table, w1, sizeof w1);
+    expect_answer(sizeof w1, 2, 1);
+    check("fetch", "W1", fetch(file, BAVZHRONO_BLOCK, 1, spare()), 0);
+
+    if (fetch(file, BAVZHRONO_BLOCK, 1, spare()) != 0)
+        report(0, "fetch", "a table that is listed then");
+    memcpy(expected.table, w1, sizeof w1);
+    memcpy(expected.text, w1_listing, length);
+    expect_answer(length, 0, 0);
+    check("render", "a table that was fetched",
+          render(actual.table, (size_t)actual.answer[0], spare()), 0);
+}
+
+/* Long tables. */
+
+/* The part of program 1's edition that has so many bytes in all. */
+static block part_of_edition(uint16_t edition, size_t length, size_t part)
+{
+    size_t parts = (length + MOST_USED - 1) / MOST_USED, rest = length - part * MOST_USED;
+    size_t used = rest < MOST_USED ? rest : MOST_USED;
+    uint8_t first = (uint8_t)(edition + 7 * part);
+    block one = {1, edition, (uint8_t)part, (uint8_t)parts, (uint16_t)used, first};
+    return one;
+}
+
+static size_t put_edition(uint8_t *bytes, uint16_t edition, size_t length)
+{
+    size_t written = 0;
+    for (size_t part = 0; part * MOST_USED < length; part++) {
+        block one = part_of_edition(edition, length, part);
+        written += put_block(bytes + written, &one);
+    }
+    return written;
+}
+
+static void expect_edition(uint16_t edition, size_t length)
+{
+    size_t parts = 0, joined = 0;
+    for (; joined < length; parts++) {
+        block one = part_of_edition(edition, length, parts);
+        joined += put_content(expected.table + joined, &one);
+    }
+    expect_answer(length, edition, parts);
+}
+
+static void test_fetch_edges(void)
+{
+    static const size_t table_lengths[] = {503, 1004, 1005, 2008, 2009, 2047, 2048};
+    char name[64];
+    size_t length, lower;
+
+    for (size_t i = 0; i < sizeof table_lengths / sizeof table_lengths[0]; i++) {
+        sprintf(name, "%u bytes", (unsigned)table_lengths[i]);
+        length = put_edition(file, 7, table_lengths[i]);
+        expect_edition(7, table_lengths[i]);
+        check("fetch", name, fetch(file, length, 1, needed(0, 0)), 0);
+    }
+    check("fetch", "1, 2,049 bytes", fetch(file, put_edition(file, 7, 2049), 1, spare()), 1);
+    check("fetch", "1, 5 full parts", fetch(file, put_edition(file, 7, 2510), 1, spare()), 1);
+    length = put_edition(file, 7, BAVZHRONO_MAX_BLOCKS * MOST_USED);
+    check("fetch", "1, 64 full parts", fetch(file, length, 1, spare()), 1);
+    length -= BAVZHRONO_BLOCK;
+    check("fetch", "18, 63 of 64 full parts", fetch(file, length, 1, spare()), 18);
+
+    lower = put_edition(file, 7, 2048);
+    length = lower + put_edition(file + lower, 8, 2049);
+    check("fetch", "1, above a shorter edition", fetch(file, length, 1, spare()), 1);
+    expect_edition(7, 2048);
+    check("fetch", "below a longer edition that is not whole",
+          fetch(file, length - BAVZHRONO_BLOCK, 1, spare()), 0);
+    length = put_edition(file, 7, 2049);
+    length += put_edition(file + length, 8, 2048);
+    expect_edition(8, 2048);
+    check("fetch", "above a longer edition", fetch(file, length, 1, spare()), 0);
+}
+
+/* Blocks that are passed over, since some bits of one byte are turned over. */
+
+typedef struct {
+    const char *name;
+    uint16_t used;
+    uint8_t first;
+    size_t at;
+    uint8_t bits;
+    int checked; /* 1 if the check bytes are then written anew, so that they are no reason */
+} damage;
+
+static const damage damages[] = {
+    {"used length 0", 1, 0, 6, 1, 1},
+    {"used length 503", 502, 20, 6, 1, 1},
+    {"used length 520", 8, 20, 7, 2, 1},
+    {"the first byte of filler", 8, 20, 16, 1, 1},
+    {"the last byte of filler", 8, 20, 509, 1, 1},
+    {"the last byte of filler is 255", 8, 20, 509, 255, 0},
+    {"one byte of filler", 501, 20, 509, 1, 1},
+    {"the first check byte", 8, 20, 510, 1, 0},
+    {"the second check byte", 8, 20, 511, 1, 0},
+    {"a number", 8, 20, 2, 1, 0},
+    {"the content", 8, 20, 8, 1, 0},
+};
+
+static void put_damaged(uint8_t *bytes, const damage *done)
+{
+    block one = {1, 8, 0, 1, done->used, done->first};
+    put_block(bytes, &one);
+    bytes[done->at] ^= done->bits;
+    if (done->checked)
+        put_check_bytes(bytes);
+}
+
+/* A good block for the given edition, and the damaged one of edition 8 after it. */
+static void test_after_good(const damage *done, uint16_t edition, const char *where)
+{
+    block good = {1, edition, 0, 1, 9, 50};
+    char name[64];
+
+    put_damaged(file + put_block(file, &good), done);
+    sprintf(name, "%s, %s", done->name, where);
+    expect_answer(put_content(expected.table, &good), edition, 1);
+    check("fetch", name, fetch(file, 2 * BAVZHRONO_BLOCK, 1, spare()), 0);
+    expect_answer(8, 9, 0);
+    check("part", name, part_of(file, 2 * BAVZHRONO_BLOCK, 1, edition, 0, spare()), 0);
+}
+
+static void test_passed_over(void)
+{
+    for (size_t i = 0; i < sizeof damages / sizeof damages[0]; i++) {
+        put_damaged(file, &damages[i]);
+        check("fetch", damages[i].name, fetch(file, BAVZHRONO_BLOCK, 1, spare()), 18);
+        expect_answer(0, 0, 0);
+        check("part", damages[i].name, part_of(file, BAVZHRONO_BLOCK, 1, 8, 0, spare()), 0);
+        test_after_good(&damages[i], 7, "in a higher edition");
+        test_after_good(&damages[i], 8, "after a good block");
+    }
+}
+
+/* A block whose check bytes are both 0, by hand. No sum modulo 255 is 255. */
+static void test_255_for_0(void)
+{
+    static const uint8_t front[] = {0, 0, 0, 0, 0, 1, 2, 0, 245, 7};
+
+    memset(file, 0, BAVZHRONO_BLOCK);
+    memcpy(file, front, sizeof front);
+    memcpy(expected.table, front + 8, 2);
+    expect_answer(2, 0, 1);
+    check("fetch", "check bytes of 0", fetch(file, BAVZHRONO_BLOCK, 0, spare()), 0);
+    file[510] = 255;
+    check("fetch", "18, 255 for the first", fetch(file, BAVZHRONO_BLOCK, 0, spare()), 18);
+    file[511] = 255;
+    check("fetch", "18, 255 for both", fetch(file, BAVZHRONO_BLOCK, 0, spare()), 18);
+    file[510] = 0;
+    check("fetch", "18, 255 for the second", fetch(file, BAVZHRONO_BLOCK, 0, spare()), 18);
+}
+
+/* Whether the one block of the file counts for the numbers that it has. */
+static int is_good(void)
+{
+    uint16_t program = (uint16_t)(file[0] + 256 * file[1]);
+    uint16_t edition = (uint16_t)(file[2] + 256 * file[3]);
+    uint32_t returned = part_of(file, BAVZHRONO_BLOCK, program, edition, file[4], spare());
+    return returned == 0 && actual.answer[1] != 0;
+}
+
+/* Each byte of a good block is given each other value: the block is passed over, but for 0 and 255
+   in the numbers and in the used content. */
+static void test_change_of_one_byte(const char *name, uint16_t used)
+{
+    block one = {255, 255, 0, 255, used, 250};
+    int passed = 1;
+
+    put_block(file, &one);
+    for (size_t at = 0; at < BAVZHRONO_BLOCK; at++) {
+        const int old = file[at];
+        int seen = (at >= 6 && at < 8) || at >= 8 + (size_t)used;
+        for (int value = 0; value < 256; value++) {
+            int between = (old == 0 && value == 255) || (old == 255 && value == 0);
+            file[at] = (uint8_t)value;
+            passed = passed && is_good() == (value == old || (between && !seen));
+        }
+        file[at] = (uint8_t)old;
+    }
+    report(passed, "a change of one byte", name);
+    prepare();
+}
+
+/* Files of other lengths than whole blocks, or of more than 64. Program 1 has a part in the first
+   block, program 2 in the 64th and program 3 in the 65th. */
+
+static void put_long_file(void)
+{
+    static const block first = {1, 7, 0, 1, 8, 10}, last = {2, 7, 0, 1, 8, 20},
+                       beyond = {3, 7, 0, 1, 8, 30};
+
+    memset(file, 0, sizeof file);
+    put_block(file, &first);
+    put_block(file + MOST_BYTES - BAVZHRONO_BLOCK, &last);
+    put_block(file + MOST_BYTES, &beyond);
+}
+
+static void test_file_refused(const char *name, size_t length)
+{
+    char without[64];
+
+    sprintf(without, "%s, no whole edition", name);
+    check("fetch", name, fetch(file, length, 1, spare()), 17);
+    check("fetch", without, fetch(file, length, 4, spare()), 17);
+    expect_answer(0, 0, 0);
+    check("part", name, part_of(file, length, 1, 7, 0, spare()), 0);
+}
+
+static void test_file_lengths(void)
+{
+    static const block last = {2, 7, 0, 1, 8, 20};
+
+    put_long_file();
+    expect_answer(put_content(expected.table, &last), 7, 1);
+    check("fetch", "64 blocks", fetch(file, MOST_BYTES, 2, spare()), 0);
+    check("fetch", "18, 63 blocks", fetch(file, MOST_BYTES - BAVZHRONO_BLOCK, 2, spare()), 18);
+    check("fetch", "18, no block", fetch(file, 0, 1, spare()), 18);
+    check("fetch", "18, NULL", fetch(NULL, 0, 1, spare()), 18);
+    test_file_refused("17, 65 blocks", MOST_BYTES + BAVZHRONO_BLOCK);
+    test_file_refused("17, a byte more than 64 blocks", MOST_BYTES + 1);
+    test_file_refused("17, a byte less than 64 blocks", MOST_BYTES - 1);
+    test_file_refused("17, a byte more than a block", BAVZHRONO_BLOCK + 1);
+    test_file_refused("17, a byte less than a block", BAVZHRONO_BLOCK - 1);
+    test_file_refused("17, a block and a half", BAVZHRONO_BLOCK + BAVZHRONO_BLOCK / 2);
+    test_file_refused("17, one byte", 1);
+}
+
+/* The place of a part. */
+
+typedef struct {
+    const char *name;
+    uint16_t program, edition;
+    uint8_t part;
+    uint64_t at, length; /* the number of the block and the used length; both 0 for an empty part */
+} part_test;
+
+static const part_test part_tests[] = {
+    {"the first block", 1, 7, 0, 0, 8},
+    {"the last block, which names no parts", 65535, 65535, 255, 63, 502},
+    {"an edition that is not whole", 1, 8, 1, 1, 502},
+    {"the later of two blocks before a bad one", 1, 9, 0, 3, 1},
+    {"an edition that is superseded", 1, 6, 0, 6, 7},
+    {"passed over", 1, 10, 0, 0, 0},
+    {"missing, the part", 1, 7, 1, 0, 0},
+    {"missing, the edition", 1, 5, 0, 0, 0},
+    {"missing, the program", 3, 7, 0, 0, 0},
+    {"missing, the program's bytes exchanged", 256, 7, 0, 0, 0},
+    {"missing, the edition's bytes exchanged", 1, 1792, 0, 0, 0},
+    {"missing, the numbers of an empty block", 0, 0, 0, 0, 0},
+};
+
+/* Blocks 4 and 5 are bad, those from 7 to 62 are empty. */
+static size_t put_parts(void)
+{
+    static const block blocks[] = {{1, 7, 0, 1, 8, 10}, {1, 8, 1, 3, 502, 20}, {1, 9, 0, 1, 8, 30},
+                                   {1, 9, 0, 1, 1, 40}, {1, 9, 0, 1, 5, 50},   {1, 10, 0, 1, 5, 60},
+                                   {1, 6, 0, 1, 7, 70}};
+    static const block last = {65535, 65535, 255, 0, 502, 80};
+
+    memset(file, 0, sizeof file);
+    put_file(blocks, sizeof blocks / sizeof blocks[0]);
+    file[4 * BAVZHRONO_BLOCK + 510] ^= 1;
+    file[5 * BAVZHRONO_BLOCK + 511] ^= 1;
+    put_block(file + 63 * BAVZHRONO_BLOCK, &last);
+    return MOST_BYTES;
+}
+
+static void test_parts(void)
+{
+    size_t whole = put_parts();
+    lengths lent[2] = {needed(0, 0), spare()};
+
+    for (size_t i = 0; i < sizeof part_tests / sizeof part_tests[0]; i++) {
+        const part_test *test = &part_tests[i];
+        for (int more = 0; more < 2; more++) {
+            uint64_t from = test->length == 0 ? 0 : test->at * BAVZHRONO_BLOCK + 8;
+            expect_answer(from, test->length, 0);
+            check(more ? "part, more lent" : "part", test->name,
+                  part_of(file, whole, test->program, test->edition, test->part, lent[more]), 0);
+        }
+    }
+    expect_answer(0, 0, 0);
+    check("part", "no block", part_of(file, 0, 1, 7, 0, spare()), 0);
+    expect_answer(0, 0, 0);
+    check("part", "NULL", part_of(NULL, 0, 1, 7, 0, spare()), 0);
+}
+
+/* Check 3 comes first, whatever the file, and is the only one that a part can be refused by. */
+static void test_fetch_to_short(const char *file_name, size_t length)
+{
+    static const size_t short_tables[] = {0, 1, 8, TABLE_NEED - 1};
+    char name[64];
+
+    for (size_t i = 0; i < sizeof short_tables / sizeof short_tables[0]; i++) {
+        lengths lent = spare();
+        lent.table = short_tables[i];
+        sprintf(name, "table of %u, %s", (unsigned)lent.table, file_name);
+        check("fetch", name, fetch(file, length, 1, lent), 3);
+    }
+    for (size_t entries = 0; entries < BAVZHRONO_ANSWER; entries++) {
+        lengths lent = spare();
+        lent.answer = entries;
+        sprintf(name, "answer of %u, %s", (unsigned)entries, file_name);
+        check("fetch", name, fetch(file, length, 1, lent), 3);
+        check("part", name, part_of(file, length, 1, 7, 0, lent), 3);
+    }
+}
+
+static void test_fetch_to_short_buffers(void)
+{
+    test_fetch_to_short("2,049 bytes", put_edition(file, 7, 2049));
+    put_long_file();
+    test_fetch_to_short("a good file", MOST_BYTES);
+    test_fetch_to_short("no block", 0);
+    test_fetch_to_short("a cut file", BAVZHRONO_BLOCK - 1);
+    test_fetch_to_short("65 blocks", MOST_BYTES + BAVZHRONO_BLOCK);
+    check("fetch", "table NULL",
+          bavzhrono_fetch(file, MOST_BYTES, 1, NULL, 0, actual.answer, BAVZHRONO_ANSWER), 3);
+    check("fetch", "answer NULL",
+          bavzhrono_fetch(file, MOST_BYTES, 1, actual.table, sizeof actual.table, NULL, 0), 3);
+    check("part", "answer NULL", bavzhrono_part(file, MOST_BYTES, 1, 7, 0, NULL, 0), 3);
+    check("fetch", "all NULL", bavzhrono_fetch(NULL, 0, 1, NULL, 0, NULL, 0), 3);
+    check("part", "all NULL", bavzhrono_part(NULL, 0, 1, 7, 0, NULL, 0), 3);
+}
+
+static void test_blocks(void)
+{
+    test_fetch_by_hand();
+    test_fetch_programs();
+    test_fetch_then_render();
+    test_fetch_edges();
+    test_passed_over();
+    test_255_for_0();
+    test_change_of_one_byte("256 bytes used", 256);
+    test_change_of_one_byte("255 bytes used", 255);
+    test_file_lengths();
+    test_parts();
+    test_fetch_to_short_buffers();
+}
+
 int main(void)
 {
     prepare();
@@ -1103,5 +1611,6 @@ int main(void)
     test_ticks_of_edges();
     test_read_then_tick();
     test_short_lists();
+    test_blocks();
     return failures != 0;
 }

@@ -24,7 +24,7 @@ two_pass() { # CASE, of which only an analysis has this side
     esac
 }
 
-echo "| case | ours | compare | ours/compare | two-pass | ours/two-pass | ours, a node, an entry or a byte | compare, a node, an entry or a byte |"
+echo "| case | ours | compare | ours/compare | two-pass | ours/two-pass | ours, a node, an entry, a byte or a block | compare, a node, an entry, a byte or a block |"
 echo "|---|---:|---:|---:|---:|---:|---:|---:|"
 "$bench" --list | grep -e "${1:-}" | while read -r case units; do
     echo "$case $units $(a_call "$case" ours) $(a_call "$case" compare) $(two_pass "$case")"

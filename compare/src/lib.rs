@@ -1,14 +1,15 @@
 //! Statement tables of pure Esterel, read from documents 01 and 02 alone: all of
 //! document 01, as F-5 and F-7 of document 02 amend it, the programs as text of F-1,
-//! and the ticks of F-2.
+//! the ticks of F-2, and the blocks of F-4.
 //!
 //! The specification is in `table`, `checks`, `sets`, `analysis`, `listing`,
-//! `instant`, `text` and `tick`. What F-6 says of runs is for tests to try: `reentry` and
-//! `account` tell what is entered again in an instant. `support` serves the tests and the
-//! generators.
+//! `instant`, `text`, `tick` and `blocks`. What F-6 says of runs is for tests to try:
+//! `reentry` and `account` tell what is entered again in an instant. `support` serves the
+//! tests and the generators.
 
 pub mod account;
 pub mod analysis;
+pub mod blocks;
 pub mod checks;
 pub mod instant;
 pub mod listing;
@@ -20,6 +21,7 @@ pub mod text;
 pub mod tick;
 
 pub use analysis::{analyse, Sets};
+pub use blocks::{fetch, part, Fetched};
 pub use instant::{resume, resume_with_trail, start, start_with_trail, Closed, Entry, How};
 pub use listing::listing;
 pub use text::read;

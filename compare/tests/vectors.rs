@@ -4,9 +4,11 @@ use std::path::PathBuf;
 
 use compare::support::cases::Call;
 use compare::support::programs::traps_around;
-use compare::support::vectors::{directory, read_instants, read_listings, read_texts};
+use compare::support::vectors::{
+    directory, read_blocks, read_instants, read_listings, read_texts, BlockOutcome,
+};
 use compare::table::{self, Statement};
-use compare::{listing, read, resume_with_trail, start_with_trail};
+use compare::{fetch, listing, part, read, resume_with_trail, start_with_trail, Refusal};
 
 /// A test without its file fails, so that none passes unseen.
 fn vector_file(name: &str) -> PathBuf {
@@ -171,21 +173,64 @@ fn texts() {
     let vectors = read_texts(&vector_file("text_open.jsonl"));
     assert!(!vectors.is_empty());
     for (line, vector) in vectors.iter().enumerate() {
-        let before: Vec<u8> = (0..2048 + line % 8).map(|at| !(at as u8)).collect();
-        let mut lent = before.clone();
+        let mut lent = lent_table(line);
         let answer = read(&vector.text, &mut lent);
-        let (written, kept) = match (&vector.outcome, answer) {
-            (Ok((table, signals)), Ok(sizes)) => {
-                assert_eq!(sizes, (table.len() / 2, *signals), "line {}", line + 1);
-                (&table[..], &before[table.len()..])
-            }
-            (Err(expected), Err(refusal)) => {
-                assert_eq!(refusal, *expected, "line {}", line + 1);
-                (&[][..], &before[..])
-            }
-            (_, answer) => panic!("line {}: {answer:?}", line + 1),
-        };
-        assert_eq!(lent, [written, kept].concat(), "line {}", line + 1);
+        let expected = vector.outcome.as_ref();
+        let sizes = expected.map(|(table, signals)| (table.len() / 2, *signals));
+        assert_eq!(
+            answer,
+            sizes.map_err(|refusal| *refusal),
+            "line {}",
+            line + 1
+        );
+        check_lent(line, &lent, expected.map(|(table, _)| table));
     }
     println!("{} texts", vectors.len());
+}
+
+fn lent_table(line: usize) -> Vec<u8> {
+    (0..2048 + line % 8).map(|at| !(at as u8)).collect()
+}
+
+/// The table is written to the front of the lent one, and nothing else is.
+fn check_lent(line: usize, lent: &[u8], expected: Result<&Vec<u8>, &Refusal>) {
+    let table = expected.map_or(&[][..], |table| table);
+    let before = lent_table(line);
+    let after = [table, &before[table.len()..]].concat();
+    assert_eq!(lent, after, "line {}", line + 1);
+}
+
+#[test]
+fn blocks() {
+    let vectors = read_blocks(&vector_file("blocks_open.jsonl"));
+    assert_eq!(vectors.len(), 600);
+    for (line, vector) in vectors.iter().enumerate() {
+        let (file, program) = (&vector.file[..], vector.program);
+        match &vector.outcome {
+            BlockOutcome::Table(expected) => {
+                let mut lent = lent_table(line);
+                let answer = fetch(file, program, &mut lent);
+                let expected = expected.as_ref();
+                let length = expected
+                    .map(|table| table.len())
+                    .map_err(|refusal| *refusal);
+                assert_eq!(
+                    answer.map(|fetched| fetched.length),
+                    length,
+                    "line {}",
+                    line + 1
+                );
+                check_lent(line, &lent, expected);
+            }
+            BlockOutcome::Part {
+                edition,
+                part: number,
+                content,
+            } => {
+                let answer = part(file, program, *edition, *number);
+                assert_eq!(answer, content, "line {}", line + 1);
+            }
+        }
+    }
+    println!("{} calls on blocks", vectors.len());
 }

@@ -1,6 +1,7 @@
 //! Tables of pure Esterel: the proved checker and the proved runner of single instants, the proved
-//! reader that makes a table from text, and the proved finder of the tick in which a refused loop's
-//! body ends at once.
+//! reader that makes a table from text, the proved finder of the tick in which a refused loop's
+//! body ends at once, and the proved fetcher of tables that are stored in blocks on the service
+//! partition.
 //!
 //! A table has two bytes a node, kind then field, children before parents. Nodes are numbered
 //! from 0, and the last is the whole program. Below, n is the number of nodes, half the table's
@@ -20,11 +21,12 @@
 //! | 10 | parallel | 2: left, right | 0 |
 //! | 11 | trap | 1 | 0 |
 //!
-//! [`analyse`], [`start`], [`resume`], [`render`], [`read`] and [`tick`] write to buffers that the
-//! caller lends, and allocate nothing. A buffer may be longer than needed: what lies past the needed
-//! length is neither looked at nor changed. A refused call changes no buffer. [`Sets::of`],
-//! [`listing`], [`table_of`] and [`Fault::of`] bring their own buffers. The calls keep no state, and
-//! any number of threads may make them at once; [`raw`] has the exported functions as they are. How
+//! [`analyse`], [`start`], [`resume`], [`render`], [`read`], [`tick`] and [`fetch`] write to
+//! buffers that the caller lends, and allocate nothing. A buffer may be longer than needed: what
+//! lies past the needed length is neither looked at nor changed. A refused call changes no buffer.
+//! [`Sets::of`], [`listing`], [`table_of`], [`Fault::of`] and [`table_in`] bring their own buffers.
+//! [`part`] needs none: it hands back a part of the lent file. The calls keep no state, and any
+//! number of threads may make them at once; [`raw`] has the exported functions as they are. How
 //! much stack they need, [`read`] the most, is said in the header for C, `bindings/c/bavzhrono.h`.
 //!
 //! A loop of pause and emit 7, analysed and run for two instants:
@@ -86,11 +88,31 @@
 //! assert_eq!(fault.answers, [1, 1]);
 //! # Ok::<(), bavzhrono::Refusal>(())
 //! ```
+//!
+//! A table in a block of the service partition:
+//!
+//! ```
+//! use bavzhrono::{part, table_in, Sets, BLOCK};
+//!
+//! // Program 1, edition 2, part 0 of 1, of which 8 bytes are used, and the two check bytes.
+//! let mut file = [0; BLOCK];
+//! file[..8].copy_from_slice(&[1, 0, 2, 0, 0, 1, 8, 0]);
+//! file[8..16].copy_from_slice(&[2, 0, 3, 7, 9, 0, 8, 0]);
+//! file[510..].copy_from_slice(&[41, 110]);
+//!
+//! let table = table_in(&file, 1)?;
+//! assert_eq!(Sets::of(&table)?.analysis.nodes, 4);
+//!
+//! // The same bytes, where they are in the file.
+//! assert_eq!(part(&file, 1, 2, 0), table);
+//! # Ok::<(), bavzhrono::Refusal>(())
+//! ```
 
 #![deny(missing_docs)]
 #![deny(unsafe_code)]
 
 mod analysis;
+mod blocks;
 mod codes;
 mod instant;
 mod listing;
@@ -101,6 +123,7 @@ mod text;
 mod tick;
 
 pub use analysis::{analyse, Analysis, Mark, Sets};
+pub use blocks::{fetch, part, table_in, Fetched};
 pub use codes::{CodeSet, Codes};
 pub use instant::{resume, start, Closed, Completion};
 pub use listing::{listing, render};
@@ -119,6 +142,12 @@ pub const MAX_TEXT: usize = 67_584;
 
 /// The most bytes of a text that is read.
 pub const MAX_SOURCE: usize = 16_384;
+
+/// The bytes of a block on the service partition.
+pub const BLOCK: usize = 512;
+
+/// The most blocks of a file.
+pub const MAX_BLOCKS: usize = 64;
 
 /// The bytes of answers that [`tick`] needs: any list fits. It is no limit of the instants.
 pub const TICK_ANSWERS: usize = 512;

@@ -89,6 +89,26 @@ extern "C" {
         answer: *mut u64,
         answer_length: usize,
     ) -> u32;
+
+    fn bavzhrono_fetch(
+        file: *const u8,
+        file_length: usize,
+        program: u16,
+        table: *mut u8,
+        table_length: usize,
+        answer: *mut u64,
+        answer_length: usize,
+    ) -> u32;
+
+    fn bavzhrono_part(
+        file: *const u8,
+        file_length: usize,
+        program: u16,
+        edition: u16,
+        part: u8,
+        answer: *mut u64,
+        answer_length: usize,
+    ) -> u32;
 }
 
 /// The figures are the nodes, the loop depth and 0.
@@ -182,6 +202,40 @@ pub fn tick(table: &[u8], answers: &mut [u8], answer: &mut [u64]) -> u32 {
             table.len(),
             answers.as_mut_ptr(),
             answers.len(),
+            answer.as_mut_ptr(),
+            answer.len(),
+        )
+    }
+}
+
+/// The figures are the length of the table in bytes, the edition and the number of parts. A table
+/// or an answer that is too short is refused ahead of all else.
+pub fn fetch(file: &[u8], program: u16, table: &mut [u8], answer: &mut [u64]) -> u32 {
+    // SAFETY: each pointer is followed by the length of its own slice.
+    unsafe {
+        bavzhrono_fetch(
+            file.as_ptr(),
+            file.len(),
+            program,
+            table.as_mut_ptr(),
+            table.len(),
+            answer.as_mut_ptr(),
+            answer.len(),
+        )
+    }
+}
+
+/// The figures are the place in the file where the used content begins, its length and 0; for an
+/// empty part they are 0, 0 and 0. Whatever the file, the only refusal is 3.
+pub fn part(file: &[u8], program: u16, edition: u16, part: u8, answer: &mut [u64]) -> u32 {
+    // SAFETY: each pointer is followed by the length of its own slice.
+    unsafe {
+        bavzhrono_part(
+            file.as_ptr(),
+            file.len(),
+            program,
+            edition,
+            part,
             answer.as_mut_ptr(),
             answer.len(),
         )

@@ -13,9 +13,9 @@ use std::fmt;
 /// ```
 #[derive(Clone, Copy, Debug, PartialEq, Eq, Hash)]
 pub struct Refusal {
-    /// The number of the check, 1 to 16.
+    /// The number of the check, 1 to 18.
     pub number: u32,
-    /// The lowest node that the check fits; 0 for checks 1, 2, 3, 7 and 12 to 16, which name none.
+    /// The lowest node that the check fits; 0 for checks 1, 2, 3, 7 and 12 to 18, which name none.
     pub node: usize,
 }
 
@@ -39,6 +39,8 @@ impl Refusal {
             14 => "the text has more than 16,384 bytes or is outside the grammar",
             15 => "an exit of the text has no trap of its name around it",
             16 => "the text has a 257th signal name",
+            17 => "the file is not of whole blocks of 512 bytes or has more than 64",
+            18 => "the program has no whole edition in the file",
             _ => "there is no check of this number",
         }
     }

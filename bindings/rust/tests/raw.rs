@@ -2,7 +2,7 @@
 
 mod common;
 
-use bavzhrono::{raw, MAX_NODES, MAX_SOURCE, MAX_TEXT, SIGNALS, TICK_ANSWERS};
+use bavzhrono::{raw, BLOCK, MAX_BLOCKS, MAX_NODES, MAX_SOURCE, MAX_TEXT, SIGNALS, TICK_ANSWERS};
 use common::*;
 
 const FILL_NUMBER: u64 = FILL_SET.0;
@@ -71,9 +71,19 @@ impl Lent {
     fn tick(&mut self, table: &[u8]) -> u32 {
         raw::tick(table, &mut self.answers, &mut self.answer)
     }
+
+    /// The table of program 1.
+    fn fetch(&mut self, file: &[u8]) -> u32 {
+        raw::fetch(file, 1, &mut self.table, &mut self.answer)
+    }
+
+    /// Part 0 of program 1's edition 7.
+    fn part(&mut self, file: &[u8]) -> u32 {
+        raw::part(file, 1, 7, 0, &mut self.answer)
+    }
 }
 
-/// It takes a table, or a text if it reads one.
+/// It takes a table, a text if it reads one, or a file.
 type Function = fn(&mut Lent, &[u8]) -> u32;
 
 /// The functions that make the table's checks.
@@ -125,6 +135,19 @@ fn refused_texts() -> Vec<(String, u32, u32)> {
     ]
 }
 
+/// A file for each number that refuses one, or its table.
+fn refused_files() -> Vec<(Vec<u8>, u32)> {
+    let full = |part| block(1, 7, part, 5, &[2; 502]);
+    let too_long = [0, 1, 2, 3, 4].map(full).concat();
+    vec![
+        (vec![0; BLOCK - 1], 17),
+        (vec![0; (MAX_BLOCKS + 1) * BLOCK], 17),
+        (vec![], 18),
+        (too_long[BLOCK..].to_vec(), 18),
+        (too_long, 1),
+    ]
+}
+
 #[test]
 fn a_refusal_is_number_and_node_and_leaves_the_answer() {
     for (table, number, node) in refused_tables() {
@@ -148,6 +171,15 @@ fn a_refused_text_is_number_and_node_and_leaves_table_and_answer() {
         for entries in [3, 4, 8] {
             let lent = Lent::with_answer(entries);
             assert_unchanged(lent, Lent::read, text.as_bytes(), number + 256 * node);
+        }
+    }
+}
+
+#[test]
+fn a_refused_file_is_a_number_and_leaves_table_and_answer() {
+    for (file, number) in refused_files() {
+        for entries in [3, 4, 8] {
+            assert_unchanged(Lent::with_answer(entries), Lent::fetch, &file, number);
         }
     }
 }
@@ -201,7 +233,34 @@ fn a_short_table_or_answer_is_refused_by_3_ahead_of_what_the_text_is_refused_by(
 }
 
 #[test]
+fn a_short_table_or_answer_is_refused_by_3_ahead_of_what_the_file_is_refused_by() {
+    let mut files = refused_files();
+    files.push((block(1, 7, 0, 1, W1), 0));
+    for (file, _) in files {
+        for entries in 0..3 {
+            assert_unchanged(Lent::with_answer(entries), Lent::fetch, &file, 3);
+            assert_unchanged(Lent::with_answer(entries), Lent::part, &file, 3);
+        }
+        for bytes in [0, 1, 2, 2 * MAX_NODES - 1] {
+            let mut lent = Lent::with_answer(3);
+            lent.table.truncate(bytes);
+            assert_unchanged(lent, Lent::fetch, &file, 3);
+        }
+    }
+}
+
+#[test]
+fn a_part_of_a_refused_file_is_not_refused() {
+    for (file, number) in refused_files() {
+        // Of the last file just the table is refused, for its length.
+        let figures = if number == 1 { [8, 502, 0] } else { [0; 3] };
+        assert_figures(&mut Lent::with_answer(3), Lent::part, &file, figures);
+    }
+}
+
+#[test]
 fn three_entries_of_the_answer_are_written_and_no_more() {
+    let file = [vec![0; BLOCK], block(1, 7, 0, 1, W1)].concat();
     for entries in [3, 4, 8] {
         let mut lent = Lent::with_answer(entries);
         assert_figures(&mut lent, Lent::analyse, W1, [4, 1, 0]);
@@ -214,6 +273,9 @@ fn three_entries_of_the_answer_are_written_and_no_more() {
         assert_figures(&mut lent, Lent::tick, W1, [0, 4, 1]);
         assert_figures(&mut lent, Lent::tick, W2, [1, 1, 0]);
         assert_figures(&mut lent, Lent::tick, W8, [1, 7, 2]);
+        assert_figures(&mut lent, Lent::fetch, &file, [8, 7, 1]);
+        assert_figures(&mut lent, Lent::part, &file, [BLOCK as u64 + 8, 8, 0]);
+        assert_figures(&mut lent, Lent::part, &[], [0, 0, 0]);
     }
 }
 

@@ -3,6 +3,7 @@
 use std::hint::black_box;
 
 use compare::instant::SIGNALS;
+use compare::support::blocks::{Bytes, PROGRAM};
 use compare::support::calls::{Calls, COMPARE, FIGURES};
 use compare::table::MOST_BYTES;
 use compare::tick::TICK_ANSWERS;
@@ -10,7 +11,7 @@ use ours::OURS;
 use two_pass::TWO_PASS;
 
 use crate::programs::{Shape, SHAPES};
-use crate::{texts, ticks};
+use crate::{blocks, texts, ticks};
 
 /// Who makes a call.
 #[derive(Clone, Copy, PartialEq, Eq)]
@@ -48,15 +49,19 @@ pub enum Call {
     Resume,
     Read,
     Tick,
+    Fetch,
+    Part,
 }
 
 impl Call {
-    pub const ALL: [Call; 5] = [
+    pub const ALL: [Call; 7] = [
         Call::Analyse,
         Call::Start,
         Call::Resume,
         Call::Read,
         Call::Tick,
+        Call::Fetch,
+        Call::Part,
     ];
 
     pub fn name(self) -> &'static str {
@@ -66,6 +71,8 @@ impl Call {
             Call::Resume => "resume",
             Call::Read => "read",
             Call::Tick => "tick",
+            Call::Fetch => "fetch",
+            Call::Part => "part",
         }
     }
 
@@ -73,7 +80,7 @@ impl Call {
     pub fn sides(self) -> &'static [Side] {
         match self {
             Call::Analyse => &[Side::Ours, Side::Compare, Side::TwoPass],
-            Call::Start | Call::Resume | Call::Read | Call::Tick => &[Side::Ours, Side::Compare],
+            _ => &[Side::Ours, Side::Compare],
         }
     }
 
@@ -83,25 +90,38 @@ impl Call {
             Call::Analyse | Call::Tick => "a node",
             Call::Start | Call::Resume => "an entry",
             Call::Read => "a byte",
+            Call::Fetch | Call::Part => "a block",
         }
     }
 
-    /// The column of these, if they are not the nodes.
+    /// What the size of a case is the number of.
+    pub fn size(self) -> &'static str {
+        match self {
+            Call::Fetch | Call::Part => "blocks",
+            _ => "nodes",
+        }
+    }
+
+    /// The column of what the cost is shared among, if it is not the size.
     pub fn units(self) -> Option<&'static str> {
         match self {
-            Call::Analyse | Call::Tick => None,
+            Call::Analyse | Call::Tick | Call::Fetch | Call::Part => None,
             Call::Start | Call::Resume => Some("entries"),
             Call::Read => Some("bytes"),
         }
     }
 }
 
-/// A call on a program. The buffers are lent to every repetition anew.
+/// A call on a program or on a file. The buffers are lent to every repetition anew.
 #[derive(Clone, Default, PartialEq, Eq)]
 pub struct Case {
     pub call: Call,
     pub shape: &'static str,
-    pub nodes: usize,
+    /// The nodes of the program or the blocks of the file.
+    pub size: usize,
+    file: Vec<u8>,
+    /// The edition and the part that are taken from the file.
+    wanted: (u16, u8),
     text: Vec<u8>,
     table: Vec<u8>,
     answers: Vec<u8>,
@@ -137,6 +157,15 @@ pub fn of(call: Call) -> Box<dyn Iterator<Item = Case>> {
             let shapes = ticks::SHAPES.iter();
             Box::new(shapes.flat_map(|shape| SIZES.map(|nodes| Case::of_tick(shape, nodes))))
         }
+        Call::Fetch => {
+            let files = blocks::files().into_iter();
+            let of_fetch = |(name, blocks)| Case::of_file(Call::Fetch, name, blocks, (0, 0));
+            Box::new(files.map(of_fetch))
+        }
+        Call::Part => {
+            let of_part = |(name, blocks, wanted)| Case::of_file(Call::Part, name, blocks, wanted);
+            Box::new(blocks::parts().into_iter().map(of_part))
+        }
     }
 }
 
@@ -145,8 +174,7 @@ impl Case {
         let mut case = Case {
             call: Call::Start,
             shape: shape.name,
-            nodes,
-            text: Vec::new(),
+            size: nodes,
             table: shape.program(nodes),
             // Enough for all, and all absent.
             answers: vec![0; 4 * nodes],
@@ -157,6 +185,7 @@ impl Case {
             state: vec![0; nodes],
             emissions: vec![0; SIGNALS],
             answer: vec![0; FIGURES],
+            ..Case::default()
         };
         // A resumption is measured from the state that the start leaves.
         assert_eq!(case.run(&COMPARE), 0, "{} is refused", case.name());
@@ -167,7 +196,7 @@ impl Case {
     /// A reading of a program as text.
     fn of_printed(shape: &Shape, nodes: usize) -> Case {
         let case = Case::of_text(shape.name, texts::printed(&shape.program(nodes)));
-        assert_eq!(case.nodes, nodes, "{} is not read", case.name());
+        assert_eq!(case.size, nodes, "{} is not read", case.name());
         case
     }
 
@@ -182,7 +211,7 @@ impl Case {
             ..Case::default()
         };
         case.run(&COMPARE);
-        case.nodes = case.answer[0] as usize;
+        case.size = case.answer[0] as usize;
         case
     }
 
@@ -190,7 +219,7 @@ impl Case {
         let mut case = Case {
             call: Call::Tick,
             shape: shape.name,
-            nodes,
+            size: nodes,
             table: (shape.program)(nodes),
             answers: vec![0; TICK_ANSWERS],
             answer: vec![0; FIGURES],
@@ -202,19 +231,37 @@ impl Case {
         case
     }
 
+    fn of_file(call: Call, shape: &'static str, blocks: Vec<Bytes>, wanted: (u16, u8)) -> Case {
+        let mut case = Case {
+            call,
+            shape,
+            size: blocks.len(),
+            file: blocks.concat(),
+            wanted,
+            table: vec![0; MOST_BYTES],
+            answer: vec![0; FIGURES],
+            ..Case::default()
+        };
+        assert_eq!(case.run(&COMPARE), 0, "{} is refused", case.name());
+        case
+    }
+
     pub fn name(&self) -> String {
-        format!("{}/{}/{}", self.call.name(), self.shape, self.nodes)
+        format!("{}/{}/{}", self.call.name(), self.shape, self.size)
     }
 
     /// Makes the call once, and hands back what it returns.
     pub fn run(&mut self, calls: &Calls) -> u32 {
-        let table = black_box(&self.table[..]);
+        let (table, file) = (black_box(&self.table[..]), black_box(&self.file[..]));
+        let answer = &mut self.answer[..];
         let instant = match self.call {
-            Call::Read => {
-                let text = black_box(&self.text[..]);
-                return (calls.read)(text, &mut self.table, &mut self.answer);
+            Call::Read => return (calls.read)(black_box(&self.text), &mut self.table, answer),
+            Call::Tick => return (calls.tick)(table, &mut self.answers, answer),
+            Call::Fetch => return (calls.fetch)(file, PROGRAM, &mut self.table, answer),
+            Call::Part => {
+                let (edition, part) = self.wanted;
+                return (calls.part)(file, PROGRAM, edition, part, answer);
             }
-            Call::Tick => return (calls.tick)(table, &mut self.answers, &mut self.answer),
             Call::Analyse => {
                 return (calls.analyse)(
                     table,
@@ -222,19 +269,14 @@ impl Case {
                     &mut self.any_sets,
                     &mut self.contexts,
                     &mut self.marks,
-                    &mut self.answer,
+                    answer,
                 )
             }
             Call::Start => calls.start,
             Call::Resume => calls.resume,
         };
-        instant(
-            table,
-            &self.answers,
-            &mut self.state,
-            &mut self.emissions,
-            &mut self.answer,
-        )
+        let (state, emissions) = (&mut self.state, &mut self.emissions);
+        instant(table, &self.answers, state, emissions, answer)
     }
 
     /// Sees that all sides do the same, and that a repetition does it again.
@@ -249,12 +291,13 @@ impl Case {
         }
     }
 
-    /// The nodes of a table, the entries of an instant or the bytes of a text.
+    /// The nodes of a table, the entries of an instant, the bytes of a text or the blocks
+    /// of a file.
     pub fn units(&self) -> usize {
         let mut case = self.clone();
         case.run(&COMPARE);
         match self.call {
-            Call::Analyse | Call::Tick => case.nodes,
+            Call::Analyse | Call::Tick | Call::Fetch | Call::Part => case.size,
             Call::Start | Call::Resume => case.answer[2] as usize,
             Call::Read => case.text.len(),
         }

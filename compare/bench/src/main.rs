@@ -5,7 +5,7 @@
 //!
 //! ```text
 //! bench [--quick] [--markdown FILE]    all sides, all cases
-//! bench --list                         each case with its nodes, entries or bytes
+//! bench --list                         each case with its nodes, entries, bytes or blocks
 //! bench --one CASE SIDE TIMES          one case on one side: ours, compare
 //!                                      or, for analyse, two-pass
 //! ```
@@ -18,6 +18,7 @@ use cases::{Call, Case};
 use compare::support::numbers;
 use report::Line;
 
+mod blocks;
 mod cases;
 mod measure;
 mod programs;

@@ -9,7 +9,7 @@ use crate::measure::Times;
 pub struct Line {
     call: Call,
     shape: &'static str,
-    nodes: usize,
+    size: usize,
     units: usize,
     times: Times,
 }
@@ -19,7 +19,7 @@ impl Line {
         Line {
             call: case.call,
             shape: case.shape,
-            nodes: case.nodes,
+            size: case.size,
             units: case.units(),
             times,
         }
@@ -38,7 +38,7 @@ impl Line {
         let units = self.units as f64;
         let mut row = vec![
             self.shape.to_string(),
-            self.nodes.to_string(),
+            self.size.to_string(),
             format!("{:.0}", self.times.ours),
             format!("{:.0}", self.times.theirs),
             format!("{:.2}", self.ratio()),
@@ -67,7 +67,7 @@ fn times(lines: &[Line], call: Call) -> Table {
     let of_call: Vec<&Line> = lines.iter().filter(|line| line.call == call).collect();
     let mut rows = vec![vec![
         "shape".to_string(),
-        "nodes".to_string(),
+        call.size().to_string(),
         "ours, ns".to_string(),
         "compare, ns".to_string(),
         "ours/compare".to_string(),
@@ -116,10 +116,10 @@ fn growth(lines: &[Line]) -> Table {
     let mut rows = vec![["call", "shape", "ours", "compare"]
         .map(String::from)
         .into()];
-    for large in lines.iter().filter(|line| line.nodes == 1024) {
+    for large in lines.iter().filter(|line| line.size == 1024) {
         let small = lines
             .iter()
-            .find(|line| line.call == large.call && line.shape == large.shape && line.nodes == 256)
+            .find(|line| line.call == large.call && line.shape == large.shape && line.size == 256)
             .expect("every shape in every size");
         rows.push(vec![
             large.call.name().to_string(),

@@ -9,7 +9,7 @@ pub struct Guarded<T> {
 }
 
 pub trait Cell: Copy {
-    /// What stands in a cell that has not been written. None of the calls tried
+    /// What stands in a cell that has not been written. Hardly any of the calls tried
     /// writes this value to this cell, so that one written by mistake is seen.
     fn untouched(at: usize) -> Self;
 
@@ -17,7 +17,8 @@ pub trait Cell: Copy {
 }
 
 /// Calls write flags, answers, the characters of a listing and the nodes of a table.
-/// Only a signal can be as high as this, and in few texts it is in just this cell.
+/// Only a signal can be as high as this, and in few texts it is in just this cell. The
+/// content of blocks may be any bytes, of which few are those of their cells.
 impl Cell for u8 {
     fn untouched(at: usize) -> u8 {
         0x80 | at as u8

@@ -280,3 +280,105 @@ impl Trial for Finding {
         ]
     }
 }
+
+#[derive(Clone, PartialEq)]
+pub struct Fetching {
+    pub file: Guarded<u8>,
+    program: u16,
+    pub table: Guarded<u8>,
+    pub answer: Guarded<u64>,
+}
+
+impl Fetching {
+    /// With a table of exactly the length needed.
+    pub fn new(file: &[u8], program: u16) -> Fetching {
+        Fetching::with_table(file, program, MOST_BYTES)
+    }
+
+    pub fn with_table(file: &[u8], program: u16, table_length: usize) -> Fetching {
+        Fetching {
+            file: Guarded::with(file),
+            program,
+            table: Guarded::untouched(table_length),
+            answer: Guarded::untouched(FIGURES),
+        }
+    }
+}
+
+impl Trial for Fetching {
+    fn name(&self) -> &'static str {
+        "fetch"
+    }
+
+    fn call(&mut self, calls: &Calls) -> u32 {
+        let (file, table) = (self.file.lent(), self.table.lent());
+        (calls.fetch)(file, self.program, table, self.answer.lent())
+    }
+
+    fn with_answer(self, length: usize) -> Fetching {
+        let answer = Guarded::untouched(length);
+        Fetching { answer, ..self }
+    }
+
+    fn buffers(&self) -> Vec<(&'static str, String)> {
+        vec![
+            ("file", self.file.hex()),
+            ("program", self.program.to_string()),
+            ("table", self.table.hex()),
+            ("answer", self.answer.hex()),
+        ]
+    }
+}
+
+#[derive(Clone, PartialEq)]
+pub struct Taking {
+    pub file: Guarded<u8>,
+    /// Program and edition.
+    of: (u16, u16),
+    part: u8,
+    pub answer: Guarded<u64>,
+}
+
+impl Taking {
+    pub fn new(file: &[u8], of: (u16, u16), part: u8) -> Taking {
+        Taking {
+            file: Guarded::with(file),
+            of,
+            part,
+            answer: Guarded::untouched(FIGURES),
+        }
+    }
+}
+
+impl Trial for Taking {
+    fn name(&self) -> &'static str {
+        "part"
+    }
+
+    fn call(&mut self, calls: &Calls) -> u32 {
+        let (program, edition) = self.of;
+        (calls.part)(
+            self.file.lent(),
+            program,
+            edition,
+            self.part,
+            self.answer.lent(),
+        )
+    }
+
+    fn with_answer(self, length: usize) -> Taking {
+        let answer = Guarded::untouched(length);
+        Taking { answer, ..self }
+    }
+
+    fn buffers(&self) -> Vec<(&'static str, String)> {
+        let (program, edition) = self.of;
+        vec![
+            ("file", self.file.hex()),
+            ("program", program.to_string()),
+            ("edition", edition.to_string()),
+            ("part", self.part.to_string()),
+            ("answer", self.answer.hex()),
+        ]
+    }
+}

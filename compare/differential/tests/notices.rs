@@ -1,5 +1,6 @@
 //! Wrong implementations that a comparison must notice.
 
+use compare::support::blocks::{stored, PROGRAM};
 use compare::support::calls::{Calls, COMPARE};
 use compare::support::cases::Call;
 use compare::support::edges::{exits_through_all_traps, W1, W2, W8};
@@ -8,11 +9,18 @@ use compare::support::SEED;
 use compare::{sets, table, Sets};
 use differential::groups::{refusals, texts};
 use differential::tally::{Difference, Tally};
-use differential::trials::{Analysis, Finding, Instant, Reading, Rendering, Trial};
+use differential::trials::{
+    Analysis, Fetching, Finding, Instant, Reading, Rendering, Taking, Trial,
+};
 
 fn assert_noticed(wrong: Calls, trial: &impl Trial) {
     assert!(Tally::new(COMPARE).compare(trial).is_ok());
     assert!(Tally::new(wrong).compare(trial).is_err());
+}
+
+/// A file of one block, part 0 of edition 1.
+fn stored_w1() -> Vec<u8> {
+    stored(PROGRAM, 1, W1).concat()
 }
 
 type Run = fn(&mut Tally, &mut Random) -> Result<(), Difference>;
@@ -125,6 +133,16 @@ fn told_by<T: Telling>() -> Calls {
         tick: |table, answers, answer| {
             T::tell(answer, |answer| (COMPARE.tick)(table, answers, answer))
         },
+        fetch: |file, program, table, answer| {
+            T::tell(answer, |answer| {
+                (COMPARE.fetch)(file, program, table, answer)
+            })
+        },
+        part: |file, program, edition, part, answer| {
+            T::tell(answer, |answer| {
+                (COMPARE.part)(file, program, edition, part, answer)
+            })
+        },
     }
 }
 
@@ -143,6 +161,10 @@ fn a_fourth_figure() {
     assert_noticed(wrong, &Rendering::new(W2, 13).with_answer(4));
     assert_noticed(wrong, &Reading::new(b"pause").with_answer(4));
     assert_noticed(wrong, &Finding::new(W8).with_answer(4));
+    let fetching = Fetching::new(&stored_w1(), PROGRAM);
+    assert_noticed(wrong, &fetching.with_answer(4));
+    let taking = Taking::new(&stored_w1(), (PROGRAM, 1), 0);
+    assert_noticed(wrong, &taking.with_answer(4));
 }
 
 #[test]
@@ -165,6 +187,7 @@ fn an_answer_written_on_a_refusal() {
     assert_noticed(wrong, &Rendering::new(W2, 12));
     assert_noticed(wrong, &Reading::new(b"exit T"));
     assert_noticed(wrong, &Finding::with_answers(W8, 511));
+    assert_noticed(wrong, &Fetching::new(&[], PROGRAM));
     assert_noticed_by(refusals::edges, wrong);
 }
 
@@ -249,6 +272,7 @@ fn a_short_answer_refused_after_all_other_checks() {
     );
     assert_noticed(wrong, &Reading::new(b"end").with_answer(2));
     assert_noticed(wrong, &Finding::new(&[12, 0]).with_answer(2));
+    assert_noticed(wrong, &Fetching::new(&[], PROGRAM).with_answer(2));
     assert_noticed_by(refusals::edges, wrong);
 }
 
@@ -272,5 +296,9 @@ fn a_short_answer_that_is_accepted() {
     assert_noticed(wrong, &Rendering::new(W2, 13).with_answer(1));
     assert_noticed(wrong, &Reading::new(b"pause").with_answer(2));
     assert_noticed(wrong, &Finding::new(W8).with_answer(2));
+    let fetching = Fetching::new(&stored_w1(), PROGRAM);
+    assert_noticed(wrong, &fetching.with_answer(2));
+    let taking = Taking::new(&stored_w1(), (PROGRAM, 1), 0);
+    assert_noticed(wrong, &taking.with_answer(2));
     assert_noticed_by(refusals::edges, wrong);
 }

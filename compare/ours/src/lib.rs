@@ -1,6 +1,6 @@
 //! The proved code's calls, from its archive, as the bindings for Rust have them.
 
-use bavzhrono::raw::{analyse, read, render, resume, start, tick};
+use bavzhrono::raw::{analyse, fetch, part, read, render, resume, start, tick};
 use compare::support::calls::Calls;
 
 /// The calls of the proved code.
@@ -11,4 +11,6 @@ pub const OURS: Calls = Calls {
     render,
     read,
     tick,
+    fetch,
+    part,
 };

@@ -15,6 +15,10 @@ pub type Render = fn(&[u8], &mut [u8], &mut [u64]) -> u32;
 pub type Read = fn(&[u8], &mut [u8], &mut [u64]) -> u32;
 /// Table, answers, answer.
 pub type Tick = fn(&[u8], &mut [u8], &mut [u64]) -> u32;
+/// File, program, table, answer.
+pub type Fetch = fn(&[u8], u16, &mut [u8], &mut [u64]) -> u32;
+/// File, program, edition, part, answer.
+pub type Part = fn(&[u8], u16, u16, u8, &mut [u64]) -> u32;
 
 #[derive(Clone, Copy)]
 pub struct Calls {
@@ -24,6 +28,8 @@ pub struct Calls {
     pub render: Render,
     pub read: Read,
     pub tick: Tick,
+    pub fetch: Fetch,
+    pub part: Part,
 }
 
 /// The calls of this implementation.
@@ -34,6 +40,8 @@ pub const COMPARE: Calls = Calls {
     render,
     read,
     tick,
+    fetch,
+    part,
 };
 
 /// The figures of an answer, and the entries that its buffer must have.
@@ -117,6 +125,36 @@ fn tick(table: &[u8], answers: &mut [u8], answer: &mut [u64]) -> u32 {
         };
         Ok(())
     })
+}
+
+/// The figures are the length of the table, the edition and the number of parts. Check 3
+/// comes as in `read`.
+fn fetch(file: &[u8], program: u16, table: &mut [u8], answer: &mut [u64]) -> u32 {
+    returned(|| {
+        let front = front(answer)?;
+        let fetched = crate::fetch(file, program, table)?;
+        *front = [
+            fetched.length as u64,
+            u64::from(fetched.edition),
+            fetched.parts as u64,
+        ];
+        Ok(())
+    })
+}
+
+/// The figures are the place in the file where the part begins, its length, and 0.
+fn part(file: &[u8], program: u16, edition: u16, part: u8, answer: &mut [u64]) -> u32 {
+    returned(|| {
+        let front = front(answer)?;
+        let content = crate::part(file, program, edition, part);
+        *front = [place(file, content) as u64, content.len() as u64, 0];
+        Ok(())
+    })
+}
+
+/// Where a part of the file begins in it.
+pub fn place(file: &[u8], part: &[u8]) -> usize {
+    part.as_ptr().addr() - file.as_ptr().addr()
 }
 
 fn figures(closed: Closed) -> [u64; FIGURES] {

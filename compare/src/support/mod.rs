@@ -1,9 +1,13 @@
 //! What the tests, the generators and the comparisons share: hexadecimal,
-//! random numbers, vector files, tables, instants and runs to try, and how the
-//! generators write them.
+//! random numbers, vector files, tables, instants, runs and files of blocks to
+//! try, and how the generators write them.
 
 pub mod answers;
 pub mod arguments;
+pub mod block_calls;
+pub mod block_edges;
+pub mod block_files;
+pub mod blocks;
 pub mod bodies;
 pub mod calls;
 pub mod cases;
@@ -16,6 +20,7 @@ pub mod frames;
 pub mod hex;
 pub mod nodes;
 pub mod numbers;
+pub mod partitions;
 pub mod printer;
 pub mod programs;
 pub mod random;
@@ -27,6 +32,7 @@ pub mod texts;
 pub mod tick_edges;
 pub mod ticks;
 pub mod vectors;
+pub mod wrong_blocks;
 pub mod wrong_marks;
 
 /// The seed of every generated table and instant.

@@ -49,6 +49,23 @@ pub struct TickVector {
     pub line: String,
 }
 
+/// A call on a file of blocks.
+pub struct BlockVector {
+    pub file: Vec<u8>,
+    pub program: u16,
+    pub outcome: BlockOutcome,
+}
+
+pub enum BlockOutcome {
+    Table(Result<Vec<u8>, Refusal>),
+    /// What is asked for, and what is got.
+    Part {
+        edition: u16,
+        part: u8,
+        content: Vec<u8>,
+    },
+}
+
 /// A run from the fresh start.
 pub struct RunVector {
     pub table: Vec<u8>,
@@ -110,6 +127,24 @@ pub fn read_ticks(file: &Path) -> Vec<TickVector> {
         .map(|object| TickVector {
             table: bytes(object, "table"),
             line: text(object, "line").to_string(),
+        })
+        .collect()
+}
+
+pub fn read_blocks(file: &Path) -> Vec<BlockVector> {
+    read_objects(file)
+        .iter()
+        .map(|object| BlockVector {
+            file: bytes(object, "file"),
+            program: number(object, "program") as u16,
+            outcome: match object.contains_key("part") {
+                true => BlockOutcome::Part {
+                    edition: number(object, "edition") as u16,
+                    part: number(object, "part") as u8,
+                    content: bytes(object, "content"),
+                },
+                false => BlockOutcome::Table(or_refusal(object, |object| bytes(object, "table"))),
+            },
         })
         .collect()
 }

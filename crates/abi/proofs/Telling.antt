@@ -28,7 +28,12 @@ use Rattle.witness.specs.declared.Tick.{Tick}
 use Rattle.witness.specs.declared.Tick.the-variants.{Ends, Accepted}
 use Rattle.witness.specs.declared.Tick.the-variants.{Refused as RefusedTick}
 use Rattle.witness.proofs.Theorems.{ticksTold}
-use Rattle.abi.specs.Exported.{returned, answerAfter, Small, Tells, tellAnalysed, tellReaction, tellRendered, tellReading, tellTick, shortAnswer, Exported}
+use Rattle.blocks.specs.Fetching.{Fetching}
+use Rattle.blocks.specs.declared.Fetched.{Fetched}
+use Rattle.blocks.specs.declared.Fetched.the-variants.{Done as DoneFetch}
+use Rattle.blocks.specs.declared.Fetched.the-variants.{Refused as RefusedFetch}
+use Rattle.blocks.proofs.Theorems.{of-fetch}
+use Rattle.abi.specs.Exported.{returned, answerAfter, Small, Tells, tellAnalysed, tellReaction, tellRendered, tellReading, tellTick, tellFetched, shortAnswer, Exported}
 use Rattle.abi.specs.declared.Told.{Told}
 
 pub three : (l : List ℕ) (a b c : ℕ) → 3 ≤ length l → set (set (set l 0 a) 1 b) 2 c ≡ (a ∷ b ∷ c ∷ []) ++ drop 3 l
@@ -66,6 +71,10 @@ pub small-tick : (t old new : List ℕ) (r : Tick) → TellsTick t old new r →
 small-tick t old new (Ends node n) o = tt
 small-tick t old new (Accepted nodes loops) o = tt
 small-tick t old new (RefusedTick number node) o = omega (arith, ticksTold .refuses t old new number node o .2)
+
+pub small-fetched : (file : List ℕ) (p : ℕ) (old new : List ℕ) (r : Fetched) → Fetching file p old new r → Small (tellFetched r)
+small-fetched file p old new (DoneFetch n e m) o = tt
+small-fetched file p old new (RefusedFetch number node) o = omega (arith, of-fetch .refused file p old new number node o .1)
 
 -- it changes no answer
 short-same : (before : Check) (answer : List ℕ) → answer ≡ answerAfter (shortAnswer before) answer

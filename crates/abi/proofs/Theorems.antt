@@ -40,7 +40,12 @@ use Rattle.witness.specs.declared.Tick.{Tick}
 use Rattle.witness.specs.declared.Tick.the-variants.{Ends, Accepted}
 use Rattle.witness.specs.declared.Tick.the-variants.{Refused as RefusedTick}
 use Rattle.witness.proofs.Theorems.{ticksTold}
-use Rattle.abi.specs.Exported.{returned, answerAfter, Tells, tellAnalysed, tellReaction, tellRendered, tellReading, tellTick, shortAnswer, Exported}
+use Rattle.blocks.specs.Fetching.{Fetching}
+use Rattle.blocks.specs.declared.Fetched.{Fetched}
+use Rattle.blocks.specs.declared.Fetched.the-variants.{Done as DoneFetch}
+use Rattle.blocks.specs.declared.Fetched.the-variants.{Refused as RefusedFetch}
+use Rattle.blocks.proofs.Theorems.{of-fetch, reason-known}
+use Rattle.abi.specs.Exported.{returned, answerAfter, Tells, tellAnalysed, tellReaction, tellRendered, tellReading, tellTick, tellFetched, tellSpan, shortAnswer, Exported, LocatingC}
 use Rattle.abi.specs.Theorems.{Ran, TickShown, NoTick, IsRefused, Demand1OfExports}
 use Rattle.abi.specs.declared.Told.{Told}
 use Rattle.abi.specs.declared.Told.the-variants.{Refusal}
@@ -120,6 +125,9 @@ render-known = none-known 13 (omega arith)
 
 read-known : Known 16 (shortAnswer Passed)
 read-known = none-known 16 (omega arith)
+
+fetch-known : Known 18 (shortAnswer Passed)
+fetch-known = none-known 18 (omega arith)
 
 module _ (t k a s m k′ a′ s′ m′ answer answer′ : List ℕ) where
   analyse-own : (x : Analysed) → Analysis t k a s m k′ a′ s′ m′ x → 0 < returned (tellAnalysed x) → Own (lengthCheck t) ((k′ ≡ k) × (a′ ≡ a) × (s′ ≡ s) × (m′ ≡ m)) (Analysis t k a s m k′ a′ s′ m′) tellAnalysed (λ number node. Analysis t k a s m k′ a′ s′ m′ (RefusedTable number node)) answer answer′ 13 (length-known t) x
@@ -215,6 +223,29 @@ module _ (t old new answer answer′ : List ℕ) where
   tick-done (Accepted nodes loops) o z e = let (p, v, n, d, same) = ticksTold .accepts t old new nodes loops o in inr (nodes, loops, o, same, e)
   tick-done (RefusedTick number node) o z e = absurd (omega (arith, ticksTold .refuses t old new number node o .0))
 
+module _ (file : List ℕ) (p : ℕ) (old new answer answer′ : List ℕ) where
+  fetch-own : (x : Fetched) → Fetching file p old new x → 0 < returned (tellFetched x) → Own Passed (new ≡ old) (Fetching file p old new) tellFetched (λ number node. Fetching file p old new (RefusedFetch number node)) answer answer′ 18 fetch-known x
+  fetch-own (DoneFetch n e m) o h = absurd (omega arith)
+  fetch-own (RefusedFetch number node) o h =
+      let (same, no-node, reason) = of-fetch .refused file p old new number node o in
+      let (some, known) = reason-known reason in
+      record {
+        known = record { number = number; node = node; is = refl; some = some; known = known; within = omega arith };
+        refuses = o;
+        same = same;
+      }
+
+  fetch-done : (x : Fetched) → Fetching file p old new x → returned (tellFetched x) ≡ 0 → answer′ ≡ answerAfter (tellFetched x) answer → (n e m : ℕ) × Fetching file p old new (DoneFetch n e m) × (answer′ ≡ onto (n ∷ e ∷ m ∷ []) answer)
+  fetch-done (DoneFetch n e m) o z a = (n, e, m, o, a)
+  fetch-done (RefusedFetch number node) o z a = absurd (omega (arith, reason-known (of-fetch .refused file p old new number node o .2) .0))
+
+part-refused : (file : List ℕ) (p e k : ℕ) (answer answer′ : List ℕ) (r : ℕ) → LocatingC file p e k answer answer′ r → 0 < r → (length answer < 3) × (r ≡ returned (Refusal 3 0)) × (answer′ ≡ answer)
+part-refused file p e k answer answer′ r o h = go (decLt (length answer) 3)
+  where
+    go : Dec (length answer < 3) → (length answer < 3) × (r ≡ returned (Refusal 3 0)) × (answer′ ≡ answer)
+    go (yes l) = let (same, told) = o .short l in (l, told .returns, told .answered)
+    go (no l) = let (x, call, told) = o .whole (omega arith) in absurd (omega (arith, told .returns))
+
 pub demand1OfExports : Demand1OfExports
 demand1OfExports =
     record {
@@ -247,4 +278,12 @@ demand1OfExports =
       tickDone = λ t answers answer answers′ answer′ o.
           (let (x, call, z, e) = done-told (lengthCheck t) _ _ tellTick (λ number node. Unit {0}) answer answer′ 10 (tick-known t) o in
           tick-done t answers answers′ answer answer′ x call z e);
+      fetchRefused = λ file p table answer table′ answer′ r o h.
+          refused-is Passed _ _ tellFetched _ answer answer′ 18 fetch-known (fetch-own file p table table′ answer answer′) r o h;
+      fetchDone = λ file p table answer table′ answer′ o.
+          (let (x, call, z, e) = done-told Passed _ _ tellFetched (λ number node. Unit {0}) answer answer′ 18 fetch-known o in
+          fetch-done file p table table′ answer answer′ x call z e);
+      partRefused = part-refused;
+      partDone = λ file p e k answer answer′ o.
+          (let (x, call, z, a) = done-told Passed _ _ tellSpan (λ number node. Unit {0}) answer answer′ 3 (none-known 3 (omega arith)) o in (x, call, a));
     }

@@ -29,6 +29,11 @@ use Rattle.witness.specs.Ticks.{Tells as TellsTick}
 use Rattle.witness.specs.declared.Tick.{Tick}
 use Rattle.witness.specs.declared.Tick.the-variants.{Ends, Accepted}
 use Rattle.witness.specs.declared.Tick.the-variants.{Refused as RefusedTick}
+use Rattle.blocks.specs.Fetching.{Locating, Fetching}
+use Rattle.blocks.specs.declared.Span.{Span}
+use Rattle.blocks.specs.declared.Fetched.{Fetched}
+use Rattle.blocks.specs.declared.Fetched.the-variants.{Done as DoneFetch}
+use Rattle.blocks.specs.declared.Fetched.the-variants.{Refused as RefusedFetch}
 use Rattle.abi.specs.declared.Told.{Told}
 use Rattle.abi.specs.declared.Told.the-variants.{Figures, Refusal}
 
@@ -78,6 +83,14 @@ tellTick (Ends node length) = Figures 1 node length
 tellTick (Accepted nodes loops) = Figures 0 nodes loops
 tellTick (RefusedTick number node) = Refusal number node
 
+abbrev pub tellFetched : Fetched → Told
+tellFetched (DoneFetch length edition parts) = Figures length edition parts
+tellFetched (RefusedFetch number node) = Refusal number node
+
+-- a part of the file: where it starts, and its length
+abbrev pub tellSpan : Span → Told
+tellSpan span = Figures (span .from) (span .length) 0
+
 -- an answer of fewer than three entries fails check 3, which comes after the call's checks before it
 abbrev pub shortAnswer : (before : Check) → Told
 shortAnswer Passed = Refusal 3 0
@@ -111,3 +124,11 @@ ReadingC text table answer table′ answer′ r = Exported Passed (table′ ≡ 
 
 abbrev pub TickingC : (t answers answer answers′ answer′ : List ℕ) → ℕ → Type 0
 TickingC t answers answer answers′ answer′ r = Exported (lengthCheck t) (answers′ ≡ answers) (TellsTick t answers answers′) tellTick answer answer′ r
+
+-- check 3 comes first (F-4)
+abbrev pub FetchingC : (file : List ℕ) (program : ℕ) (table answer table′ answer′ : List ℕ) → ℕ → Type 0
+FetchingC file p table answer table′ answer′ r = Exported Passed (table′ ≡ table) (Fetching file p table table′) tellFetched answer answer′ r
+
+-- no other buffer is written, and only check 3 of the answer refuses
+abbrev pub LocatingC : (file : List ℕ) (program edition part : ℕ) (answer answer′ : List ℕ) → ℕ → Type 0
+LocatingC file p e k answer answer′ r = Exported Passed (Unit {0}) (Locating file p e k) tellSpan answer answer′ r

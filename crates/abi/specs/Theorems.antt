@@ -26,7 +26,11 @@ use Rattle.text.specs.declared.Reading.the-variants.{Refused as RefusedText}
 use Rattle.witness.specs.Ticks.{Tells as TellsTick}
 use Rattle.witness.specs.declared.Tick.the-variants.{Ends, Accepted}
 use Rattle.witness.specs.declared.Tick.the-variants.{Refused as RefusedTick}
-use Rattle.abi.specs.Exported.{returned, shortAnswer, Analysing, StartingC, ResumingC, RenderingC, ReadingC, TickingC}
+use Rattle.blocks.specs.Fetching.{Locating, Fetching}
+use Rattle.blocks.specs.declared.Span.{Span}
+use Rattle.blocks.specs.declared.Fetched.the-variants.{Done as DoneFetch}
+use Rattle.blocks.specs.declared.Fetched.the-variants.{Refused as RefusedFetch}
+use Rattle.abi.specs.Exported.{returned, shortAnswer, Analysing, StartingC, ResumingC, RenderingC, ReadingC, TickingC, FetchingC, LocatingC}
 use Rattle.abi.specs.declared.Told.the-variants.{Refusal}
 
 -- after 0 the call has closed with these figures
@@ -86,6 +90,15 @@ pub record Demand1OfExports : Type 0 where
       (t answers answer answers′ answer′ : List ℕ) (r : ℕ) →
       TickingC t answers answer answers′ answer′ r → 0 < r →
       (answers′ ≡ answers) × IsRefused 10 (lengthCheck t) (λ number node. TellsTick t answers answers′ (RefusedTick number node)) answer answer′ r
+  pub fetchRefused :
+      (file : List ℕ) (p : ℕ) (table answer table′ answer′ : List ℕ) (r : ℕ) →
+      FetchingC file p table answer table′ answer′ r → 0 < r →
+      (table′ ≡ table) × IsRefused 18 Passed (λ number node. Fetching file p table table′ (RefusedFetch number node)) answer answer′ r
+  -- a part is refused only for too short an answer
+  pub partRefused :
+      (file : List ℕ) (p e k : ℕ) (answer answer′ : List ℕ) (r : ℕ) →
+      LocatingC file p e k answer answer′ r → 0 < r →
+      (length answer < 3) × (r ≡ returned (Refusal 3 0)) × (answer′ ≡ answer)
   -- where 0 is returned, the call was not refused, and its figures stand in the answer
   pub analyseDone :
       (t k a s m answer k′ a′ s′ m′ answer′ : List ℕ) →
@@ -108,3 +121,11 @@ pub record Demand1OfExports : Type 0 where
   pub tickDone :
       (t answers answer answers′ answer′ : List ℕ) →
       TickingC t answers answer answers′ answer′ 0 → TickShown t answers answers′ answer answer′ ⊎ NoTick t answers answers′ answer answer′
+  pub fetchDone :
+      (file : List ℕ) (p : ℕ) (table answer table′ answer′ : List ℕ) →
+      FetchingC file p table answer table′ answer′ 0 →
+      (n e m : ℕ) × Fetching file p table table′ (DoneFetch n e m) × (answer′ ≡ onto (n ∷ e ∷ m ∷ []) answer)
+  pub partDone :
+      (file : List ℕ) (p e k : ℕ) (answer answer′ : List ℕ) →
+      LocatingC file p e k answer answer′ 0 →
+      (s : Span) × Locating file p e k s × (answer′ ≡ onto (s .from ∷ s .length ∷ 0 ∷ []) answer)

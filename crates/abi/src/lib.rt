@@ -6,8 +6,10 @@ ghost use Prim.Native.Nat.{_≤_, _<_};
 ghost use lib.ListN.{length};
 ghost use Rattle.table.specs.Check.{lengthCheck};
 ghost use Rattle.analysis.specs.Passes.{onto};
-ghost use Rattle.abi.specs.Exported.{maxNode, returned, Small, Tells, tellAnalysed, tellReaction, tellRendered, tellReading, tellTick, shortAnswer, Analysing, StartingC, ResumingC, RenderingC, ReadingC, TickingC};
+ghost use Rattle.abi.specs.Exported.{maxNode, returned, Small, Tells, tellAnalysed, tellReaction, tellRendered, tellReading, tellTick, tellFetched, tellSpan, shortAnswer, Analysing, StartingC, ResumingC, RenderingC, ReadingC, TickingC, FetchingC, LocatingC};
 use analysis::Analysed;
+use blocks::Fetched;
+use blocks::Span;
 use instant::Reaction;
 use listing::Rendered;
 use table::Check;
@@ -157,6 +159,33 @@ fn tell_tick(tick: Tick) -> Told
     }
 }
 
+fn tell_fetched(fetched: Fetched) -> Told
+    ensures { λ r. ⌜ r ≡ tellFetched fetched ⌝ }
+{
+    match fetched {
+        Fetched::Done {
+            length,
+            edition,
+            parts,
+        } => Told::Figures {
+            first: length,
+            second: edition as usize,
+            third: parts as usize,
+        },
+        Fetched::Refused { number, node } => Told::Refusal { number, node },
+    }
+}
+
+fn tell_span(span: Span) -> Told
+    ensures { λ r. ⌜ r ≡ tellSpan span ⌝ }
+{
+    Told::Figures {
+        first: span.from,
+        second: span.length,
+        third: 0,
+    }
+}
+
 #[no_mangle]
 pub extern "C" fn bavzhrono_analyse(
     table: &[u8],
@@ -243,4 +272,40 @@ pub extern "C" fn bavzhrono_tick(table: &[u8], answers: &mut [u8], answer: &mut 
     }
     let tick = witness::find_tick(table, answers);
     tell(tell_tick(tick), answer)
+}
+
+// The table of a program's highest whole edition, from the blocks of a file. A lent table that is too short is refused ahead
+// of all else, and so is an answer.
+#[no_mangle]
+pub extern "C" fn bavzhrono_fetch(
+    file: &[u8],
+    program: u16,
+    table: &mut [u8],
+    answer: &mut [u64],
+) -> u32
+    ensures { λ r. ⌜ FetchingC (now (file .entry)) program (now (table .entry)) (now (answer .entry)) (now (table .exit)) (now (answer .exit)) r ⌝ }
+{
+    if answer.len() < FIGURES {
+        return refusal(3, 0);
+    }
+    let fetched = blocks::fetch(file, program, table);
+    tell(tell_fetched(fetched), answer)
+}
+
+// Where the used content of a part is in the file: C has no part of a buffer that could be handed back.
+#[no_mangle]
+pub extern "C" fn bavzhrono_part(
+    file: &[u8],
+    program: u16,
+    edition: u16,
+    part: u8,
+    answer: &mut [u64],
+) -> u32
+    ensures { λ r. ⌜ LocatingC (now (file .entry)) program edition part (now (answer .entry)) (now (answer .exit)) r ⌝ }
+{
+    if answer.len() < FIGURES {
+        return refusal(3, 0);
+    }
+    let span = blocks::locate(file, program, edition, part);
+    tell(tell_span(span), answer)
 }

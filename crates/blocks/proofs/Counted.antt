@@ -63,23 +63,22 @@ module _ {file : List ℕ} {p e k : ℕ} {l : Place} (w : Found file p e k l) wh
   pub place-content : take (l .from + l .length - l .from) (drop (l .from) file) ≡ contentOf file (counted file p e k)
   place-content = slice-content file (counted file p e k) (w .place .from) (w .place .used)
 
-  pub place-located : {r : Bool} {s : Span} → r ≡ fileFits file → r ≡ true → s .from ≡ l .from → s .length ≡ l .length → Locating file p e k s
+-- what `locate` answers, by the block that counts
+module _ (file : List ℕ) (p e k : ℕ) {r : Bool} {s : Span} (q : r ≡ fileFits file) where
+  pub counted-located : {o : Option ℕ} → r ≡ true → counted file p e k ≡ o → s .from ≡ startOf o → s .length ≡ lengthOf file o → Locating file p e k s
   unfolding handed
-  place-located q t a b =
+  counted-located {o} t c a b =
       let f : fileFits file ≡ true = sym q ∙ t in
-      let same : counted file p e k ≡ handed file p e k = rw f refl in
-      record {
-        from = a ∙ w .place .from ∙ ap startOf same;
-        used = b ∙ w .place .used ∙ ap (lengthOf file) same;
-        within = omega (arith, place-within f);
-      }
+      let same : o ≡ handed file p e k = rw f (sym c) in
+      let room : startOf o + lengthOf file o ≤ length file = rw c at (used-within f (counted-view file p e k)) in
+      record { from = a ∙ ap startOf same; used = b ∙ ap (lengthOf file) same; within = omega arith }
 
-pub none-located : (file : List ℕ) (p e k : ℕ) {r : Bool} {s : Span} → r ≡ fileFits file → r ≡ false → s .from ≡ 0 → s .length ≡ 0 → Locating file p e k s
-unfolding handed
-none-located file p e k q t a b =
-    let missing : none ≡ handed file p e k = rw (sym q ∙ t) refl in
-    record {
-      from = a ∙ ap startOf missing;
-      used = b ∙ ap (lengthOf file) missing;
-      within = omega arith;
-    }
+  pub refused-located : r ≡ false → s .from ≡ 0 → s .length ≡ 0 → Locating file p e k s
+  unfolding handed
+  refused-located t a b =
+      let missing : none ≡ handed file p e k = rw (sym q ∙ t) refl in
+      record {
+        from = a ∙ ap startOf missing;
+        used = b ∙ ap (lengthOf file) missing;
+        within = omega arith;
+      }

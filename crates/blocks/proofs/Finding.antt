@@ -7,12 +7,12 @@ use Prim.Native.Nat.{ℕ, _+_, _-_, _≤_}
 use native.Mathlib.Nat.{sub-zero}
 use native.Mathlib.Numerals.{add-one}
 use native.Mathlib.Omega.{arith}
-use lib.Dec.{eqb}
 use lib.ListN.{length, getD}
-use Rattle.blocks.specs.Block.{programIn, good}
-use Rattle.blocks.specs.Editions.{blocksIn, blockAt, lastBelow, isFor, counted}
+use Rattle.blocks.specs.Block.{good}
+use Rattle.blocks.specs.Editions.{blocksIn, blockAt, lastBelow, isGoodFor, counted}
 use Rattle.blocks.specs.declared.Place.{Place}
-use Rattle.blocks.specs.Steps.{usable, Checked, isPart, Placed, Found}
+use Rattle.blocks.specs.Steps.{Checked, isPart, Placed, Found}
+use Rattle.blocks.proofs.Good.{good-for-is}
 
 module _ (f : ℕ → Bool) (j : ℕ) where
   pub last-next : f j ≡ false → lastBelow f (j + 1) ≡ lastBelow f j
@@ -21,20 +21,9 @@ module _ (f : ℕ → Bool) (j : ℕ) where
   pub last-found : f j ≡ true → lastBelow f (j + 1) ≡ some j
   last-found e = ap (lastBelow f) (add-one j) ∙ (rw e refl)
 
--- a good block for a program, an edition and a part
+-- block i is a good one for a program, an edition and a part
 abbrev pub counts : (file : List ℕ) (p e k : ℕ) → ℕ → Bool
-counts file p e k i = good (blockAt file i) && isFor p e k (blockAt file i)
-
--- the program is looked at first, when the blocks are checked
-counts-is : (file : List ℕ) (p e k i : ℕ) → counts file p e k i ≡ usable p (blockAt file i) && isPart e k (blockAt file i)
-unfolding isFor usable isPart
-counts-is file p e k i = shifted (good (blockAt file i)) (eqb (programIn (blockAt file i)) p) _
-  where
-    shifted : (g a x : Bool) → g && (a && x) ≡ (a && g) && x
-    shifted true true x = refl
-    shifted true false x = refl
-    shifted false true x = refl
-    shifted false false x = refl
+counts file p e k i = isGoodFor p e k (blockAt file i)
 
 -- no block from i on counts
 pub record Searching (file : List ℕ) (p e k i : ℕ) : Type 0 where
@@ -45,30 +34,32 @@ pub search-start : (file : List ℕ) (p e k : ℕ) → Searching file p e k (blo
 unfolding counted
 search-start file p e k = record { bound = omega arith; is = ap (lastBelow (counts file p e k)) (sym (sub-zero (blocksIn file))) }
 
-module _ {file : List ℕ} {marks : List Bool} {p e k i : ℕ} (c : Checked file p marks) (o : Searching file p e k i) (j : ℕ) (s : i ≡ j + 1) where
-  mark : {b : Bool} → getD marks j false ≡ b → counts file p e k j ≡ b && isPart e k (blockAt file j)
-  mark g = counts-is file p e k j ∙ ap (λ b. b && isPart e k (blockAt file j)) (sym (c .marked j (omega (arith, o .bound))) ∙ g)
-
+module _ {file : List ℕ} {p e k i : ℕ} (o : Searching file p e k i) (j : ℕ) (s : i ≡ j + 1) where
   here : counted file p e k ≡ lastBelow (counts file p e k) (j + 1)
   here = o .is ∙ ap (lastBelow (counts file p e k)) s
 
-  next : counts file p e k j ≡ false → Searching file p e k j
-  next t = record { bound = omega (arith, o .bound); is = here ∙ last-next (counts file p e k) j t }
+  pub search-next : counts file p e k j ≡ false → Searching file p e k j
+  search-next t = record { bound = omega (arith, o .bound); is = here ∙ last-next (counts file p e k) j t }
 
-  -- it is passed over, it is for another part, it counts
+  pub search-hit : counts file p e k j ≡ true → counted file p e k ≡ some j
+  search-hit t = here ∙ last-found (counts file p e k) j t
+
+pub search-none : {file : List ℕ} {p e k i : ℕ} → Searching file p e k i → i ≤ 0 → counted file p e k ≡ none
+search-none {file} {p} {e} {k} {i} o h = let left : i ≡ 0 = omega arith in o .is ∙ ap (lastBelow (counts file p e k)) left
+
+-- the same by the marks of the blocks: block j is passed over, it is for another part, it counts
+module _ {file : List ℕ} {marks : List Bool} {p e k i : ℕ} (c : Checked file p marks) (o : Searching file p e k i) (j : ℕ) (s : i ≡ j + 1) where
+  mark : {b : Bool} → getD marks j false ≡ b → counts file p e k j ≡ b && isPart e k (blockAt file j)
+  mark g = good-for-is p e k (blockAt file j) ∙ ap (λ b. b && isPart e k (blockAt file j)) (sym (c .marked j (omega (arith, o .bound))) ∙ g)
+
   pub search-bad : getD marks j false ≡ false → Searching file p e k j
-  search-bad g = next (mark g)
+  search-bad g = search-next o j s (mark g)
 
   pub search-other : {r : Bool} → getD marks j false ≡ true → r ≡ isPart e k (blockAt file j) → r ≡ false → Searching file p e k j
-  search-other g q t = next (mark g ∙ sym q ∙ t)
+  search-other g q t = search-next o j s (mark g ∙ sym q ∙ t)
 
   pub search-found : {r : Bool} {l : Place} → getD marks j false ≡ true → r ≡ isPart e k (blockAt file j) → r ≡ true → Placed file (some j) l → Found file p e k l
-  search-found g q t w =
-      let found : counted file p e k ≡ some j = here ∙ last-found (counts file p e k) j (mark g ∙ sym q ∙ t) in
-      record { place = rw found w }
+  search-found g q t w = record { place = rw (search-hit o j s (mark g ∙ sym q ∙ t)) w }
 
 pub search-ended : {file : List ℕ} {p e k i : ℕ} {l : Place} → Searching file p e k i → i ≤ 0 → l .from ≡ 0 → l .length ≡ 0 → l .parts ≡ 0 → Found file p e k l
-search-ended {file} {p} {e} {k} {i} o h a b d =
-    let none-left : i ≡ 0 = omega arith in
-    let missing : counted file p e k ≡ none = o .is ∙ ap (lastBelow (counts file p e k)) none-left in
-    record { place = rw missing (record { from = a; used = b; parts = d }) }
+search-ended o h a b d = record { place = rw (search-none o h) (record { from = a; used = b; parts = d }) }

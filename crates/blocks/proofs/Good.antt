@@ -1,6 +1,6 @@
 -- A block is good, test by test.
 use mathlib.Core.Path.{_≡_, refl, sym, ap, _∙_}
-use mathlib.Core.Bool.{Bool, true, false, _&&_}
+use mathlib.Core.Bool.{Bool, true, false, _&&_, and-true}
 use mathlib.Core.List.{List}
 use Prim.Native.Nat.{ℕ, _+_, _-_, _≤_, _<_}
 use native.Mathlib.Omega.{arith}
@@ -8,8 +8,10 @@ use borrow.Author.Tests.{eqb-true, eq-eqb, ne-eqb, leb-true, le-leb, lt-leb}
 use lib.Dec.{eqb, leb}
 use lib.ListN.{getD, take, drop}
 use Rattle.codes.proofs.Bools.{both, left, right}
-use Rattle.blocks.specs.Block.{contentSize, programIn, usedIn, firstCheck, secondCheck, checksMatch, lengthFits, allZero, zeroFilled, good}
-use Rattle.blocks.specs.Steps.{usable}
+use Rattle.blocks.specs.Block.{contentSize, programIn, editionIn, partIn, usedIn, firstCheck, secondCheck, checksMatch, lengthFits, allZero, zeroFilled, good}
+use Rattle.blocks.specs.Editions.{isFor, isGoodFor}
+use Rattle.blocks.specs.Steps.{usable, isPart}
+use Rattle.blocks.proofs.Last.{right-fails}
 
 -- what the tests of a good block say
 pub record Good (b : List ℕ) : Type 0 where
@@ -83,3 +85,21 @@ module _ (b : List ℕ) {p q : ℕ} (e : q ≡ programIn b) where
   pub of-this : {r : Bool} → q ≡ p → r ≡ good b → r ≡ usable p b
   unfolding usable
   of-this s g = g ∙ (rw (eq-eqb (programIn b) p (sym e ∙ s)) refl)
+
+-- a good block for a program, an edition and a part: the part is looked at first, or the program, and only then the sums
+module _ (p e k : ℕ) (b : List ℕ) where
+  pub good-for-is : isGoodFor p e k b ≡ usable p b && isPart e k b
+  unfolding isFor usable isPart
+  good-for-is = shifted (good b) (eqb (programIn b) p) (eqb (editionIn b) e && eqb (partIn b) k)
+    where
+      shifted : (g a x : Bool) → g && (a && x) ≡ (a && g) && x
+      shifted true true x = refl
+      shifted true false x = refl
+      shifted false true x = refl
+      shifted false false x = refl
+
+  pub other-part : {r : Bool} → r ≡ isPart e k b → r ≡ false → false ≡ isGoodFor p e k b
+  other-part q t = sym (good-for-is ∙ right-fails (usable p b) (isPart e k b) (sym q ∙ t))
+
+  pub this-part : {r u : Bool} → r ≡ isPart e k b → r ≡ true → u ≡ usable p b → u ≡ isGoodFor p e k b
+  this-part q t v = v ∙ sym (good-for-is ∙ ap (λ x. usable p b && x) (sym q ∙ t) ∙ and-true (usable p b))

@@ -1,5 +1,5 @@
 -- The parts of an edition, joined one after the other.
-use mathlib.Core.Path.{_≡_, sym, ap, _∙_}
+use mathlib.Core.Path.{_≡_, refl, sym, ap, _∙_}
 use mathlib.Core.List.{List, [], _++_, append-assoc, append-nil}
 use Prim.Native.Nat.{ℕ, zero, suc, _+_, _-_, _≤_, _<_}
 use native.Mathlib.Decide.{decLt}
@@ -27,6 +27,10 @@ module _ (f : ℕ → List ℕ) where
           let s : k ≡ m = omega arith in
           let here : length (joined f m) + length (f m) ≤ length (joined f m ++ f m) = omega (arith, length-append (joined f m) (f m)) in
           rw s here
+
+pub joined-same : (f g : ℕ → List ℕ) (m : ℕ) → ((k : ℕ) → k < m → f k ≡ g k) → joined f m ≡ joined g m
+joined-same f g zero h = refl
+joined-same f g (suc m) h = ap (λ l. l ++ f m) (joined-same f g m (λ k l. h k (omega arith))) ∙ ap (λ l. joined g m ++ l) (h m (omega arith))
 
 -- the parts before k are written at the front of a table
 pub record Joining (f : ℕ → List ℕ) (m : ℕ) (old now : List ℕ) (at k : ℕ) : Type 0 where

@@ -12,3 +12,4 @@ pub mod Choosing
 pub mod Fetches
 pub mod Damage
 pub mod Theorems
+pub mod Storing

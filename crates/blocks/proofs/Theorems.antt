@@ -1,10 +1,10 @@
--- The theorems of specs/Theorems.antt but `Damage`.
+-- The theorems of specs/Theorems.antt but `Damage` and `RoundTrip`.
 use mathlib.Core.Path.{_≡_, refl, sym, ap, _∙_}
 use mathlib.Core.Logic.{_↔_, _⊎_, inl, inr, ⊎-elim}
 use mathlib.Core.Bool.{Bool, true, false, _&&_, _||_, cond}
 use mathlib.Core.Option.{Option, none, some}
-use mathlib.Core.List.{List, [], _∷_, _++_, foldl}
-use Prim.Native.Nat.{ℕ, zero, suc, _+_, _≤_, _<_}
+use mathlib.Core.List.{List, [], _∷_, foldl}
+use Prim.Native.Nat.{ℕ, _+_, _≤_, _<_}
 use native.Mathlib.Nat.{mod-add-mod, mod-lt, mod-eq-of-lt, add-zero}
 use native.Mathlib.Decide.{decLt}
 use native.Mathlib.Omega.{arith}
@@ -21,6 +21,7 @@ use Rattle.blocks.proofs.Last.{last-some, last-none, all-holds, holds-a
 use Rattle.blocks.proofs.Finding.{counts}
 use Rattle.blocks.proofs.Counted.{Counts, missing, block, counted-view, content-length}
 use Rattle.blocks.proofs.Good.{good-is}
+use Rattle.blocks.proofs.Joining.{joined-same}
 use Rattle.blocks.proofs.Choosing.{Bytes, edition-below, led}
 
 -- ---- the check bytes as a fold
@@ -74,7 +75,7 @@ module _ (file : List ℕ) (p e k : ℕ) where
         part = eqb-true _ _ (right (eqb (editionIn b) e) rest);
       }
 
-  latest-is : (i : ℕ) → (counted file p e k ≡ some i) ↔ (Stored file p e k i × ((j : ℕ) → Stored file p e k j → j ≤ i))
+  pub latest-is : (i : ℕ) → (counted file p e k ≡ some i) ↔ (Stored file p e k i × ((j : ℕ) → Stored file p e k j → j ≤ i))
   unfolding counted
   latest-is i =
       let (there, back) = last-some (counts file p e k) (blocksIn file) i in (
@@ -118,11 +119,11 @@ module _ (file : List ℕ) (p e : ℕ) where
       go (yes l) = inr-true (leb m (k + 1)) _ (eq-eqb _ _ (ap (lengthOf file) (c .counts) ∙ c .full l))
       go (no l) = inl-true _ (eqb (lengthOf file (counted file p e k)) contentSize) (le-leb m (k + 1) (omega arith))
 
-  parts-named : (m : ℕ) → Complete file p e m 0 → m ≡ partsOf file p e
+  pub parts-named : (m : ℕ) → Complete file p e m 0 → m ≡ partsOf file p e
   unfolding partsOf
   parts-named m c = sym (ap (namedBy file) (c .counts) ∙ c .names)
 
-  whole-is : (whole file p e ≡ true) ↔ ((m : ℕ) × (1 ≤ m) × ((k : ℕ) → k < m → Complete file p e m k))
+  pub whole-is : (whole file p e ≡ true) ↔ ((m : ℕ) × (1 ≤ m) × ((k : ℕ) → k < m → Complete file p e m k))
   unfolding whole
   whole-is = (
     λ w.
@@ -215,6 +216,13 @@ module _ {file : List ℕ} {p : ℕ} {old new : List ℕ} where
       let none-named : node ≡ 0 = cc in
       (t, none-named, rw same x)
 
+-- the numbers of the checks
+pub reason-known : {room : ℕ} {file : List ℕ} {p number : ℕ} → Reason room file p number → (1 ≤ number) × (number ≤ 18)
+reason-known (shortBuffer h) = (omega arith, omega arith)
+reason-known (badFile r f) = (omega arith, omega arith)
+reason-known (noEdition r f w) = (omega arith, omega arith)
+reason-known (longTable e r f w h) = (omega arith, omega arith)
+
 pub of-fetch : OfFetch
 of-fetch =
     record {
@@ -241,13 +249,9 @@ handed-counted : (file : List ℕ) (p e k : ℕ) → fileFits file ≡ true → 
 unfolding handed
 handed-counted file p e k f = rw f refl
 
-joined-same : (f g : ℕ → List ℕ) (m : ℕ) → ((k : ℕ) → f k ≡ g k) → joined f m ≡ joined g m
-joined-same f g zero h = refl
-joined-same f g (suc m) h = ap (λ l. l ++ f m) (joined-same f g m h) ∙ ap (λ l. joined g m ++ l) (h m)
-
 joins-is : (file : List ℕ) (p e : ℕ) → fileFits file ≡ true → tableOf file p e ≡ joined (λ k. contentOf file (handed file p e k)) (partsOf file p e)
 unfolding tableOf
-joins-is file p e f = joined-same _ _ (partsOf file p e) (λ k. ap (contentOf file) (sym (handed-counted file p e k f)))
+joins-is file p e f = joined-same _ _ (partsOf file p e) (λ k _. ap (contentOf file) (sym (handed-counted file p e k f)))
 
 pub of-part : OfPart
 of-part = record { empty = empty-is; joins = joins-is }

@@ -34,9 +34,12 @@ allBelow f (suc n) = allBelow f n && f n
 unfoldable pub isFor : (program edition part : ℕ) → List ℕ → Bool
 isFor p e k b = eqb (programIn b) p && (eqb (editionIn b) e && eqb (partIn b) k)
 
+abbrev pub isGoodFor : (program edition part : ℕ) → List ℕ → Bool
+isGoodFor p e k b = good b && isFor p e k b
+
 -- of the good blocks for them the last in the file counts
 unfoldable pub counted : (file : List ℕ) (program edition part : ℕ) → Option ℕ
-counted file p e k = lastBelow (λ i. good (blockAt file i) && isFor p e k (blockAt file i)) (blocksIn file)
+counted file p e k = lastBelow (λ i. isGoodFor p e k (blockAt file i)) (blocksIn file)
 
 -- the used content of a block that counts, as a part of the file: where it starts, and how long it is
 abbrev pub startOf : Option ℕ → ℕ

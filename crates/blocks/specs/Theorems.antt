@@ -1,5 +1,5 @@
--- What F-4 says, sentence by sentence, of the definitions and of the calls: the statements alone. The proofs are in proofs/Theorems.antt
--- and proofs/Damage.antt.
+-- What F-4 says, sentence by sentence, of the definitions and of the calls: the statements alone. The proofs are in proofs/Theorems.antt,
+-- proofs/Damage.antt and proofs/Storing.antt.
 use mathlib.Core.Path.{_≡_}
 use mathlib.Core.Logic.{_↔_, _⊎_}
 use mathlib.Core.Bool.{true, false}
@@ -10,6 +10,7 @@ use lib.ListN.{length, getD, set, drop}
 use Rattle.blocks.specs.Block.{blockSize, contentSize, programIn, editionIn, partIn, partsIn, usedIn, reduced, firstCheck, secondCheck, good}
 use Rattle.blocks.specs.Editions.{fileFits, blocksIn, blockAt, counted, contentOf, partsOf, whole, newest, joined, tableOf}
 use Rattle.blocks.specs.Fetching.{handed, maxTable, Fetching}
+use Rattle.blocks.specs.Storing.{partCount, stored, Holds}
 use Rattle.blocks.specs.declared.Fetched.{Fetched}
 use Rattle.blocks.specs.declared.Fetched.the-variants.{Done, Refused}
 
@@ -105,3 +106,21 @@ pub record OfPart : Type 0 where
   pub empty : (file : List ℕ) (p e k : ℕ) → (contentOf file (handed file p e k) ≡ []) ↔ ((counted file p e k ≡ none) ⊎ (fileFits file ≡ false))
   -- a table is the parts that `part` hands out, joined
   pub joins : (file : List ℕ) (p e : ℕ) → fileFits file ≡ true → tableOf file p e ≡ joined (λ k. contentOf file (handed file p e k)) (partsOf file p e)
+
+-- ---- what is stored is fetched back
+
+pub record RoundTrip : Type 0 where
+  -- an edition as which a file holds a table is whole, and its table is that one
+  pub held :
+      (file : List ℕ) (p e : ℕ) (t : List ℕ) → fileFits file ≡ true → 1 ≤ length t → Holds file p e t →
+      (whole file p e ≡ true) × (partsOf file p e ≡ partCount t) × (tableOf file p e ≡ t)
+  -- it is fetched if no higher edition is whole
+  pub fetched :
+      (file : List ℕ) (p e : ℕ) (t old new : List ℕ) (r : Fetched) →
+      fileFits file ≡ true → e < 65536 → 1 ≤ length t → length t ≤ maxTable → Holds file p e t → ((d : ℕ) → e < d → whole file p d ≡ false) →
+      maxTable ≤ length old → Fetching file p old new r →
+      (r ≡ Done (length t) e (partCount t)) × (new ≡ t ++ drop (length t) old)
+  -- so it is of a file with its blocks alone
+  pub alone :
+      (p e : ℕ) (t : List ℕ) → 1 ≤ length t → length t ≤ maxTable →
+      (fileFits (stored p e t) ≡ true) × Holds (stored p e t) p e t × ((d : ℕ) → e < d → whole (stored p e t) p d ≡ false)

@@ -6,7 +6,7 @@ ghost use mathlib.Core.Option.{some};
 ghost use Prim.Native.Nat.{_+_, _*_, _<_, _≤_};
 ghost use lib.ListN.{length, drop};
 ghost use Rattle.blocks.specs.Block.{blockSize, word as wordOf, allZero, good as goodOf};
-ghost use Rattle.blocks.specs.Editions.{fileFits, blocksIn, partsOf, newest as newestOf, tableOf};
+ghost use Rattle.blocks.specs.Editions.{fileFits, blocksIn, isGoodFor, partsOf, newest as newestOf, tableOf};
 ghost use Rattle.blocks.specs.Steps.{Summed, usable, Checked, isPart, Placed, Found, editionOf, beatsOf, considered, chosen};
 ghost use Rattle.blocks.specs.Fetching.{Locating, Handing, Fetching};
 
@@ -111,6 +111,17 @@ fn is_part(block: &[u8], edition: u16, number: u8) -> bool
     ensures { λ r. ⌜ r ≡ isPart edition number (now (block .entry)) ⌝ }
 {
     (word(block, 2) == edition) & (block[4] == number)
+}
+
+// Whether a block is a good one for a program, an edition and a part; one for another is not summed.
+fn is_good_for(block: &[u8], program: u16, edition: u16, number: u8) -> bool
+    requires { ⌜ length (now block) ≡ blockSize ⌝ }
+    ensures { λ r. ⌜ r ≡ isGoodFor program edition number (now (block .entry)) ⌝ }
+{
+    if !is_part(block, edition, number) {
+        return false;
+    }
+    is_usable(block, program)
 }
 
 // Whether the file is whole blocks, at most 64 of them (17).
@@ -311,19 +322,29 @@ pub struct Span {
     pub length: usize,
 }
 
-// Where the used content of a part is; empty if no block counts for it, or the file is refused 17.
+// Where the used content of a part is; empty if no block counts for it, or the file is refused 17. From the last block down: the
+// first that is met counts, and no other has to be summed.
 pub fn locate(file: &[u8], program: u16, edition: u16, number: u8) -> Span
     ensures { λ r. ⌜ Locating (now (file .entry)) program edition number r ⌝ }
 {
     if !fits(file) {
         return Span { from: 0, length: 0 };
     }
-    let good = check_blocks(file, program);
-    let place = find(file, &good, program, edition, number);
-    Span {
-        from: place.from,
-        length: place.length,
+    let n = file.len() / BLOCK;
+    let mut seen: usize = 0;
+    while seen < n {
+        seen += 1;
+        let at = BLOCK * (n - seen);
+        let block = &file[at..at + BLOCK];
+        if is_good_for(block, program, edition, number) {
+            let length = word(block, 6) as usize;
+            return Span {
+                from: at + 8,
+                length,
+            };
+        }
     }
+    Span { from: 0, length: 0 }
 }
 
 // The used content of a part, as a part of the lent file.

@@ -11,15 +11,10 @@ fn wide(x: u8) -> usize
     x as usize
 }
 
-// Writes a space and a number.
-fn write_number(n: usize) -> bool {
-    io::write_all(libc::STDOUT_FILENO, b" ") && io::print_decimal(libc::STDOUT_FILENO, n as u64)
-}
-
 fn write_bytes(bytes: &[u8]) -> bool {
     let mut i: usize = 0;
     while i < bytes.len() {
-        if !write_number(wide(bytes[i])) {
+        if !output::write_number(wide(bytes[i])) {
             return false;
         }
         i += 1;
@@ -32,15 +27,13 @@ fn read_one(text: &[u8]) -> bool {
     let mut table = [0u8; 2 * esterel::MAX_NODES];
     let reading = text::read(text, &mut table);
     match reading {
-        Reading::Done { nodes, signals } => io::write_all(libc::STDOUT_FILENO, b"ok")
-            && write_number(nodes)
-            && write_number(signals)
+        Reading::Done { nodes, signals } => output::write_word(b"ok")
+            && output::write_number(nodes)
+            && output::write_number(signals)
             && write_bytes(&table[..2 * nodes])
-            && io::write_all(libc::STDOUT_FILENO, b"\n"),
-        Reading::Refused { number, node } => io::write_all(libc::STDOUT_FILENO, b"refused")
-            && write_number(wide(number))
-            && write_number(node)
-            && io::write_all(libc::STDOUT_FILENO, b"\n"),
+            && output::write_word(b"\n"),
+        Reading::Refused { number, node } => output::write_refusal(number, node)
+            && output::write_word(b"\n"),
     }
 }
 

@@ -1,11 +1,11 @@
-//! Tables and texts of documents 01 and 02, and filled buffers to lend.
+//! Tables, texts and blocks of documents 01 and 02, and filled buffers to lend.
 
 #![allow(dead_code)] // each test file uses a part of this
 
 use bavzhrono::{analyse, render, resume, start, tick};
 use bavzhrono::{
-    Analysis, Closed, CodeSet, Completion, Mark, Refusal, Tick, MAX_NODES, MAX_TEXT, SIGNALS,
-    TICK_ANSWERS,
+    Analysis, Closed, CodeSet, Completion, Mark, Refusal, Tick, BLOCK, MAX_NODES, MAX_TEXT,
+    SIGNALS, TICK_ANSWERS,
 };
 
 pub const W1: &[u8] = &[2, 0, 3, 7, 9, 0, 8, 0];
@@ -174,4 +174,26 @@ pub fn emits(signals: usize) -> String {
 /// A text and blanks after it, so many bytes in all.
 pub fn padded(text: &str, length: usize) -> String {
     format!("{text:length$}")
+}
+
+/// A block of the service partition, as F-4 has it.
+pub fn block(program: u16, edition: u16, part: u8, parts: u8, content: &[u8]) -> Vec<u8> {
+    let used = u16::try_from(content.len()).unwrap();
+    let numbers = [program.to_le_bytes(), edition.to_le_bytes(), [part, parts]];
+    let front = [numbers.concat(), used.to_le_bytes().to_vec()].concat();
+    let mut bytes = [&front, content].concat();
+    bytes.resize(BLOCK, 0);
+    put_check_bytes(&mut bytes);
+    bytes
+}
+
+/// The sums have room for all bytes, so 255 need not be taken off on the way.
+pub fn put_check_bytes(block: &mut [u8]) {
+    let (mut sum, mut running) = (0, 0);
+    for &byte in &block[..510] {
+        sum += u32::from(byte);
+        running += sum;
+    }
+    block[510] = (sum % 255) as u8;
+    block[511] = (running % 255) as u8;
 }

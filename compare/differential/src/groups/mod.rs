@@ -6,6 +6,7 @@ use compare::support::random::Random;
 use crate::tally::{Difference, Tally};
 use crate::trials::Instant;
 
+pub mod blocks;
 mod exhaustive;
 mod instants;
 mod lengths;
@@ -23,7 +24,7 @@ pub struct Group {
     pub random: bool,
 }
 
-pub const GROUPS: [Group; 31] = [
+pub const GROUPS: [Group; 39] = [
     Group {
         name: "Table W and the edges",
         run: tables::edges,
@@ -177,6 +178,46 @@ pub const GROUPS: [Group; 31] = [
     Group {
         name: "texts with tables and answers of all lengths",
         run: texts::lengths,
+        random: true,
+    },
+    Group {
+        name: "blocks at the edges, with tables and answers of all lengths",
+        run: blocks::edges,
+        random: false,
+    },
+    Group {
+        name: blocks::ALL,
+        run: blocks::all,
+        random: false,
+    },
+    Group {
+        name: "tables of every length, stored among other blocks",
+        run: blocks::every_table,
+        random: true,
+    },
+    Group {
+        name: "blocks with every byte changed",
+        run: blocks::damaged,
+        random: false,
+    },
+    Group {
+        name: "files of blocks of every length up to five, and around 64",
+        run: blocks::cut,
+        random: true,
+    },
+    Group {
+        name: "files of up to five blocks in every order",
+        run: blocks::orders,
+        random: true,
+    },
+    Group {
+        name: "files of up to 64 blocks and more",
+        run: blocks::drawn,
+        random: true,
+    },
+    Group {
+        name: "files of blocks with tables and answers of all lengths",
+        run: blocks::lengths,
         random: true,
     },
 ];

@@ -14,11 +14,11 @@ abbrev μ-loop : tie.MeasureT-loop
 is-filled-requires : tie.Need-is-filled-requires Inv-loop μ-loop
 is-filled-requires c κs = search needs
 
-slice-aggregate-write-all : tie.Need-slice-aggregate-write-all Inv-loop μ-loop
-slice-aggregate-write-all c = search needs
+slice-aggregate-write-word : tie.Need-slice-aggregate-write-word Inv-loop μ-loop
+slice-aggregate-write-word c = search needs
 
-write-all-requires : tie.Need-write-all-requires Inv-loop μ-loop
-write-all-requires c κs = search needs
+write-word-requires : tie.Need-write-word-requires Inv-loop μ-loop
+write-word-requires c κs = search needs
 
 returns : tie.Need-returns Inv-loop μ-loop
 returns c = search needs
@@ -57,8 +57,8 @@ write-emissions-spec =
     Inv-loop
     μ-loop
     is-filled-requires
-    slice-aggregate-write-all
-    write-all-requires
+    slice-aggregate-write-word
+    write-word-requires
     returns
     loop-holds
     shared-slice-read-if2

@@ -1,9 +1,9 @@
 -- `texts::read_one` meets its contract: the table lies within its buffer.
+use borrow.Author.Needs.{needs}
 use mathlib.Core.Path.{sym}
 use native.Mathlib.Omega.{arith}
 use lib.Seq.{length-take-le}
 use Rattle.text.proofs.Theorems.{of-read, written-long}
-use borrow.Author.Needs.{needs}
 use Rattle.texts.proofs.read_one.Statement.{statement}
 use Rattle.texts.proofs.read_one.Tie as tie
 
@@ -16,11 +16,11 @@ read-requires c κs = search needs
 enum-known-reading : tie.Need-enum-known-reading
 enum-known-reading c = search needs
 
-slice-aggregate-write-all : tie.Need-slice-aggregate-write-all
-slice-aggregate-write-all c = search needs
+slice-aggregate-write-word : tie.Need-slice-aggregate-write-word
+slice-aggregate-write-word c = search needs
 
-write-all-requires : tie.Need-write-all-requires
-write-all-requires c κs = search needs
+write-word-requires : tie.Need-write-word-requires
+write-word-requires c κs = search needs
 
 write-number-requires : tie.Need-write-number-requires
 write-number-requires c κs = search needs
@@ -40,35 +40,23 @@ slice-aggregate-write-bytes c = sym (length-take-le _ _ (written-long _ _ _ _ _ 
 write-bytes-requires : tie.Need-write-bytes-requires
 write-bytes-requires c κs = search needs
 
-slice-aggregate-write-all-2 : tie.Need-slice-aggregate-write-all-2
-slice-aggregate-write-all-2 c = search needs
+slice-aggregate-write-word-2 : tie.Need-slice-aggregate-write-word-2
+slice-aggregate-write-word-2 c = search needs
 
-write-all-requires-2 : tie.Need-write-all-requires-2
-write-all-requires-2 c κs = search needs
+write-word-requires-2 : tie.Need-write-word-requires-2
+write-word-requires-2 c κs = search needs
 
 enum-known-reading-2 : tie.Need-enum-known-reading-2
 enum-known-reading-2 c = search needs
 
-slice-aggregate-write-all-3 : tie.Need-slice-aggregate-write-all-3
-slice-aggregate-write-all-3 c = search needs
+write-refusal-requires : tie.Need-write-refusal-requires
+write-refusal-requires c κs = search needs
 
-write-all-requires-3 : tie.Need-write-all-requires-3
-write-all-requires-3 c κs = search needs
+slice-aggregate-write-word-3 : tie.Need-slice-aggregate-write-word-3
+slice-aggregate-write-word-3 c = search needs
 
-wide-requires : tie.Need-wide-requires
-wide-requires c κs = search needs
-
-write-number-requires-3 : tie.Need-write-number-requires-3
-write-number-requires-3 c κs = search needs
-
-write-number-requires-4 : tie.Need-write-number-requires-4
-write-number-requires-4 c κs = search needs
-
-slice-aggregate-write-all-4 : tie.Need-slice-aggregate-write-all-4
-slice-aggregate-write-all-4 c = search needs
-
-write-all-requires-4 : tie.Need-write-all-requires-4
-write-all-requires-4 c κs = search needs
+write-word-requires-3 : tie.Need-write-word-requires-3
+write-word-requires-3 c κs = search needs
 
 returns : tie.Need-returns
 returns c = search needs
@@ -84,30 +72,4 @@ returns-4 c = search needs
 
 pub read-one-spec : {M : Type 1} → statement M
 read-one-spec =
-    tie.close
-    (tie.spec
-    slice-aggregate-read
-    read-requires
-    enum-known-reading
-    slice-aggregate-write-all
-    write-all-requires
-    write-number-requires
-    write-number-requires-2
-    mul-table
-    array-share-prefix-table
-    slice-aggregate-write-bytes
-    write-bytes-requires
-    slice-aggregate-write-all-2
-    write-all-requires-2
-    enum-known-reading-2
-    slice-aggregate-write-all-3
-    write-all-requires-3
-    wide-requires
-    write-number-requires-3
-    write-number-requires-4
-    slice-aggregate-write-all-4
-    write-all-requires-4
-    returns
-    returns-2
-    returns-3
-    returns-4)
+    tie.close (tie.spec slice-aggregate-read read-requires enum-known-reading slice-aggregate-write-word write-word-requires write-number-requires write-number-requires-2 mul-table array-share-prefix-table slice-aggregate-write-bytes write-bytes-requires slice-aggregate-write-word-2 write-word-requires-2 enum-known-reading-2 write-refusal-requires slice-aggregate-write-word-3 write-word-requires-3 returns returns-2 returns-3 returns-4)

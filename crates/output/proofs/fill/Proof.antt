@@ -1,10 +1,10 @@
--- `instants::fill` meets its contract: the buffer keeps its length.
+-- `output::fill` meets its contract: the buffer keeps its length.
 use borrow.Author.Needs.{needs}
 use mathlib.Core.Path.{_≡_}
 use Prim.Native.Nat.{_-_}
 use lib.ListN.{length}
-use Rattle.instants.proofs.fill.Statement.{statement}
-use Rattle.instants.proofs.fill.Tie as tie
+use Rattle.output.proofs.fill.Statement.{statement}
+use Rattle.output.proofs.fill.Tie as tie
 
 abbrev Inv-loop : tie.InvT-loop
 Inv-loop bytes₀ first byte₀ i₀ bytes byte i = length bytes ≡ length bytes₀

@@ -1,9 +1,9 @@
--- `instants::is_filled` meets its contract: the place rises at each turn.
+-- `output::is_filled` meets its contract: the place rises at each turn.
 use borrow.Author.Needs.{needs}
 use Prim.Native.Nat.{_-_}
 use lib.ListN.{length}
-use Rattle.instants.proofs.is_filled.Statement.{statement}
-use Rattle.instants.proofs.is_filled.Tie as tie
+use Rattle.output.proofs.is_filled.Statement.{statement}
+use Rattle.output.proofs.is_filled.Tie as tie
 
 abbrev Inv-loop : tie.InvT-loop
 Inv-loop bytes first byte₀ i₀ byte i = Unit {0}

@@ -1,12 +1,12 @@
--- `instants::write_hex` meets its contract: two digits for each byte fit in the text.
+-- `output::write_hex` meets its contract: two digits for each byte fit in the text.
 use borrow.Author.Needs.{needs}
 use native.Mathlib.Omega.{arith}
 use mathlib.Core.Path.{_≡_, sym}
 use Prim.Native.Nat.{_-_, _≤_}
 use lib.ListN.{length}
 use lib.Seq.{length-take-le}
-use Rattle.instants.proofs.write_hex.Statement.{statement}
-use Rattle.instants.proofs.write_hex.Tie as tie
+use Rattle.output.proofs.write_hex.Statement.{statement}
+use Rattle.output.proofs.write_hex.Tie as tie
 
 abbrev Inv-loop : tie.InvT-loop
 Inv-loop bytes text₀ i₀ t6 text i = (length text ≡ 4096) × (length bytes ≤ 2048) × (i ≤ length bytes)
@@ -14,11 +14,11 @@ Inv-loop bytes text₀ i₀ t6 text i = (length text ≡ 4096) × (length bytes 
 abbrev μ-loop : tie.MeasureT-loop
 μ-loop bytes text₀ i₀ t6 text i = length bytes - i
 
-slice-aggregate-write-all : tie.Need-slice-aggregate-write-all Inv-loop μ-loop
-slice-aggregate-write-all c = search needs
+slice-aggregate-write-word : tie.Need-slice-aggregate-write-word Inv-loop μ-loop
+slice-aggregate-write-word c = search needs
 
-write-all-requires : tie.Need-write-all-requires Inv-loop μ-loop
-write-all-requires c κs = search needs
+write-word-requires : tie.Need-write-word-requires Inv-loop μ-loop
+write-word-requires c κs = search needs
 
 returns : tie.Need-returns Inv-loop μ-loop
 returns c = search needs
@@ -56,20 +56,20 @@ loop-again c = search needs
 mul-end : tie.Need-mul-end Inv-loop μ-loop
 mul-end c = search needs
 
-slice-aggregate-write-all-2 : tie.Need-slice-aggregate-write-all-2 Inv-loop μ-loop
-slice-aggregate-write-all-2 c = search needs
+slice-aggregate-write-word-2 : tie.Need-slice-aggregate-write-word-2 Inv-loop μ-loop
+slice-aggregate-write-word-2 c = search needs
 
-write-all-requires-2 : tie.Need-write-all-requires-2 Inv-loop μ-loop
-write-all-requires-2 c κs = search needs
+write-word-requires-2 : tie.Need-write-word-requires-2 Inv-loop μ-loop
+write-word-requires-2 c κs = search needs
 
 array-share-prefix-text : tie.Need-array-share-prefix-text Inv-loop μ-loop
 array-share-prefix-text c = search needs
 
-slice-aggregate-write-all-3 : tie.Need-slice-aggregate-write-all-3 Inv-loop μ-loop
-slice-aggregate-write-all-3 c = sym (length-take-le _ _ (omega (arith, c .before .before .before .before .before .loop .inv .0, c .before .before .before .before .before .loop .inv .1)))
+slice-aggregate-write-word-3 : tie.Need-slice-aggregate-write-word-3 Inv-loop μ-loop
+slice-aggregate-write-word-3 c = sym (length-take-le _ _ (omega (arith, c .before .before .before .before .before .loop .inv .0, c .before .before .before .before .before .loop .inv .1)))
 
-write-all-requires-3 : tie.Need-write-all-requires-3 Inv-loop μ-loop
-write-all-requires-3 c κs = search needs
+write-word-requires-3 : tie.Need-write-word-requires-3 Inv-loop μ-loop
+write-word-requires-3 c κs = search needs
 
 returns-3 : tie.Need-returns-3 Inv-loop μ-loop
 returns-3 c = search needs
@@ -83,8 +83,8 @@ write-hex-spec =
     (tie.spec
     Inv-loop
     μ-loop
-    slice-aggregate-write-all
-    write-all-requires
+    slice-aggregate-write-word
+    write-word-requires
     returns
     buffer-requires
     returns-2
@@ -97,10 +97,10 @@ write-hex-spec =
     loop-less
     loop-again
     mul-end
-    slice-aggregate-write-all-2
-    write-all-requires-2
+    slice-aggregate-write-word-2
+    write-word-requires-2
     array-share-prefix-text
-    slice-aggregate-write-all-3
-    write-all-requires-3
+    slice-aggregate-write-word-3
+    write-word-requires-3
     returns-3
     returns-4)
