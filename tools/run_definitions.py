@@ -257,7 +257,7 @@ firstWhole file p [] = none
 firstWhole file p (e ∷ es) = cond (B.whole file p e) (some e) (firstWhole file p es)
 
 abbrev pub fetchedAs : F.Outcome → Shown
-fetchedAs (F.found e m t) = written t
+fetchedAs (F.fetched e m t) = written t
 fetchedAs (F.refused number) = refusal number 0
 
 abbrev pub fetchOf : (file : List ℕ) (program : ℕ) (editions : List ℕ) → Shown

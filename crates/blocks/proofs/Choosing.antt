@@ -3,198 +3,125 @@ use mathlib.Core.Path.{_≡_, refl, sym, ap, _∙_}
 use mathlib.Core.Bool.{Bool, true, false, cond}
 use mathlib.Core.Option.{Option, none, some}
 use mathlib.Core.List.{List}
-use Prim.Native.Nat.{ℕ, zero, suc, _+_, _*_, _≤_, _<_}
+use Prim.Native.Nat.{ℕ, _+_, _*_, _≤_, _<_}
+use native.Mathlib.Decide.{decLt}
 use native.Mathlib.Omega.{arith}
-use borrow.Author.Tests.{leb-true, eqb-true, eq-eqb, ne-eqb, ltb-true, ltb-false}
-use lib.Dec.{eqb, leb}
-use lib.ListN.{length, getD, take, drop}
+use borrow.Author.Count.{below-more}
+use borrow.Author.Tests.{leb-true, eq-eqb, lt-ltb, ltb-true}
+use lib.Dec.{leb}
+use lib.ListN.{getD, take, drop}
 use lib.Seq.{getD-take, getD-drop}
-use Rattle.blocks.specs.Block.{blockSize, word, programIn, editionIn, partIn}
-use Rattle.blocks.specs.Editions.{blocksIn, blockAt, lastBelow, isFor, counted, startOf, namedBy, partsOf, whole, newest, tableOf}
+use Rattle.codes.proofs.Bools.{both, left, cannot-pass, false-not-true}
+use Rattle.blocks.specs.Block.{blockSize, contentAt, Bytes, word, editionIn}
+use Rattle.blocks.specs.Editions.{blocksIn, blockAt, counted, startOf, namedBy, partsOf, whole, newest}
+use Rattle.blocks.specs.Steps.{usable, Checked, FoundPlace, chosen, editionOf, higherThan, Best, none-yet, best}
 use Rattle.blocks.specs.declared.Place.{Place}
 use Rattle.blocks.specs.declared.Edition.{Edition}
-use Rattle.blocks.specs.declared.Edition.the-variants.{Whole, Broken}
-use Rattle.blocks.specs.Steps.{Found, editionOf, chosen, beatsOf, orElse, betterOf, isAt, leads, considered}
-use Rattle.codes.proofs.Bools.{false-not-true, left, right}
-use Rattle.blocks.proofs.Last.{below-suc, nothing, last, last-view, last-unique}
-use Rattle.blocks.proofs.Completing.{not-whole, is-whole}
-use Rattle.blocks.proofs.Counted.{Counts, missing, block, counted-view}
+use Rattle.blocks.specs.declared.Edition.the-variants.{Whole, None}
+use Rattle.blocks.proofs.Blocks.{block-below}
+use Rattle.blocks.proofs.Last.{last-some, last-none}
+use Rattle.blocks.proofs.Counted.{block, counted-good}
 
--- an edition is taken where it is higher than the best so far, and whole
-module _ (file : List ℕ) (p e : ℕ) (best : Edition) where
-  pub not-higher : beatsOf e best ≡ false → best ≡ betterOf file p e best
-  not-higher t = sym (ap (λ b. cond b (orElse (editionOf file p e) best) best) t)
+-- ---- one more block
 
-  pub higher : {r : Edition} → beatsOf e best ≡ true → r ≡ orElse (editionOf file p e) best → r ≡ betterOf file p e best
-  higher t w = w ∙ sym (ap (λ b. cond b (orElse (editionOf file p e) best) best) t)
+-- what a check of an edition says
+module _ (file : List ℕ) (p e : ℕ) {next : Edition} (n : next ≡ editionOf file p e) where
+  by-check : (b : Bool) → whole file p e ≡ b → next ≡ cond b (chosen file p (some e)) None
+  unfolding editionOf
+  by-check b w = n ∙ ap (λ c. cond c (chosen file p (some e)) None) w
 
-pub replaced : (r best : Edition) {e m n : ℕ} → r ≡ Whole e m n → r ≡ orElse r best
-replaced r best h = rw h refl
+  not-whole : next ≡ None → whole file p e ≡ false
+  not-whole t = cannot-pass (whole file p e) (λ w. let q = by-check true w in let z : _≡_ {A = ℕ} 0 1 = cc in omega arith)
 
-pub kept : (r best : Edition) → r ≡ Broken → best ≡ orElse r best
-kept r best h = rw h refl
-
--- a block that does not lead its edition is passed by
-module _ (file : List ℕ) (p i : ℕ) (best : Edition) where
-  pub passed-by : leads file p i ≡ false → best ≡ considered file p i best
-  unfolding considered
-  passed-by t = sym (ap (λ b. cond b (betterOf file p (editionIn (blockAt file i)) best) best) t)
-
-  pub taken-up : {r : Edition} → leads file p i ≡ true → r ≡ betterOf file p (editionIn (blockAt file i)) best → r ≡ considered file p i best
-  unfolding considered
-  taken-up t w = w ∙ sym (ap (λ b. cond b (betterOf file p (editionIn (blockAt file i)) best) best) t)
-
--- where the block that counts for part 0 was found tells whether it is block i
-module _ (i : ℕ) where
-  at-start : (o : Option ℕ) → startOf o ≡ blockSize * i + 8 → isAt i o ≡ true
-  at-start none h = absurd (omega arith)
-  at-start (some j) h = eq-eqb j i (omega arith)
-
-  not-at-start : (o : Option ℕ) → (startOf o ≡ blockSize * i + 8 → ⊥) → isAt i o ≡ false
-  not-at-start none h = refl
-  not-at-start (some j) h = ne-eqb j i (λ e. h (ap (λ n. blockSize * n + 8) e))
-
--- `consider`, by its returns
-module _ (file : List ℕ) (p i : ℕ) (best : Edition) {e : ℕ} (q : e ≡ editionIn (blockAt file i)) where
-  leads-is : leads file p i ≡ isAt i (counted file p e 0)
-  unfolding leads
-  leads-is = ap (λ d. isAt i (counted file p d 0)) (sym q)
-
-  better-is : betterOf file p e best ≡ betterOf file p (editionIn (blockAt file i)) best
-  better-is = ap (λ d. betterOf file p d best) q
-
-  pub unbeaten : beatsOf e best ≡ false → best ≡ considered file p i best
-  unbeaten t = go (leads file p i) refl
+  is-whole : {d m k : ℕ} → next ≡ Whole d m k → (whole file p e ≡ true) × (next ≡ chosen file p (some e))
+  is-whole t = go (whole file p e) refl
     where
-      go : (b : Bool) → leads file p i ≡ b → best ≡ considered file p i best
-      go true l = taken-up file p i best l (not-higher file p e best t ∙ better-is)
-      go false l = passed-by file p i best l
+      go : (b : Bool) → whole file p e ≡ b → (whole file p e ≡ true) × (next ≡ chosen file p (some e))
+      go true w = (w, by-check true w)
+      go false w = absurd (let q = by-check false w in let z : _≡_ {A = ℕ} 0 1 = cc in omega arith)
 
-  module _ {l : Place} (w : Found file p e 0 l) where
-    pub elsewhere : (l .from ≡ blockSize * i + 8 → ⊥) → best ≡ considered file p i best
-    elsewhere h = passed-by file p i best (leads-is ∙ not-at-start i (counted file p e 0) (λ s. h (w .place .from ∙ s)))
+module _ {file : List ℕ} {p n : ℕ} {x : Edition} (b : Best file p n x) where
+  -- it changes nothing where no higher edition whose part 0 it is is whole
+  passed-by : ((d : ℕ) → counted file p d 0 ≡ some n → higherThan d x ≡ true → whole file p d ≡ false) → Best file p (n + 1) x
+  passed-by f = go b f
+    where
+      go : {y : Edition} → Best file p n y → ((d : ℕ) → counted file p d 0 ≡ some n → higherThan d y ≡ true → whole file p d ≡ false) → Best file p (n + 1) y
+      go (none-yet h) g = none-yet (λ d. below-more (λ i. counted file p d 0 ≡ some i → whole file p d ≡ false) n (h d) (λ c. g d c refl))
+      go (best e w h) g =
+          best e w
+          (λ d. below-more (λ i. counted file p d 0 ≡ some i → e < d → whole file p d ≡ false) n (h d) (λ c l. g d c (lt-ltb e d l)))
 
-    module _ (b : beatsOf e best ≡ true) (h : l .from ≡ blockSize * i + 8) {next : Edition} (n : next ≡ editionOf file p e) where
-      taken : {r : Edition} → r ≡ orElse next best → r ≡ considered file p i best
-      taken t =
-          taken-up file p i best (leads-is ∙ at-start i (counted file p e 0) (sym (w .place .from) ∙ h))
-          (higher file p e best b (t ∙ ap (λ x. orElse x best) n) ∙ better-is)
+  raised : (e : ℕ) → editionIn (blockAt file n) ≡ e → higherThan e x ≡ true → whole file p e ≡ true → Best file p (n + 1) (chosen file p (some e))
+  raised e q t w =
+      best e w
+      (λ d. below-more (λ i. counted file p d 0 ≡ some i → e < d → whole file p d ≡ false) n
+      (λ i h c l. go b t d i h c l)
+      (λ c l. absurd (omega (arith, counted-good c .edition))))
+    where
+      go : {y : Edition} → Best file p n y → higherThan e y ≡ true → (d i : ℕ) → i < n → counted file p d 0 ≡ some i → e < d → whole file p d ≡ false
+      go (none-yet h) u d i a c l = h d i a c
+      go (best f v h) u d i a c l = h d i a c (omega (arith, ltb-true f e u))
 
-      pub surpassed : {d m k : ℕ} → next ≡ Whole d m k → next ≡ considered file p i best
-      surpassed t = taken (replaced next best t)
+  -- `consider`, by its returns
+  pub bad-block : {marks : List Bool} → Checked file p marks → n < blocksIn file → getD marks n false ≡ false → Best file p (n + 1) x
+  unfolding usable
+  bad-block m h t =
+      passed-by (λ d c. let g = counted-good c in absurd (false-not-true (sym (m .marked n h) ∙ t) (both (eq-eqb _ _ (g .program)) (g .isGood))))
 
-      pub retained : next ≡ Broken → best ≡ considered file p i best
-      retained t = taken (kept next best t)
+  module _ {e : ℕ} (q : e ≡ editionIn (blockAt file n)) where
+    own : {d : ℕ} → counted file p d 0 ≡ some n → d ≡ e
+    own c = sym (q ∙ counted-good c .edition)
 
--- the best edition of the blocks before n
-abbrev pub bestOf : (file : List ℕ) (p n : ℕ) → Edition
-bestOf file p zero = Broken
-bestOf file p (suc n) = considered file p n (bestOf file p n)
+    pub unbeaten : higherThan e x ≡ false → Best file p (n + 1) x
+    unbeaten t = passed-by (λ d c u. absurd (false-not-true (ap (λ k. higherThan k x) (own c) ∙ t) u))
 
--- bytes, so editions are below 65,536
-abbrev pub Bytes : List ℕ → Type 0
-Bytes file = (j : ℕ) → getD file j 0 < 256
+    pub elsewhere : {l : Place} → FoundPlace file p e 0 l → (l .from ≡ blockSize * n + contentAt → ⊥) → Best file p (n + 1) x
+    elsewhere w h =
+        passed-by (λ d c u. absurd (h (w .place .from ∙ ap startOf (ap (λ k. counted file p k 0) (sym (own c)) ∙ c))))
 
-pub edition-below : (file : List ℕ) (i : ℕ) → Bytes file → editionIn (blockAt file i) < 65536
-unfolding word blockAt
-edition-below file i bytes =
-    let at = blockSize * i in
-    let low : getD (take blockSize (drop at file)) 2 0 ≡ getD file (at + 2) 0 = getD-take blockSize (drop at file) 2 0 (omega arith) ∙ getD-drop at file 2 0 in
-    let high : getD (take blockSize (drop at file)) 3 0 ≡ getD file (at + 3) 0 = getD-take blockSize (drop at file) 3 0 (omega arith) ∙ getD-drop at file 3 0 in
-    omega (arith, low, high, bytes (at + 2), bytes (at + 3))
+    module _ {next : Edition} (v : next ≡ editionOf file p e) where
+      pub retained : next ≡ None → Best file p (n + 1) x
+      retained t = passed-by (λ d c u. ap (whole file p) (own c) ∙ not-whole file p e v t)
 
--- an edition is whole, and no block before n leads a higher one that is
-pub data Best (file : List ℕ) (p n : ℕ) : Edition → Type 0 where
-  none-yet : ((i : ℕ) → i < n → leads file p i ≡ true → whole file p (editionIn (blockAt file i)) ≡ false) → Best file p n Broken
-  best : (e : ℕ) →
-      e < 65536 →
-      whole file p e ≡ true →
-      ((i : ℕ) → i < n → leads file p i ≡ true → e < editionIn (blockAt file i) → whole file p (editionIn (blockAt file i)) ≡ false) →
-      Best file p n (Whole e (partsOf file p e) (length (tableOf file p e)))
+      pub surpassed : {d m k : ℕ} → higherThan e x ≡ true → next ≡ Whole d m k → Best file p (n + 1) next
+      surpassed u t = let (w, r) = is-whole file p e v t in rw r (raised e (sym q) u w)
 
-module _ (file : List ℕ) (p n : ℕ) where
-  abbrev here : ℕ
-  here = editionIn (blockAt file n)
+-- ---- all blocks
 
-  -- a condition on the blocks before n that holds of block n too
-  with-last : (P : ℕ → Type 0) → ((i : ℕ) → i < n → leads file p i ≡ true → P i) → (leads file p n ≡ true → P n) → (i : ℕ) → i < suc n → leads file p i ≡ true → P i
-  with-last P h e = below-suc (λ i. leads file p i ≡ true → P i) n h e
+pub best-none : (file : List ℕ) (p : ℕ) → Best file p 0 None
+best-none file p = none-yet (λ d i h. absurd (omega arith))
 
-  -- the block changes nothing
-  unchanged : {x : Edition} → (leads file p n ≡ true → whole file p here ≡ false) → Best file p n x → Best file p (suc n) x
-  unchanged f (none-yet h) = none-yet (with-last (λ i. whole file p (editionIn (blockAt file i)) ≡ false) h f)
-  unchanged f (best e b w h) = best e b w (with-last (λ i. e < editionIn (blockAt file i) → whole file p (editionIn (blockAt file i)) ≡ false) h (λ s l. f s))
-
-  lower : {x : Edition} → Bytes file → beatsOf here x ≡ false → Best file p n x → Best file p (suc n) x
-  lower bytes t (none-yet h) = absurd (false-not-true t refl)
-  lower bytes t (best e b w h) =
-      best e b w
-      (with-last (λ i. e < editionIn (blockAt file i) → whole file p (editionIn (blockAt file i)) ≡ false) h (λ s l. absurd (omega (arith, ltb-false e here t))))
-
-  raised : {x : Edition} → Bytes file → beatsOf here x ≡ true → whole file p here ≡ true → Best file p n x → Best file p (suc n) (Whole here (partsOf file p here) (length (tableOf file p here)))
-  raised bytes t v (none-yet h) =
-      best here (edition-below file n bytes) v
-      (with-last (λ i. here < editionIn (blockAt file i) → whole file p (editionIn (blockAt file i)) ≡ false) (λ i b s l. h i b s) (λ s l. absurd (omega arith)))
-  raised bytes t v (best e b w h) =
-      best here (edition-below file n bytes) v
-      (with-last (λ i. here < editionIn (blockAt file i) → whole file p (editionIn (blockAt file i)) ≡ false)
-      (λ i k s l. h i k s (omega (arith, ltb-true e here t)))
-      (λ s l. absurd (omega arith)))
-
-pub best-next : (file : List ℕ) (p n : ℕ) (x : Edition) → Bytes file → Best file p n x → Best file p (suc n) (considered file p n x)
-best-next file p n x bytes o = by-start (leads file p n) refl
+-- a whole edition has a block for its part 0
+pub led : (file : List ℕ) (p e : ℕ) → whole file p e ≡ true → (i : ℕ) × (counted file p e 0 ≡ some i)
+unfolding whole partsOf
+led file p e w = go (counted file p e 0) refl (leb-true _ _ (left (leb 1 (partsOf file p e)) _ w))
   where
-    e : ℕ
-    e = editionIn (blockAt file n)
+    go : (o : Option ℕ) → counted file p e 0 ≡ o → 1 ≤ namedBy file o → (i : ℕ) × (counted file p e 0 ≡ some i)
+    go none c l = absurd (omega arith)
+    go (some i) c l = (i, c)
 
-    by-whole : (v : Bool) → whole file p e ≡ v → leads file p n ≡ true → beatsOf e x ≡ true → Best file p (suc n) (considered file p n x)
-    by-whole true v s t =
-        rw (← (taken-up file p n x s (higher file p e x t (replaced (editionOf file p e) x (sym (is-whole file p e v)))))) (rw (is-whole file p e v) at (raised file p n bytes t v o))
-    by-whole false v s t =
-        rw (← (taken-up file p n x s (higher file p e x t (kept (editionOf file p e) x (sym (not-whole file p e v)))))) (unchanged file p n (λ _. v) o)
+module _ (file : List ℕ) (p : ℕ) (bytes : Bytes file) where
+  edition-below : (i : ℕ) → editionIn (blockAt file i) < 65536
+  unfolding word blockAt
+  edition-below i =
+      let at = blockSize * i in
+      let low : getD (take blockSize (drop at file)) 2 0 ≡ getD file (at + 2) 0 = getD-take blockSize (drop at file) 2 0 (omega arith) ∙ getD-drop at file 2 0 in
+      let high : getD (take blockSize (drop at file)) 3 0 ≡ getD file (at + 3) 0 = getD-take blockSize (drop at file) 3 0 (omega arith) ∙ getD-drop at file 3 0 in
+      omega (arith, low, high, bytes (at + 2), bytes (at + 3))
 
-    by-height : (b : Bool) → beatsOf e x ≡ b → leads file p n ≡ true → Best file p (suc n) (considered file p n x)
-    by-height true t s = by-whole (whole file p e) refl s t
-    by-height false t s = rw (← (taken-up file p n x s (not-higher file p e x t))) (lower file p n bytes t o)
+  pub whole-below : (d : ℕ) → whole file p d ≡ true → d < 65536
+  whole-below d w = let (i, c) = led file p d w in rw (← (counted-good c .edition)) (edition-below i)
 
-    by-start : (b : Bool) → leads file p n ≡ b → Best file p (suc n) (considered file p n x)
-    by-start true s = by-height (beatsOf e x) refl s
-    by-start false s = rw (← (passed-by file p n x s)) (unchanged file p n (λ s′. absurd (false-not-true s s′)) o)
+  -- where no edition that has its part 0 in the file passes
+  fails : (e : ℕ) → ((i : ℕ) → i < blocksIn file → counted file p e 0 ≡ some i → whole file p e ≡ false) → whole file p e ≡ true → ⊥
+  fails e h w = let (i, c) = led file p e w in false-not-true (h i (block-below file i (counted-good c .within)) c) w
 
-pub best-view : (file : List ℕ) (p n : ℕ) → Bytes file → Best file p n (bestOf file p n)
-best-view file p zero bytes = none-yet (λ i h. absurd (omega arith))
-best-view file p (suc n) bytes = best-next file p n (bestOf file p n) bytes (best-view file p n bytes)
-
-pub of-edition : (p e k : ℕ) (b : List ℕ) → isFor p e k b ≡ true → editionIn b ≡ e
-unfolding isFor
-of-edition p e k b t =
-    eqb-true _ _
-    (left (eqb (editionIn b) e) (eqb (partIn b) k) (right (eqb (programIn b) p) t))
-
--- a whole edition has a block that leads it
-pub led : (file : List ℕ) (p e : ℕ) → whole file p e ≡ true → (i : ℕ) × (i < blocksIn file) × (leads file p i ≡ true) × (editionIn (blockAt file i) ≡ e)
-unfolding whole partsOf leads
-led file p e w = go refl (counted-view file p e 0) (leb-true _ _ (left (leb 1 (partsOf file p e)) _ w))
-  where
-    go : {o : Option ℕ} → counted file p e 0 ≡ o → Counts file p e 0 o → 1 ≤ namedBy file o → (i : ℕ) × (i < blocksIn file) × (leads file p i ≡ true) × (editionIn (blockAt file i) ≡ e)
-    go c missing l = absurd (omega arith)
-    go c (block i b g t) l =
-        let q : editionIn (blockAt file i) ≡ e = of-edition p e 0 (blockAt file i) t in
-        (i, b, ap (λ d. isAt i (counted file p d 0)) q ∙ ap (isAt i) c ∙ eq-eqb i i refl, q)
-
-pub best-is : (file : List ℕ) (p : ℕ) → Bytes file → bestOf file p (blocksIn file) ≡ chosen file p (newest file p)
-unfolding newest
-best-is file p bytes = go (best-view file p (blocksIn file) bytes)
-  where
-    fails : (e : ℕ) → ((i : ℕ) → i < blocksIn file → leads file p i ≡ true → editionIn (blockAt file i) ≡ e → whole file p e ≡ false) → whole file p e ≡ false
-    fails e h = by (whole file p e) refl
-      where
-        by : (b : Bool) → whole file p e ≡ b → whole file p e ≡ false
-        by true w = let s = led file p e w in h (s .0) (s .1) (s .2) (s .3)
-        by false w = w
-
-    go : {x : Edition} → Best file p (blocksIn file) x → x ≡ chosen file p (lastBelow (whole file p) 65536)
-    go (none-yet h) = ap (chosen file p) (last-unique (whole file p) (nothing (λ e l. fails e (λ i b s q. rw q at (h i b s)))) (last-view (whole file p) 65536))
-    go (best e b w h) =
-        ap (chosen file p)
-        (last-unique (whole file p) (last e b w (λ d l u. fails d (λ i k s q. rw q at (h i k s (omega arith))))) (last-view (whole file p) 65536))
+  pub best-is : {x : Edition} → Best file p (blocksIn file) x → x ≡ chosen file p (newest file p)
+  unfolding newest
+  best-is (none-yet h) = ap (chosen file p) (sym (last-none (whole file p) 65536 .1 (λ e l w. fails e (h e) w)))
+  best-is (best e w h) =
+      ap (chosen file p) (sym (last-some (whole file p) 65536 e .1 (whole-below e w, w, λ d l v. go d v (decLt e d))))
+    where
+      go : (d : ℕ) → whole file p d ≡ true → Dec (e < d) → d ≤ e
+      go d v (yes l) = absurd (fails d (λ i b c. h d i b c l) v)
+      go d v (no l) = omega arith

@@ -10,12 +10,12 @@ use borrow.Author.Tests.{lt-ltb, le-leb, lt-leb, eq-eqb, ne-eqb, ltb-true, not-t
 use lib.Dec.{eqb, leb, ltb}
 use lib.ListN.{length}
 use Rattle.blocks.specs.Block.{contentSize}
-use Rattle.blocks.specs.Editions.{fileFits, counted, lengthOf, allBelow, contentOf, partsOf, completes, whole, joined, tableOf}
+use Rattle.blocks.specs.Editions.{counted, lengthOf, allBelow, contentOf, partsOf, completes, whole, joined, tableOf}
 use Rattle.blocks.specs.declared.Place.{Place}
-use Rattle.blocks.specs.declared.Edition.the-variants.{Whole, Broken}
-use Rattle.blocks.specs.Steps.{Found, editionOf}
-use Rattle.codes.proofs.Bools.{both, left, right}
-use Rattle.blocks.proofs.Last.{right-fails, all-at}
+use Rattle.blocks.specs.declared.Edition.the-variants.{Whole, None}
+use Rattle.blocks.specs.Steps.{FoundPlace, editionOf}
+use Rattle.codes.proofs.Bools.{both, left, right, cannot-pass, false-not-true}
+use Rattle.blocks.proofs.Last.{all-holds}
 use Rattle.blocks.proofs.Counted.{counted-view, place-short, content-length}
 use Rattle.blocks.proofs.Joining.{joined-length}
 
@@ -24,7 +24,7 @@ abbrev pub content : (file : List ℕ) (p e k : ℕ) → List ℕ
 content file p e k = contentOf file (counted file p e k)
 
 module _ (file : List ℕ) (p e : ℕ) where
-  pub not-whole : whole file p e ≡ false → Broken ≡ editionOf file p e
+  pub not-whole : whole file p e ≡ false → None ≡ editionOf file p e
   unfolding editionOf
   not-whole w = rw w refl
 
@@ -32,16 +32,16 @@ module _ (file : List ℕ) (p e : ℕ) where
   unfolding editionOf
   is-whole w = rw w refl
 
-  pub no-parts : {m : ℕ} → m ≡ partsOf file p e → m ≡ 0 → Broken ≡ editionOf file p e
+  pub no-parts : {m : ℕ} → m ≡ partsOf file p e → m ≡ 0 → None ≡ editionOf file p e
   unfolding whole
   no-parts n z = not-whole (ap (λ b. b && allBelow (completes file p e (partsOf file p e)) (partsOf file p e)) (lt-leb 1 (partsOf file p e) (omega arith)))
 
-  pub incomplete : {m : ℕ} (k : ℕ) → m ≡ partsOf file p e → k < m → completes file p e m k ≡ false → Broken ≡ editionOf file p e
+  pub incomplete : {m : ℕ} (k : ℕ) → m ≡ partsOf file p e → k < m → completes file p e m k ≡ false → None ≡ editionOf file p e
   unfolding whole
   incomplete {m} k n h c =
       not-whole
-      (right-fails (leb 1 (partsOf file p e)) (allBelow (completes file p e (partsOf file p e)) (partsOf file p e))
-      (all-at (completes file p e (partsOf file p e)) (partsOf file p e) k (rw n at h) (rw n at c)))
+      (cannot-pass _ (λ w. false-not-true (rw n at c)
+      (all-holds (completes file p e (partsOf file p e)) (partsOf file p e) k (rw n at h) (right (leb 1 (partsOf file p e)) w))))
 
 -- the parts before k are as they must be
 pub record Completing (file : List ℕ) (p e m total k : ℕ) : Type 0 where
@@ -54,9 +54,9 @@ pub record Completing (file : List ℕ) (p e m total k : ℕ) : Type 0 where
 pub completing-start : (file : List ℕ) (p e : ℕ) {m : ℕ} → m ≡ partsOf file p e → Completing file p e m 0 0
 completing-start file p e n = record { bound = omega arith; named = n; complete = refl; is = refl; short = omega arith }
 
-module _ {file : List ℕ} {p e m total k : ℕ} {l : Place} (o : Completing file p e m total k) (h : k < m) (w : Found file p e k l) where
+module _ {file : List ℕ} {p e m total k : ℕ} {l : Place} (o : Completing file p e m total k) (h : k < m) (w : FoundPlace file p e k l) where
   -- the part names another number
-  pub unnamed : (l .parts ≡ m → ⊥) → Broken ≡ editionOf file p e
+  pub unnamed : (l .parts ≡ m → ⊥) → None ≡ editionOf file p e
   unfolding completes
   unnamed d =
       incomplete file p e k (o .named) h
@@ -70,7 +70,7 @@ module _ {file : List ℕ} {p e m total k : ℕ} {l : Place} (o : Completing fil
         ∙ ap (λ u. leb m (k + 1) || eqb u contentSize) (sym (w .place .used))
 
     -- it is not the last and does not use all of its content
-    pub unfilled : ltb (k + 1) m && not (eqb (l .length) contentSize) ≡ true → Broken ≡ editionOf file p e
+    pub unfilled : ltb (k + 1) m && not (eqb (l .length) contentSize) ≡ true → None ≡ editionOf file p e
     unfilled t =
         let more : k + 1 < m = ltb-true _ _ (left (ltb (k + 1) m) (not (eqb (l .length) contentSize)) t) in
         let not-full : eqb (l .length) contentSize ≡ false = not-true _ (right (ltb (k + 1) m) t) in
@@ -85,13 +85,13 @@ module _ {file : List ℕ} {p e m total k : ℕ} {l : Place} (o : Completing fil
             rw (lt-leb m (k + 1) b) full
         go (no b) = rw (le-leb m (k + 1) (omega arith)) refl
 
-    pub completing-next : fileFits file ≡ true → ltb (k + 1) m && not (eqb (l .length) contentSize) ≡ false → Completing file p e m (total + l .length) (k + 1)
-    completing-next f t =
+    pub completing-next : ltb (k + 1) m && not (eqb (l .length) contentSize) ≡ false → Completing file p e m (total + l .length) (k + 1)
+    completing-next t =
         record {
           bound = omega arith;
           named = o .named;
           complete = ap (allBelow (completes file p e m)) (add-one k) ∙ both (o .complete) (complete-here t);
-          is = omega (arith, o .is, joined-length (content file p e) k, content-length f (counted-view file p e k), w .place .used);
+          is = omega (arith, o .is, joined-length (content file p e) k, content-length (counted-view file p e k), w .place .used);
           short = omega (arith, o .short, place-short w);
         }
 

@@ -1,7 +1,7 @@
 -- The theorem `Damage` of specs/Theorems.antt.
 use mathlib.Core.Path.{_≡_, refl, sym, ap, _∙_}
 use mathlib.Core.Logic.{inl, inr, ⊎-elim}
-use mathlib.Core.Bool.{Bool, true, false}
+use mathlib.Core.Bool.{true, false}
 use mathlib.Core.List.{List, [], _∷_}
 use Prim.Native.Nat.{ℕ, zero, suc, _+_, _-_, _≤_, _<_}
 use native.Mathlib.Nat.{add-zero, add-mod-right, div-add-mod}
@@ -11,10 +11,10 @@ use borrow.Author.Tests.{eqb-true}
 use lib.Dec.{eqb}
 use lib.ListN.{length, getD, take, drop, set}
 use lib.Seq.{take-set-lt, take-set-le, drop-set-lt, getD-set-same, getD-set-other, getD-take, getD-drop, length-take-le}
-use Rattle.blocks.specs.Block.{contentSize, word, usedIn, reduced, sum, firstCheck, runningFrom, secondCheck, allZero, zeroFilled, good}
+use Rattle.blocks.specs.Block.{checksAt, contentSize, word, usedIn, reduced, sum, firstCheck, runningFrom, secondCheck, allZero, zeroFilled, good}
 use Rattle.blocks.specs.Theorems.{Changed, Alike, Unruled, Damage}
 use Rattle.blocks.proofs.Good.{Good, good-is, is-good}
-use Rattle.codes.proofs.Bools.{left, right}
+use Rattle.codes.proofs.Bools.{left, right, cannot-pass}
 
 -- sums, with one value changed for one that is alike
 same-reduced : (a : ℕ) → reduced (a + 255) ≡ reduced (a + 0)
@@ -72,7 +72,7 @@ zero-at [] j z = refl
 zero-at (x ∷ xs) zero z = eqb-true _ _ (left (eqb x 0) (allZero xs) z)
 zero-at (x ∷ xs) (suc j) z = zero-at xs j (right (eqb x 0) z)
 
-filler-zero : (b : List ℕ) (i : ℕ) → zeroFilled b ≡ true → 8 + usedIn b ≤ i → i < 510 → getD b i 0 ≡ 0
+filler-zero : (b : List ℕ) (i : ℕ) → zeroFilled b ≡ true → 8 + usedIn b ≤ i → i < checksAt → getD b i 0 ≡ 0
 unfolding zeroFilled
 filler-zero b i z l h =
     let m = 8 + usedIn b in
@@ -83,11 +83,11 @@ filler-zero b i z l h =
 
 -- a block with one byte changed
 module _ (b : List ℕ) (i v : ℕ) (c : Changed b i v) where
-  before-checks : length (take 510 b) ≡ 510
-  before-checks = length-take-le 510 b (omega (arith, c .size))
+  before-checks : length (take checksAt b) ≡ checksAt
+  before-checks = length-take-le checksAt b (omega (arith, c .size))
 
-  own : i < 510 → getD (take 510 b) i 0 ≡ getD b i 0
-  own h = getD-take 510 b i 0 h
+  own : i < checksAt → getD (take checksAt b) i 0 ≡ getD b i 0
+  own h = getD-take checksAt b i 0 h
 
   stored : (j : ℕ) → (j ≡ i → ⊥) → getD (set b i v) j 0 ≡ getD b j 0
   stored j d = getD-set-other b i j v 0 d
@@ -99,21 +99,21 @@ module _ (b : List ℕ) (i v : ℕ) (c : Changed b i v) where
   unfolding word
   used-kept p q = omega (arith, stored 6 p, stored 7 q)
 
-  alike-if : Good b → Good (set b i v) → (i < 510) × Alike (getD b i 0) v
-  alike-if g k = go (decLt i 510) (decLt 510 i)
+  alike-if : Good b → Good (set b i v) → (i < checksAt) × Alike (getD b i 0) v
+  alike-if g k = go (decLt i checksAt) (decLt checksAt i)
     where
-      go : Dec (i < 510) → Dec (510 < i) → (i < 510) × Alike (getD b i 0) v
+      go : Dec (i < checksAt) → Dec (checksAt < i) → (i < checksAt) × Alike (getD b i 0) v
       go (yes h) r =
-          let same : firstCheck (take 510 b) ≡ firstCheck (set (take 510 b) i v) =
-          sym (g .first) ∙ sym (stored 510 (λ e. omega arith)) ∙ k .first ∙ ap firstCheck (take-set-lt 510 b i v h) in
-          (h, rw (own h) at (first-differ (take 510 b) i v (omega (arith, before-checks)) (rw (own h) (c .bytes i)) (c .byte) (λ e. c .other (e ∙ own h)) same))
+          let same : firstCheck (take checksAt b) ≡ firstCheck (set (take checksAt b) i v) =
+          sym (g .first) ∙ sym (stored checksAt (λ e. omega arith)) ∙ k .first ∙ ap firstCheck (take-set-lt checksAt b i v h) in
+          (h, rw (own h) at (first-differ (take checksAt b) i v (omega (arith, before-checks)) (rw (own h) (c .before)) (c .after) (λ e. c .other (e ∙ own h)) same))
       go (no h) (no r) =
-          let at : i ≡ 510 = omega arith in
-          let front : take 510 (set b i v) ≡ take 510 b = take-set-le 510 b i v (omega arith) in
+          let at : i ≡ checksAt = omega arith in
+          let front : take checksAt (set b i v) ≡ take checksAt b = take-set-le checksAt b i v (omega arith) in
           absurd (c .other (sym new ∙ ap (λ n. getD (set b i v) n 0) at ∙ k .first ∙ ap firstCheck front ∙ sym (g .first) ∙ ap (λ n. getD b n 0) (sym at)))
       go (no h) (yes r) =
-          let at : i ≡ 511 = omega (arith, c .place) in
-          let front : take 510 (set b i v) ≡ take 510 b = take-set-le 510 b i v (omega arith) in
+          let at : i ≡ (checksAt + 1) = omega (arith, c .place) in
+          let front : take checksAt (set b i v) ≡ take checksAt b = take-set-le checksAt b i v (omega arith) in
           absurd (c .other (sym new ∙ ap (λ n. getD (set b i v) n 0) at ∙ k .second ∙ ap secondCheck front ∙ sym (g .second) ∙ ap (λ n. getD b n 0) (sym at)))
 
   not-6 : Good b → Good (set b i v) → Alike (getD b i 0) v → i ≡ 6 → ⊥
@@ -131,12 +131,12 @@ module _ (b : List ℕ) (i v : ℕ) (c : Changed b i v) where
       let y : getD (set b i v) 7 0 ≡ v = ap (λ n. getD (set b i v) n 0) (sym e) ∙ new in
       ⊎-elim (λ a. omega (arith, g .short, k .short)) (λ a. omega (arith, g .short, k .short)) s
 
-  not-filler : Good b → Good (set b i v) → i < 510 → 8 + usedIn b ≤ i → ⊥
+  not-filler : Good b → Good (set b i v) → i < checksAt → 8 + usedIn b ≤ i → ⊥
   not-filler g k h l =
       let used : usedIn (set b i v) ≡ usedIn b = used-kept (λ e. omega arith) (λ e. omega arith) in
       c .other (sym new ∙ filler-zero (set b i v) i (k .zeros) (omega arith) h ∙ sym (filler-zero b i (g .zeros) l h))
 
-  unruled-if : Good b → Good (set b i v) → i < 510 → Alike (getD b i 0) v → Unruled b i
+  unruled-if : Good b → Good (set b i v) → i < checksAt → Alike (getD b i 0) v → Unruled b i
   unruled-if g k h s = go (decLt i 6) (decLt i 8) (decLt i (8 + usedIn b))
     where
       go : Dec (i < 6) → Dec (i < 8) → Dec (i < 8 + usedIn b) → Unruled b i
@@ -153,17 +153,17 @@ module _ (b : List ℕ) (i v : ℕ) (c : Changed b i v) where
   unfolding zeroFilled
   still-good g s u =
       let low : i < 8 + usedIn b = ⊎-elim (λ a. omega (arith, g .some)) (λ a. a .1) u in
-      let h : i < 510 = omega (arith, g .short) in
+      let h : i < checksAt = omega (arith, g .short) in
       let p : 6 ≡ i → ⊥ = λ e. ⊎-elim (λ a. omega arith) (λ a. omega arith) u in
       let q : 7 ≡ i → ⊥ = λ e. ⊎-elim (λ a. omega arith) (λ a. omega arith) u in
       let used : usedIn (set b i v) ≡ usedIn b = used-kept p q in
-      let front : take 510 (set b i v) ≡ set (take 510 b) i v = take-set-lt 510 b i v h in
-      let alike : Alike (getD (take 510 b) i 0) v = rw (own h) s in
+      let front : take checksAt (set b i v) ≡ set (take checksAt b) i v = take-set-lt checksAt b i v h in
+      let alike : Alike (getD (take checksAt b) i 0) v = rw (own h) s in
       record {
         first =
-            stored 510 (λ e. omega arith) ∙ g .first ∙ sym (ap firstCheck front ∙ first-alike (take 510 b) i v (omega (arith, before-checks)) alike);
+            stored checksAt (λ e. omega arith) ∙ g .first ∙ sym (ap firstCheck front ∙ first-alike (take checksAt b) i v (omega (arith, before-checks)) alike);
         second =
-            stored 511 (λ e. omega arith) ∙ g .second ∙ sym (ap secondCheck front ∙ second-alike (take 510 b) i v (omega (arith, before-checks)) alike);
+            stored (checksAt + 1) (λ e. omega arith) ∙ g .second ∙ sym (ap secondCheck front ∙ second-alike (take checksAt b) i v (omega (arith, before-checks)) alike);
         some = omega (arith, g .some);
         short = omega (arith, g .short);
         zeros =
@@ -172,12 +172,8 @@ module _ (b : List ℕ) (i v : ℕ) (c : Changed b i v) where
             ∙ g .zeros;
       }
 
-passed-over : (b : List ℕ) (i v : ℕ) → good b ≡ true → Changed b i v → ((i < 510) × Alike (getD b i 0) v → ⊥) → good (set b i v) ≡ false
-passed-over b i v g c d = go (good (set b i v)) refl
-  where
-    go : (r : Bool) → good (set b i v) ≡ r → good (set b i v) ≡ false
-    go true e = absurd (d (alike-if b i v c (good-is b g) (good-is (set b i v) e)))
-    go false e = e
+passed-over : (b : List ℕ) (i v : ℕ) → good b ≡ true → Changed b i v → ((i < checksAt) × Alike (getD b i 0) v → ⊥) → good (set b i v) ≡ false
+passed-over b i v g c d = cannot-pass (good (set b i v)) (λ e. d (alike-if b i v c (good-is b g) (good-is (set b i v) e)))
 
 pub damage : Damage
 damage =

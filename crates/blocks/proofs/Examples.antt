@@ -7,7 +7,7 @@ use Prim.Native.Nat.{ℕ, _-_}
 use lib.ListN.{length, set, replicate}
 use Rattle.blocks.specs.Block.{word, firstCheck, secondCheck, checksMatch, lengthFits, zeroFilled, good}
 use Rattle.blocks.specs.Storing.{unsealed, sealed}
-use Rattle.blocks.specs.Editions.{blocksIn, blockAt, isFor, counted, partsOf, completes, whole, newestBelow, tableOf}
+use Rattle.blocks.specs.Editions.{blocksIn, blockAt, isFor, counted, partsOf, completes, whole, lastBelow, tableOf}
 
 block : (program edition part parts : ℕ) → List ℕ → List ℕ
 block p e k m xs = sealed (unsealed p e k m xs)
@@ -23,7 +23,7 @@ blocks-good : (length twoEditions ≡ 1536) × (good (blockAt twoEditions 0) ≡
 unfolding twoEditions block full sealed unsealed good blockAt checksMatch lengthFits zeroFilled firstCheck secondCheck word counted isFor blocksIn
 blocks-good = (refl, refl, refl)
 
-highest-whole : (newestBelow 5 twoEditions 7 ≡ some 2) × (tableOf twoEditions 7 2 ≡ full 5 ++ (9 ∷ 8 ∷ []))
+highest-whole : (lastBelow (whole twoEditions 7) 5 ≡ some 2) × (tableOf twoEditions 7 2 ≡ full 5 ++ (9 ∷ 8 ∷ []))
 unfolding twoEditions block full sealed unsealed good blockAt checksMatch lengthFits zeroFilled firstCheck secondCheck word counted isFor blocksIn whole partsOf completes tableOf
 highest-whole = (refl, refl)
 
@@ -39,7 +39,7 @@ later-counts = (refl, refl, refl, refl)
 undone : List ℕ
 undone = block 7 2 0 1 (9 ∷ 8 ∷ []) ++ block 7 2 0 2 (full 4)
 
-not-whole : (whole undone 7 2 ≡ false) × (newestBelow 5 undone 7 ≡ none)
+not-whole : (whole undone 7 2 ≡ false) × (lastBelow (whole undone 7) 5 ≡ none)
 unfolding undone block full sealed unsealed good blockAt checksMatch lengthFits zeroFilled firstCheck secondCheck word counted isFor blocksIn whole partsOf completes
 not-whole = (refl, refl)
 

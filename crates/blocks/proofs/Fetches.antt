@@ -8,9 +8,9 @@ use native.Mathlib.Omega.{arith}
 use borrow.Author.Tests.{lt-ltb, le-ltb}
 use lib.ListN.{length, drop}
 use Rattle.blocks.specs.Editions.{fileFits, partsOf, newest, tableOf}
-use Rattle.blocks.specs.Fetching.{maxTable, found, refused, checkTable, checkEdition, outcome, content, answerOf, Fetching}
+use Rattle.blocks.specs.Fetching.{maxTable, fetched, refused, checkTable, checkEdition, outcome, content, answerOf, Fetching}
 use Rattle.blocks.specs.declared.Edition.{Edition}
-use Rattle.blocks.specs.declared.Edition.the-variants.{Whole, Broken}
+use Rattle.blocks.specs.declared.Edition.the-variants.{Whole, None}
 use Rattle.blocks.specs.declared.Fetched.the-variants.{Done, Refused}
 use Rattle.blocks.specs.Steps.{chosen}
 
@@ -19,7 +19,7 @@ module _ {file : List ℕ} {p : ℕ} {old new : List ℕ} where
   unfolding answerOf content
   refusing number o e = record { answer = rw o refl; table = rw o e }
 
-  pub finding : {e m n : ℕ} (t : List ℕ) → outcome (length old) file p ≡ found e m t → n ≡ length t → new ≡ t ++ drop (length t) old → Fetching file p old new (Done n e m)
+  pub finding : {e m n : ℕ} (t : List ℕ) → outcome (length old) file p ≡ fetched e m t → n ≡ length t → new ≡ t ++ drop (length t) old → Fetching file p old new (Done n e m)
   unfolding answerOf content
   finding {e} {m} t o q w = record { answer = rw o (ap (λ k. Done k e m) q); table = rw o w }
 
@@ -44,7 +44,7 @@ pub record Chosen (file : List ℕ) (p : ℕ) (o : Option ℕ) (e m n : ℕ) : T
   pub long : n ≡ length (tableOf file p e)
 
 module _ (file : List ℕ) (p : ℕ) where
-  none-chosen : (o : Option ℕ) → chosen file p o ≡ Broken → checkEdition file p o ≡ refused 18
+  none-chosen : (o : Option ℕ) → chosen file p o ≡ None → checkEdition file p o ≡ refused 18
   none-chosen none h = refl
   none-chosen (some e) h = absurd (let z : _≡_ {A = ℕ} 0 1 = cc in omega arith)
 
@@ -58,7 +58,7 @@ module _ (file : List ℕ) (p : ℕ) where
         long = sym (ap (λ k. length (tableOf file p k)) (sym same) ∙ cc);
       }
 
-  pub no-edition : {r : Edition} → r ≡ chosen file p (newest file p) → r ≡ Broken → checkEdition file p (newest file p) ≡ refused 18
+  pub no-edition : {r : Edition} → r ≡ chosen file p (newest file p) → r ≡ None → checkEdition file p (newest file p) ≡ refused 18
   no-edition q t = none-chosen (newest file p) (sym q ∙ t)
 
   pub an-edition : {r : Edition} {e m n : ℕ} → r ≡ chosen file p (newest file p) → r ≡ Whole e m n → Chosen file p (newest file p) e m n
@@ -71,7 +71,7 @@ module _ {file : List ℕ} {p : ℕ} {o : Option ℕ} {e m n : ℕ} (c : Chosen 
   pub too-long : maxTable < n → checkEdition file p o ≡ refused 1
   too-long h = table-checked ∙ (rw (lt-ltb maxTable (length (tableOf file p e)) (rw (c .long) at h)) refl)
 
-  pub fitting : n ≤ maxTable → checkEdition file p o ≡ found e m (tableOf file p e)
+  pub fitting : n ≤ maxTable → checkEdition file p o ≡ fetched e m (tableOf file p e)
   fitting h = table-checked ∙ (rw (le-ltb maxTable (length (tableOf file p e)) (rw (c .long) at h)) refl)
 
   pub table-room : {room : ℕ} → n ≤ maxTable → maxTable ≤ room → length (tableOf file p e) ≤ room

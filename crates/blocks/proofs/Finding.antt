@@ -11,7 +11,7 @@ use lib.ListN.{length, getD}
 use Rattle.blocks.specs.Block.{good}
 use Rattle.blocks.specs.Editions.{blocksIn, blockAt, lastBelow, isGoodFor, counted}
 use Rattle.blocks.specs.declared.Place.{Place}
-use Rattle.blocks.specs.Steps.{Checked, isPart, Placed, Found}
+use Rattle.blocks.specs.Steps.{Checked, isPart, Placed, FoundPlace}
 use Rattle.blocks.proofs.Good.{good-for-is}
 
 module _ (f : ℕ → Bool) (j : ℕ) where
@@ -58,8 +58,8 @@ module _ {file : List ℕ} {marks : List Bool} {p e k i : ℕ} (c : Checked file
   pub search-other : {r : Bool} → getD marks j false ≡ true → r ≡ isPart e k (blockAt file j) → r ≡ false → Searching file p e k j
   search-other g q t = search-next o j s (mark g ∙ sym q ∙ t)
 
-  pub search-found : {r : Bool} {l : Place} → getD marks j false ≡ true → r ≡ isPart e k (blockAt file j) → r ≡ true → Placed file (some j) l → Found file p e k l
+  pub search-found : {r : Bool} {l : Place} → getD marks j false ≡ true → r ≡ isPart e k (blockAt file j) → r ≡ true → Placed file (some j) l → FoundPlace file p e k l
   search-found g q t w = record { place = rw (search-hit o j s (mark g ∙ sym q ∙ t)) w }
 
-pub search-ended : {file : List ℕ} {p e k i : ℕ} {l : Place} → Searching file p e k i → i ≤ 0 → l .from ≡ 0 → l .length ≡ 0 → l .parts ≡ 0 → Found file p e k l
+pub search-ended : {file : List ℕ} {p e k i : ℕ} {l : Place} → Searching file p e k i → i ≤ 0 → l .from ≡ 0 → l .length ≡ 0 → l .parts ≡ 0 → FoundPlace file p e k l
 search-ended o h a b d = record { place = rw (search-none o h) (record { from = a; used = b; parts = d }) }

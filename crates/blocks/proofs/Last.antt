@@ -1,7 +1,7 @@
 -- The last number below a bound that passes a test, and tests that all numbers below it pass.
 use mathlib.Core.Path.{_≡_, refl, ap}
 use mathlib.Core.Logic.{_↔_}
-use mathlib.Core.Bool.{Bool, true, false, _&&_, cond}
+use mathlib.Core.Bool.{Bool, true, false, cond}
 use mathlib.Core.Option.{Option, none, some}
 use Prim.Native.Nat.{ℕ, zero, suc, _≤_, _<_}
 use native.Mathlib.Decide.{decLt}
@@ -13,10 +13,6 @@ use Rattle.codes.proofs.Bools.{both, left, right, cannot-pass, false-not-true}
 -- what holds below n and of n holds below suc n
 pub below-suc : (P : ℕ → Type 0) (n : ℕ) → ((j : ℕ) → j < n → P j) → P n → (j : ℕ) → j < suc n → P j
 below-suc P n h e j l = below-more P n h e j (omega arith)
-
-pub right-fails : (a b : Bool) → b ≡ false → a && b ≡ false
-right-fails true b q = q
-right-fails false b q = refl
 
 pub data Last (f : ℕ → Bool) (n : ℕ) : Option ℕ → Type 0 where
   nothing : ((j : ℕ) → j < n → f j ≡ false) → Last f n none
@@ -47,14 +43,6 @@ module _ (f : ℕ → Bool) where
       go (yes l) d = absurd (false-not-true (g j l c) u)
       go (no l) (yes m) = absurd (false-not-true (k i m b) t)
       go (no l) (no m) = let e : i ≡ j = omega arith in ap some e
-
-  pub all-at : (n i : ℕ) → i < n → f i ≡ false → allBelow f n ≡ false
-  all-at zero i h e = absurd (omega arith)
-  all-at (suc n) i h e = go (λ l. all-at n i l e) (decLt i n)
-    where
-      go : (i < n → allBelow f n ≡ false) → Dec (i < n) → allBelow f n && f n ≡ false
-      go r (yes l) = ap (λ a. a && f n) (r l)
-      go r (no l) = let s : i ≡ n = omega arith in right-fails (allBelow f n) (f n) (rw s at e)
 
   -- in words: it passes, and none that passes is above it
   pub last-some : (n i : ℕ) → (lastBelow f n ≡ some i) ↔ ((i < n) × (f i ≡ true) × ((j : ℕ) → j < n → f j ≡ true → j ≤ i))

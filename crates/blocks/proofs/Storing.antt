@@ -1,27 +1,25 @@
 -- What is stored is fetched back.
 use mathlib.Core.Path.{_≡_, refl, sym, ap, _∙_}
 use mathlib.Core.Bool.{true, false}
-use mathlib.Core.Option.{Option, some}
+use mathlib.Core.Option.{some}
 use mathlib.Core.List.{List, [], _∷_, _++_, append-assoc}
-use Prim.Native.Nat.{ℕ, zero, suc, _+_, _-_, _*_, _%_, _≤_, _<_}
+use Prim.Native.Nat.{ℕ, zero, suc, _+_, _-_, _*_, _/_, _%_, _≤_, _<_}
 use native.Mathlib.Nat.{div-add-mod, mod-lt}
 use native.Mathlib.Decide.{decLt}
 use native.Mathlib.Omega.{arith}
 use lib.ListN.{length, getD, take, drop, replicate, length-append, length-drop, length-replicate, length-take}
-use lib.Seq.{take-append-le, drop-append-le, length-take-le, take-all, take-take, drop-drop, take-add, take-at, drop-at, getD-at, getD-append-add}
-use Rattle.blocks.specs.Block.{blockSize, contentSize, word, programIn, editionIn, partIn, partsIn, usedIn, firstCheck, secondCheck, allZero, zeroFilled, good}
-use Rattle.blocks.specs.Editions.{maxBlocks, fileFits, blocksIn, blockAt, counted, contentOf, partsOf, whole, newest, joined, tableOf}
+use lib.Seq.{take-append-le, drop-append-le, take-all, drop-drop, take-add, take-at, drop-at, getD-at, getD-append-add}
+use Rattle.blocks.specs.Block.{contentAt, checksAt, Bytes, blockSize, contentSize, word, programIn, editionIn, partIn, partsIn, usedIn, firstCheck, secondCheck, allZero, zeroFilled, good}
+use Rattle.blocks.specs.Editions.{maxBlocks, fileFits, blockAt, counted, contentOf, partsOf, whole, newest, joined, tableOf}
 use Rattle.blocks.specs.Storing.{unsealed, sealed, partCount, piece, storedPart, stored, Holds}
-use borrow.Author.Tests.{eq-eqb, le-leb}
-use Rattle.codes.proofs.Bools.{both, cannot-pass, false-not-true}
-use Rattle.blocks.specs.Fetching.{maxTable, found, outcome, content, answerOf, Fetching}
-use Rattle.blocks.specs.Theorems.{Stored, Complete, RoundTrip}
+use Rattle.codes.proofs.Bools.{cannot-pass, false-not-true}
+use Rattle.blocks.specs.Fetching.{maxTable, fetched, outcome, content, answerOf, Fetching}
+use Rattle.blocks.specs.Theorems.{GoodBlock, Complete, FetchedBack, RoundTrip}
 use Rattle.blocks.specs.declared.Fetched.{Fetched}
-use Rattle.blocks.specs.declared.Fetched.the-variants.{Done}
 use Rattle.blocks.proofs.Good.{is-good}
 use Rattle.blocks.proofs.Last.{last-some}
-use Rattle.blocks.proofs.Blocks.{file-length}
-use Rattle.blocks.proofs.Counted.{Counts, missing, block, counted-view}
+use Rattle.blocks.proofs.Blocks.{content-in, whole-blocks}
+use Rattle.blocks.proofs.Counted.{counted-good}
 use Rattle.blocks.proofs.Joining.{joined-same}
 use Rattle.blocks.proofs.Completing.{table-is}
 use Rattle.blocks.proofs.Fetches.{good-file, fitting}
@@ -44,7 +42,7 @@ module _ (p e k m : ℕ) (xs : List ℕ) (some : 1 ≤ length xs) (short : lengt
   abbrev checks : List ℕ
   checks = firstCheck (unsealed p e k m xs) ∷ secondCheck (unsealed p e k m xs) ∷ []
 
-  unsealed-length : length (unsealed p e k m xs) ≡ 510
+  unsealed-length : length (unsealed p e k m xs) ≡ checksAt
   unfolding unsealed
   unsealed-length = omega (arith, length-append xs filler, length-replicate {A = ℕ} (contentSize - length xs) 0)
 
@@ -52,11 +50,11 @@ module _ (p e k m : ℕ) (xs : List ℕ) (some : 1 ≤ length xs) (short : lengt
   unfolding sealed
   block-long = omega (arith, length-append (unsealed p e k m xs) checks, unsealed-length)
 
-  block-front : take 510 written ≡ unsealed p e k m xs
+  block-front : take checksAt written ≡ unsealed p e k m xs
   unfolding sealed
-  block-front = take-at (unsealed p e k m xs) checks 510 unsealed-length
+  block-front = take-at (unsealed p e k m xs) checks checksAt unsealed-length
 
-  behind-numbers : drop 8 written ≡ xs ++ (filler ++ checks)
+  behind-numbers : drop contentAt written ≡ xs ++ (filler ++ checks)
   unfolding sealed unsealed
   behind-numbers = append-assoc xs filler checks
 
@@ -83,21 +81,21 @@ module _ (p e k m : ℕ) (xs : List ℕ) (some : 1 ≤ length xs) (short : lengt
   block-filled : zeroFilled written ≡ true
   unfolding zeroFilled
   block-filled =
-      let past : drop (8 + usedIn written) written ≡ filler ++ checks =
-      sym (drop-drop (usedIn written) 8 written) ∙ ap (drop (usedIn written)) behind-numbers ∙ drop-at xs (filler ++ checks) (usedIn written) (sym block-used) in
+      let past : drop (contentAt + usedIn written) written ≡ filler ++ checks =
+      sym (drop-drop (usedIn written) contentAt written) ∙ ap (drop (usedIn written)) behind-numbers ∙ drop-at xs (filler ++ checks) (usedIn written) (sym block-used) in
       let room : length filler ≡ contentSize - usedIn written = length-replicate (contentSize - length xs) 0 ∙ ap (λ n. contentSize - n) (sym block-used) in
       ap (λ l. allZero (take (contentSize - usedIn written) l)) past
       ∙ ap allZero (take-at filler checks (contentSize - usedIn written) room)
       ∙ zeros-zero (contentSize - length xs)
 
-  first-stored : getD written 510 0 ≡ firstCheck (unsealed p e k m xs)
+  first-stored : getD written checksAt 0 ≡ firstCheck (unsealed p e k m xs)
   unfolding sealed
-  first-stored = getD-at (unsealed p e k m xs) _ _ 0 510 unsealed-length
+  first-stored = getD-at (unsealed p e k m xs) _ _ 0 checksAt unsealed-length
 
-  second-stored : getD written 511 0 ≡ secondCheck (unsealed p e k m xs)
+  second-stored : getD written (checksAt + 1) 0 ≡ secondCheck (unsealed p e k m xs)
   unfolding sealed
   second-stored =
-      let place : 511 ≡ length (unsealed p e k m xs) + 1 = omega (arith, unsealed-length) in
+      let place : checksAt + 1 ≡ length (unsealed p e k m xs) + 1 = omega (arith, unsealed-length) in
       ap (λ n. getD written n 0) place ∙ getD-append-add (unsealed p e k m xs) checks 1 0
 
   pub block-good : good written ≡ true
@@ -112,20 +110,8 @@ module _ (p e k m : ℕ) (xs : List ℕ) (some : 1 ≤ length xs) (short : lengt
       }
       )
 
-  pub block-content : take (usedIn written) (drop 8 written) ≡ xs
+  pub block-content : take (usedIn written) (drop contentAt written) ≡ xs
   block-content = ap (take (usedIn written)) behind-numbers ∙ take-at xs (filler ++ checks) (usedIn written) (sym block-used)
-
--- the used content of such a block of a file
-module _ (file : List ℕ) (i : ℕ) (h : blockSize * i + blockSize ≤ length file) where
-  pub content-in : (n : ℕ) → n ≤ contentSize → take n (drop 8 (blockAt file i)) ≡ take n (drop (blockSize * i + 8) file)
-  unfolding blockAt
-  content-in n l =
-      let rest = drop (blockSize * i) file in
-      let front : length (take 8 rest) ≡ 8 = length-take-le 8 rest (omega (arith, length-drop (blockSize * i) file)) in
-      ap (λ b. take n (drop 8 b)) (take-add 8 504 rest)
-      ∙ ap (take n) (drop-at (take 8 rest) (take 504 (drop 8 rest)) 8 front)
-      ∙ take-take n 504 (drop 8 rest) (omega arith)
-      ∙ ap (take n) (drop-drop 8 (blockSize * i) file)
 
 -- ---- the parts of a table
 
@@ -166,7 +152,7 @@ module _ (t : List ℕ) where
 
 -- ---- a file that holds a table
 
-module _ (file : List ℕ) (p e : ℕ) (t : List ℕ) (f : fileFits file ≡ true) (some-bytes : 1 ≤ length t) (o : Holds file p e t) where
+module _ (file : List ℕ) (p e : ℕ) (t : List ℕ) (some-bytes : 1 ≤ length t) (o : Holds file p e t) where
   abbrev m : ℕ
   m = partCount t
 
@@ -193,30 +179,25 @@ module _ (file : List ℕ) (p e : ℕ) (t : List ℕ) (f : fileFits file ≡ tru
   held-piece : (k : ℕ) → k < m → contentOf file (counted file p e k) ≡ piece t k
   held-piece k h =
       let (i, c, b) = o k h in
-      let within : blockSize * i + blockSize ≤ length file = placed (counted-view file p e k) c in
       let used : usedIn (blockAt file i) ≡ length (piece t k) = ap usedIn b ∙ block-used p e k m (piece t k) (piece-some t k h) (piece-short t k h) in
       ap (contentOf file) c
-      ∙ sym (content-in file i within (usedIn (blockAt file i)) (omega (arith, piece-short t k h)))
-      ∙ ap (λ x. take (usedIn x) (drop 8 x)) b
+      ∙ sym (content-in file i (counted-good c .within) (usedIn (blockAt file i)) (omega (arith, piece-short t k h)))
+      ∙ ap (λ x. take (usedIn x) (drop contentAt x)) b
       ∙ block-content p e k m (piece t k) (piece-some t k h) (piece-short t k h)
-    where
-      placed : {i : ℕ} {q : Option ℕ} → Counts file p e k q → q ≡ some i → blockSize * i + blockSize ≤ length file
-      placed missing r = absurd (let z : _≡_ {A = ℕ} 0 1 = cc in omega arith)
-      placed {i} (block j b g u) r = let same : j ≡ i = cc in omega (arith, file-length file f)
 
   pub held-table : tableOf file p e ≡ t
   held-table =
       sym (table-is file p e (sym held-parts)) ∙ joined-same _ (piece t) m held-piece ∙ pieces-are t
 
-  pub held-fetched : (old new : List ℕ) (r : Fetched) → e < 65536 → length t ≤ maxTable → ((d : ℕ) → e < d → whole file p d ≡ false) → maxTable ≤ length old → Fetching file p old new r → (r ≡ Done (length t) e m) × (new ≡ t ++ drop (length t) old)
+  pub held-fetched : (old new : List ℕ) (r : Fetched) → fileFits file ≡ true → e < 65536 → length t ≤ maxTable → ((d : ℕ) → e < d → whole file p d ≡ false) → maxTable ≤ length old → Fetching file p old new r → FetchedBack e t old new r
   unfolding newest answerOf content
-  held-fetched old new r b short higher room w =
+  held-fetched old new r f b short higher room w =
       let chosen-is : newest file p ≡ some e =
       last-some (whole file p) 65536 e .1 (b, held-whole, λ d l v. below d v (decLt e d)) in
-      let found-is : outcome (length old) file p ≡ found e m t =
+      let found-is : outcome (length old) file p ≡ fetched e m t =
       good-file file p (length old) room refl f
       ∙ fitting (record { is = chosen-is; parts = sym held-parts; long = ap length (sym held-table) }) short
-      ∙ ap (found e m) held-table in
+      ∙ ap (fetched e m) held-table in
       (w .answer ∙ ap answerOf found-is, w .table ∙ ap (λ x. content x old) found-is)
     where
       below : (d : ℕ) → whole file p d ≡ true → Dec (e < d) → d ≤ e
@@ -250,12 +231,9 @@ module _ (f : ℕ → List ℕ) where
           ap (take blockSize) (drop-at (joined f m) (f m) (blockSize * m) long) ∙ take-all blockSize (f m) (omega (arith, h m (omega arith))) in
           ap (λ j. take blockSize (drop (blockSize * j) (joined f m ++ f m))) same ∙ own ∙ ap f (sym same)
 
-module _ (p e : ℕ) (t : List ℕ) (some-bytes : 1 ≤ length t) (short : length t ≤ maxTable) where
+module _ (p e : ℕ) (t : List ℕ) (few : partCount t ≤ maxBlocks) where
   abbrev parts : ℕ
   parts = partCount t
-
-  few : parts ≤ 5
-  few = omega (arith, count-least t)
 
   long-blocks : (k : ℕ) → k < parts → length (storedPart p e t k) ≡ blockSize
   long-blocks k h = block-long p e k parts (piece t k) (piece-some t k h) (piece-short t k h)
@@ -265,28 +243,20 @@ module _ (p e : ℕ) (t : List ℕ) (some-bytes : 1 ≤ length t) (short : lengt
   file-long = blocks-length (storedPart p e t) parts long-blocks
 
   pub stored-fits : fileFits (stored p e t) ≡ true
-  unfolding fileFits
-  stored-fits =
-      let n = length (stored p e t) in
-      both
-      (eq-eqb (n % blockSize) 0 (omega (arith, file-long, div-add-mod n blockSize, mod-lt n {m = blockSize} (omega arith))))
-      (le-leb n (maxBlocks * blockSize) (omega (arith, file-long, few)))
-
-  count : blocksIn (stored p e t) ≡ parts
-  count = omega (arith, file-long, file-length (stored p e t) stored-fits)
+  stored-fits = whole-blocks (stored p e t) parts few file-long
 
   part-at : (k : ℕ) → k < parts → blockAt (stored p e t) k ≡ storedPart p e t k
   unfolding stored
   part-at k h = block-of (storedPart p e t) parts long-blocks k h
 
   -- block k is a good one for part k
-  is-stored : (k : ℕ) → k < parts → Stored (stored p e t) p e k k
+  is-stored : (k : ℕ) → k < parts → GoodBlock (stored p e t) p e k k
   is-stored k h =
       let b = part-at k h in
       let some = piece-some t k h in
       let few-bytes = piece-short t k h in
       record {
-        within = omega (arith, count);
+        within = omega (arith, file-long);
         isGood = ap good b ∙ block-good p e k parts (piece t k) some few-bytes;
         program = ap programIn b ∙ block-program p e k parts (piece t k) some few-bytes;
         edition = ap editionIn b ∙ block-edition p e k parts (piece t k) some few-bytes;
@@ -296,19 +266,86 @@ module _ (p e : ℕ) (t : List ℕ) (some-bytes : 1 ≤ length t) (short : lengt
   pub stored-holds : Holds (stored p e t) p e t
   stored-holds k h = (k, latest-is (stored p e t) p e k k .1 (is-stored k h, λ j s. last j s), part-at k h)
     where
-      last : (j : ℕ) → Stored (stored p e t) p e k j → j ≤ k
-      last j s = omega (arith, is-stored j (omega (arith, s .within, count)) .part, s .part)
+      last : (j : ℕ) → GoodBlock (stored p e t) p e k j → j ≤ k
+      last j g = omega (arith, is-stored j (omega (arith, g .within, file-long)) .part, g .part)
 
   pub stored-highest : (d : ℕ) → e < d → whole (stored p e t) p d ≡ false
   stored-highest d l =
       cannot-pass (whole (stored p e t) p d) (λ w.
-      let (i, h, leading, q) = led (stored p e t) p d w in
-      omega (arith, is-stored i (omega (arith, count)) .edition))
+      let (i, c) = led (stored p e t) p d w in
+      let g = counted-good c in
+      omega (arith, g .edition, is-stored i (omega (arith, g .within, file-long)) .edition))
+
+-- such a file has bytes
+
+abbrev AllBytes : List ℕ → Type 0
+AllBytes [] = Unit {0}
+AllBytes (x ∷ xs) = (x < 256) × AllBytes xs
+
+all-of : (xs : List ℕ) → Bytes xs → AllBytes xs
+all-of [] b = tt
+all-of (x ∷ xs) b = (b 0, all-of xs (λ j. b (suc j)))
+
+bytes-of : (xs : List ℕ) → AllBytes xs → Bytes xs
+bytes-of [] a j = omega arith
+bytes-of (x ∷ xs) (h, a) zero = h
+bytes-of (x ∷ xs) (h, a) (suc j) = bytes-of xs a j
+
+all-append : (xs ys : List ℕ) → AllBytes xs → AllBytes ys → AllBytes (xs ++ ys)
+all-append [] ys a b = b
+all-append (x ∷ xs) ys (h, a) b = (h, all-append xs ys a b)
+
+all-zeros : (n : ℕ) → AllBytes (replicate n 0)
+all-zeros zero = tt
+all-zeros (suc n) = (omega arith, all-zeros n)
+
+all-take : (n : ℕ) (xs : List ℕ) → AllBytes xs → AllBytes (take n xs)
+all-take zero xs a = tt
+all-take (suc n) [] a = tt
+all-take (suc n) (x ∷ xs) (h, a) = (h, all-take n xs a)
+
+all-drop : (n : ℕ) (xs : List ℕ) → AllBytes xs → AllBytes (drop n xs)
+all-drop zero xs a = a
+all-drop (suc n) [] a = tt
+all-drop (suc n) (x ∷ xs) (h, a) = all-drop n xs a
+
+all-joined : (f : ℕ → List ℕ) (m : ℕ) → ((k : ℕ) → k < m → AllBytes (f k)) → AllBytes (joined f m)
+all-joined f zero h = tt
+all-joined f (suc m) h = all-append (joined f m) (f m) (all-joined f m (λ k l. h k (omega arith))) (h m (omega arith))
+
+low : (n : ℕ) → n % 256 < 256
+low n = mod-lt n (omega arith)
+
+high : (n : ℕ) → n < 65536 → n / 256 < 256
+high n h = omega (arith, div-add-mod n 256)
+
+check-byte : (n : ℕ) → n % 255 < 256
+check-byte n = omega (arith, mod-lt n {m = 255} (omega arith))
+
+all-sealed : (p e k m : ℕ) (xs : List ℕ) → p < 65536 → e < 65536 → k < 256 → m < 256 → length xs ≤ contentSize → AllBytes xs → AllBytes (sealed (unsealed p e k m xs))
+unfolding sealed unsealed firstCheck secondCheck
+all-sealed p e k m xs hp he hk hm short a =
+    let content = all-append xs (replicate (contentSize - length xs) 0) a (all-zeros (contentSize - length xs)) in
+    all-append (unsealed p e k m xs) _
+    (low p, (high p hp, (low e, (high e he, (hk, (hm, (low (length xs), (high (length xs) (omega arith), content))))))))
+    (check-byte _, (check-byte _, tt))
+
+stored-bytes : (p e : ℕ) (t : List ℕ) → p < 65536 → e < 65536 → length t ≤ 2048 → Bytes t → Bytes (stored p e t)
+unfolding stored piece
+stored-bytes p e t hp he short b =
+    bytes-of (stored p e t)
+    (all-joined (storedPart p e t) (partCount t)
+    (λ k h. all-sealed p e k (partCount t) (piece t k) hp he (omega (arith, count-least t)) (omega (arith, count-least t)) (piece-short t k h)
+    (all-take contentSize (drop (contentSize * k) t) (all-drop (contentSize * k) t (all-of t b)))))
 
 pub round-trip : RoundTrip
 round-trip =
     record {
-      held = λ file p e t f some o. (held-whole file p e t f some o, held-parts file p e t f some o, held-table file p e t f some o);
-      fetched = λ file p e t old new r f b some short o higher room w. held-fetched file p e t f some o old new r b short higher room w;
-      alone = λ p e t some short. (stored-fits p e t some short, stored-holds p e t some short, stored-highest p e t some short);
+      held = λ file p e t some o. (held-whole file p e t some o, held-parts file p e t some o, held-table file p e t some o);
+      fetched = λ file p e t old new r f b some short o higher room w. held-fetched file p e t some o old new r f b short higher room w;
+      storedBytes = stored-bytes;
+      storedHolds = λ p e t few. (stored-fits p e t few, stored-holds p e t few, stored-highest p e t few);
+      storedFetched = λ p e t old new r b some short room w.
+          (let few : partCount t ≤ maxBlocks = omega (arith, count-least t) in
+          held-fetched (stored p e t) p e t some (stored-holds p e t few) old new r (stored-fits p e t few) b short (stored-highest p e t few) room w);
     }

@@ -1,7 +1,7 @@
--- The theorems of specs/Theorems.antt but `Damage` and `RoundTrip`.
+-- The theorems of specs/Theorems.antt but `Files`, `Damage` and `RoundTrip`.
 use mathlib.Core.Path.{_≡_, refl, sym, ap, _∙_}
 use mathlib.Core.Logic.{_↔_, _⊎_, inl, inr, ⊎-elim}
-use mathlib.Core.Bool.{Bool, true, false, _&&_, _||_, cond}
+use mathlib.Core.Bool.{Bool, true, false, _||_, cond}
 use mathlib.Core.Option.{Option, none, some}
 use mathlib.Core.List.{List, [], _∷_, foldl}
 use Prim.Native.Nat.{ℕ, _+_, _≤_, _<_}
@@ -10,24 +10,26 @@ use native.Mathlib.Decide.{decLt}
 use native.Mathlib.Omega.{arith}
 use borrow.Author.Tests.{eqb-true, eq-eqb, le-leb, leb-true, ltb-true, ltb-false}
 use lib.Dec.{eqb, leb, ltb}
-use lib.ListN.{length}
+use lib.ListN.{length, take, drop}
 use Rattle.codes.proofs.Bools.{both, left, right, either, inl-true, inr-true, cannot-pass, false-not-true}
-use Rattle.blocks.specs.Block.{contentSize, programIn, editionIn, partIn, usedIn, reduced, sum, firstCheck, runningFrom, secondCheck, good}
-use Rattle.blocks.specs.Editions.{fileFits, blocksIn, blockAt, isFor, counted, lengthOf, contentOf, namedBy, partsOf, completes, whole, newest, joined, tableOf, allBelow}
-use Rattle.blocks.specs.Fetching.{handed, maxTable, Outcome, found, refused, checkEdition, outcome, content, answerOf}
+use Rattle.blocks.specs.Block.{contentAt, contentSize, Bytes, usedIn, reduced, sum, firstCheck, runningFrom, secondCheck}
+use Rattle.blocks.specs.Editions.{fileFits, blocksIn, blockAt, counted, lengthOf, contentOf, namedBy, partsOf, completes, whole, newest, joined, tableOf, allBelow}
+use Rattle.blocks.specs.Fetching.{handed, Locating, maxTable, Outcome, fetched, refused, checkEdition, outcome, content, answerOf}
+use Rattle.blocks.specs.declared.Span.{Span}
 use Rattle.blocks.specs.declared.Fetched.the-variants.{Done, Refused}
-use Rattle.blocks.specs.Theorems.{summed, CheckBytes, Stored, Complete, Superseding, Wrote, Reason, shortBuffer, badFile, noEdition, longTable, OfFetch, OfPart}
+use Rattle.blocks.specs.Theorems.{addByte, CheckBytes, GoodBlock, Complete, Superseding, Wrote, Reason, shortBuffer, badFile, noEdition, longTable, OfFetch, OfPart}
 use Rattle.blocks.proofs.Last.{last-some, last-none, all-holds, holds-all}
 use Rattle.blocks.proofs.Finding.{counts}
-use Rattle.blocks.proofs.Counted.{Counts, missing, block, counted-view, content-length}
+use Rattle.blocks.proofs.Counted.{good-counts, counts-good, Counts, missing, block, counted-view, counted-good, content-length}
 use Rattle.blocks.proofs.Good.{good-is}
 use Rattle.blocks.proofs.Joining.{joined-same}
-use Rattle.blocks.proofs.Choosing.{Bytes, edition-below, led}
+use Rattle.blocks.proofs.Blocks.{block-below, content-in, whole-blocks}
+use Rattle.blocks.proofs.Choosing.{led, whole-below}
 
 -- ---- the check bytes as a fold
 
 -- from sums that are reduced
-fold-from : (a b : ℕ) (xs : List ℕ) → a < 255 → b < 255 → foldl summed (a, b) xs ≡ (reduced (a + sum xs), reduced (b + sum (runningFrom a xs)))
+fold-from : (a b : ℕ) (xs : List ℕ) → a < 255 → b < 255 → foldl addByte (a, b) xs ≡ (reduced (a + sum xs), reduced (b + sum (runningFrom a xs)))
 fold-from a b [] h l =
     let first : a ≡ reduced (a + 0) = sym (ap reduced (add-zero a) ∙ mod-eq-of-lt h) in
     let second : b ≡ reduced (b + 0) = sym (ap reduced (add-zero b) ∙ mod-eq-of-lt l) in
@@ -57,37 +59,19 @@ check-bytes =
 -- ---- the block that counts
 
 module _ (file : List ℕ) (p e k : ℕ) where
-  of-stored : {i : ℕ} → Stored file p e k i → counts file p e k i ≡ true
-  unfolding isFor
-  of-stored s = both (s .isGood) (both (eq-eqb _ _ (s .program)) (both (eq-eqb _ _ (s .edition)) (eq-eqb _ _ (s .part))))
-
-  is-stored : (i : ℕ) → i < blocksIn file → counts file p e k i ≡ true → Stored file p e k i
-  unfolding isFor
-  is-stored i h t =
-      let b = blockAt file i in
-      let numbers = right (good b) t in
-      let rest = right (eqb (programIn b) p) numbers in
-      record {
-        within = h;
-        isGood = left (good b) (isFor p e k b) t;
-        program = eqb-true _ _ (left (eqb (programIn b) p) (eqb (editionIn b) e && eqb (partIn b) k) numbers);
-        edition = eqb-true _ _ (left (eqb (editionIn b) e) (eqb (partIn b) k) rest);
-        part = eqb-true _ _ (right (eqb (editionIn b) e) rest);
-      }
-
-  pub latest-is : (i : ℕ) → (counted file p e k ≡ some i) ↔ (Stored file p e k i × ((j : ℕ) → Stored file p e k j → j ≤ i))
+  pub latest-is : (i : ℕ) → (counted file p e k ≡ some i) ↔ (GoodBlock file p e k i × ((j : ℕ) → GoodBlock file p e k j → j ≤ i))
   unfolding counted
   latest-is i =
       let (there, back) = last-some (counts file p e k) (blocksIn file) i in (
-        λ q. let (h, t, last) = there q in (is-stored i h t, λ j s. last j (s .within) (of-stored s)),
-        λ (s, last). back (s .within, of-stored s, λ j h t. last j (is-stored j h t)),
+        λ q. let (h, t, last) = there q in (counts-good i h t, λ j g. last j (block-below file j (g .within)) (good-counts g)),
+        λ (g, last). back (block-below file i (g .within), good-counts g, λ j h t. last j (counts-good j h t)),
       )
 
-  missing-is : (counted file p e k ≡ none) ↔ ((i : ℕ) → Stored file p e k i → ⊥)
+  missing-is : (counted file p e k ≡ none) ↔ ((i : ℕ) → GoodBlock file p e k i → ⊥)
   unfolding counted
   missing-is =
       let (there, back) = last-none (counts file p e k) (blocksIn file) in
-      (λ q i s. there q i (s .within) (of-stored s), λ h. back (λ j l t. h j (is-stored j l t)))
+      (λ q i g. there q i (block-below file i (g .within)) (good-counts g), λ h. back (λ j l t. h j (counts-good j l t)))
 
 -- ---- whole editions
 
@@ -136,20 +120,17 @@ module _ (file : List ℕ) (p e : ℕ) where
   )
 
 module _ (file : List ℕ) (p : ℕ) (bytes : Bytes file) where
-  below-all : (d : ℕ) → whole file p d ≡ true → d < 65536
-  below-all d w = let (i, h, l, q) = led file p d w in rw (← q) (edition-below file i bytes)
-
   highest-is : (e : ℕ) → (newest file p ≡ some e) ↔ ((whole file p e ≡ true) × ((d : ℕ) → whole file p d ≡ true → d ≤ e))
   unfolding newest
   highest-is e =
       let (there, back) = last-some (whole file p) 65536 e in
-      (λ q. let (b, w, h) = there q in (w, λ d v. h d (below-all d v) v), λ (w, h). back (below-all e w, w, λ d b v. h d v))
+      (λ q. let (b, w, h) = there q in (w, λ d v. h d (whole-below file p bytes d v) v), λ (w, h). back (whole-below file p bytes e w, w, λ d b v. h d v))
 
   none-is : (newest file p ≡ none) ↔ ((e : ℕ) → whole file p e ≡ false)
   unfolding newest
   none-is =
       let (there, back) = last-none (whole file p) 65536 in
-      (λ q e. cannot-pass _ (λ w. there q e (below-all e w) w), λ h. back (λ e b w. false-not-true (h e) w))
+      (λ q e. cannot-pass _ (λ w. there q e (whole-below file p bytes e w) w), λ h. back (λ e b w. false-not-true (h e) w))
 
 pub superseding : Superseding
 superseding =
@@ -165,14 +146,14 @@ superseding =
 
 -- an outcome, and why it is this one
 data View (room : ℕ) (file : List ℕ) (p : ℕ) : Outcome → Type 0 where
-  finds : (e : ℕ) → maxTable ≤ room → fileFits file ≡ true → newest file p ≡ some e → length (tableOf file p e) ≤ maxTable → View room file p (found e (partsOf file p e) (tableOf file p e))
+  finds : (e : ℕ) → maxTable ≤ room → fileFits file ≡ true → newest file p ≡ some e → length (tableOf file p e) ≤ maxTable → View room file p (fetched e (partsOf file p e) (tableOf file p e))
   refuses : (number : ℕ) → Reason room file p number → View room file p (refused number)
 
 outcome-view : (room : ℕ) (file : List ℕ) (p : ℕ) → View room file p (outcome room file p)
 unfolding outcome
 outcome-view room file p = by-room (ltb room maxTable) refl
   where
-    by-length : (e : ℕ) → maxTable ≤ room → fileFits file ≡ true → newest file p ≡ some e → (b : Bool) → ltb maxTable (length (tableOf file p e)) ≡ b → View room file p (cond b (refused 1) (found e (partsOf file p e) (tableOf file p e)))
+    by-length : (e : ℕ) → maxTable ≤ room → fileFits file ≡ true → newest file p ≡ some e → (b : Bool) → ltb maxTable (length (tableOf file p e)) ≡ b → View room file p (cond b (refused 1) (fetched e (partsOf file p e) (tableOf file p e)))
     by-length e r f w true t = refuses 1 (longTable e r f w (ltb-true _ _ t))
     by-length e r f w false t = finds e r f w (ltb-false _ _ t)
 
@@ -223,9 +204,23 @@ reason-known (badFile r f) = (omega arith, omega arith)
 reason-known (noEdition r f w) = (omega arith, omega arith)
 reason-known (longTable e r f w h) = (omega arith, omega arith)
 
+-- an empty file: no block, no edition
+empty-none : (p : ℕ) → newest [] p ≡ none
+unfolding newest
+empty-none p = last-none (whole [] p) 65536 .1 (λ e l w. let (i, c) = led [] p e w in omega (arith, counted-good c .within))
+
+empty-fetched : {p room : ℕ} {o : Outcome} → 2048 ≤ room → View room [] p o → answerOf o ≡ Refused 18 0
+unfolding answerOf
+empty-fetched {p} h (finds e r f w s) = absurd (let q = sym (empty-none p) ∙ w in let z : _≡_ {A = ℕ} 0 1 = cc in omega arith)
+empty-fetched h (refuses number (shortBuffer l)) = absurd (omega arith)
+empty-fetched h (refuses number (badFile r f)) = absurd (false-not-true f (whole-blocks [] 0 (omega arith) refl))
+empty-fetched h (refuses number (noEdition r f w)) = refl
+empty-fetched {p} h (refuses number (longTable e r f w l)) = absurd (let q = sym (empty-none p) ∙ w in let z : _≡_ {A = ℕ} 0 1 = cc in omega arith)
+
 pub of-fetch : OfFetch
 of-fetch =
     record {
+      empty = λ p old new r h f. f .answer ∙ empty-fetched h (outcome-view (length old) [] p);
       determined = λ file p old new new′ r r′ f g. (f .table ∙ sym (g .table), f .answer ∙ sym (g .answer));
       done = λ file p old new n e m f. done-of n e m (outcome-view (length old) file p) (f .answer) (f .table);
       refused = λ file p old new number node f. refused-of number node (outcome-view (length old) file p) (f .answer) (f .table);
@@ -233,16 +228,16 @@ of-fetch =
 
 module _ (file : List ℕ) (p e k : ℕ) where
   -- used content has a byte at least
-  not-empty : {o : Option ℕ} → fileFits file ≡ true → Counts file p e k o → contentOf file o ≡ [] → o ≡ none
-  not-empty f missing q = refl
-  not-empty f (block i b g t) q = absurd (omega (arith, content-length f (block i b g t), ap length q, good-is (blockAt file i) g .some))
+  not-empty : {o : Option ℕ} → Counts file p e k o → contentOf file o ≡ [] → o ≡ none
+  not-empty missing q = refl
+  not-empty (block i g) q = absurd (omega (arith, content-length (block i g), ap length q, good-is (blockAt file i) (g .isGood) .some))
 
   empty-is : (contentOf file (handed file p e k) ≡ []) ↔ ((counted file p e k ≡ none) ⊎ (fileFits file ≡ false))
   unfolding handed
   empty-is = by (fileFits file) refl
     where
       by : (b : Bool) → fileFits file ≡ b → (contentOf file (cond b (counted file p e k) none) ≡ []) ↔ ((counted file p e k ≡ none) ⊎ (b ≡ false))
-      by true f = (λ q. inl (not-empty f (counted-view file p e k) q), λ s. ⊎-elim (λ q. ap (contentOf file) q) (λ q. absurd (false-not-true q refl)) s)
+      by true f = (λ q. inl (not-empty (counted-view file p e k) q), λ s. ⊎-elim (λ q. ap (contentOf file) q) (λ q. absurd (false-not-true q refl)) s)
       by false f = (λ q. inr refl, λ s. refl)
 
 handed-counted : (file : List ℕ) (p e k : ℕ) → fileFits file ≡ true → handed file p e k ≡ counted file p e k
@@ -253,5 +248,14 @@ joins-is : (file : List ℕ) (p e : ℕ) → fileFits file ≡ true → tableOf 
 unfolding tableOf
 joins-is file p e f = joined-same _ _ (partsOf file p e) (λ k _. ap (contentOf file) (sym (handed-counted file p e k f)))
 
+used-is : (file : List ℕ) (p e k i : ℕ) → fileFits file ≡ true → counted file p e k ≡ some i → contentOf file (handed file p e k) ≡ take (usedIn (blockAt file i)) (drop contentAt (blockAt file i))
+used-is file p e k i f c =
+    let g = counted-good c in
+    ap (contentOf file) (handed-counted file p e k f ∙ c)
+    ∙ sym (content-in file i (g .within) (usedIn (blockAt file i)) (good-is (blockAt file i) (g .isGood) .short))
+
+located-is : (file : List ℕ) (p e k : ℕ) (r : Span) → Locating file p e k r → take (r .length) (drop (r .from) file) ≡ contentOf file (handed file p e k)
+located-is file p e k r o = rw (o .from, o .used) refl
+
 pub of-part : OfPart
-of-part = record { empty = empty-is; joins = joins-is }
+of-part = record { empty = empty-is; used = used-is; located = located-is; joins = joins-is }

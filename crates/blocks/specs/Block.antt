@@ -1,16 +1,25 @@
 -- A block of the service partition (F-4): its fields, its check bytes, and whether it is good.
-use Prim.Native.Nat.{ℕ, _+_, _-_, _*_, _%_}
+use Prim.Native.Nat.{ℕ, _+_, _-_, _*_, _%_, _<_}
 use mathlib.Core.Bool.{Bool, true, _&&_}
 use mathlib.Core.List.{List, [], _∷_}
 use lib.ListN.{getD, take, drop}
 use lib.Dec.{eqb, leb}
 
--- the sizes of a block and of its content; the content starts at byte 8 and the check bytes are 510 and 511
 abbrev pub blockSize : ℕ
 blockSize = 512
 
+-- where the content starts, its size, and where the two check bytes stand
+abbrev pub contentAt : ℕ
+contentAt = 8
+
 abbrev pub contentSize : ℕ
 contentSize = 502
+
+abbrev pub checksAt : ℕ
+checksAt = 510
+
+abbrev pub Bytes : List ℕ → Type 0
+Bytes xs = (j : ℕ) → getD xs j 0 < 256
 
 -- two bytes, lowest first
 unfoldable pub word : List ℕ → ℕ → ℕ
@@ -55,7 +64,8 @@ secondCheck xs = reduced (sum (runningFrom 0 xs))
 
 -- the stored check bytes are those of bytes 0 to 509
 unfoldable pub checksMatch : List ℕ → Bool
-checksMatch b = eqb (getD b 510 0) (firstCheck (take 510 b)) && eqb (getD b 511 0) (secondCheck (take 510 b))
+checksMatch b =
+    eqb (getD b checksAt 0) (firstCheck (take checksAt b)) && eqb (getD b (checksAt + 1) 0) (secondCheck (take checksAt b))
 
 -- the used length is 1 to 502
 unfoldable pub lengthFits : List ℕ → Bool
@@ -67,7 +77,7 @@ allZero (x ∷ xs) = eqb x 0 && allZero xs
 
 -- zeros after the used bytes of the content
 unfoldable pub zeroFilled : List ℕ → Bool
-zeroFilled b = allZero (take (contentSize - usedIn b) (drop (8 + usedIn b) b))
+zeroFilled b = allZero (take (contentSize - usedIn b) (drop (contentAt + usedIn b) b))
 
 -- a block that is not passed over
 unfoldable pub good : List ℕ → Bool

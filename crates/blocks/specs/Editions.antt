@@ -5,7 +5,7 @@ use mathlib.Core.Option.{Option, none, some}
 use mathlib.Core.List.{List, [], _++_}
 use lib.ListN.{length, take, drop}
 use lib.Dec.{eqb, leb}
-use Rattle.blocks.specs.Block.{blockSize, contentSize, programIn, editionIn, partIn, partsIn, usedIn, good}
+use Rattle.blocks.specs.Block.{blockSize, contentAt, contentSize, programIn, editionIn, partIn, partsIn, usedIn, good}
 
 -- a file has at most 64 blocks, and nothing besides (17)
 abbrev pub maxBlocks : ℕ
@@ -44,7 +44,7 @@ counted file p e k = lastBelow (λ i. isGoodFor p e k (blockAt file i)) (blocksI
 -- the used content of a block that counts, as a part of the file: where it starts, and how long it is
 abbrev pub startOf : Option ℕ → ℕ
 startOf none = 0
-startOf (some i) = blockSize * i + 8
+startOf (some i) = blockSize * i + contentAt
 
 abbrev pub lengthOf : List ℕ → Option ℕ → ℕ
 lengthOf file none = 0
@@ -71,12 +71,9 @@ completes file p e m k =
 unfoldable pub whole : (file : List ℕ) (program edition : ℕ) → Bool
 whole file p e = leb 1 (partsOf file p e) && allBelow (completes file p e (partsOf file p e)) (partsOf file p e)
 
--- the highest whole edition below n supersedes the others; all editions are below 65,536
-abbrev pub newestBelow : (n : ℕ) (file : List ℕ) (program : ℕ) → Option ℕ
-newestBelow n file p = lastBelow (whole file p) n
-
+-- the highest whole edition supersedes the others; all editions are below 65,536
 unfoldable pub newest : (file : List ℕ) (program : ℕ) → Option ℕ
-newest file p = newestBelow 65536 file p
+newest file p = lastBelow (whole file p) 65536
 
 -- the parts below m, joined
 abbrev pub joined : (ℕ → List ℕ) → ℕ → List ℕ

@@ -35,12 +35,12 @@ maxTable = 2 * maxNodes
 
 -- what a fetch comes to: an edition, its number of parts and its table, or the number of a refusal
 pub data Outcome : Type 0 where
-  found : (edition parts : ℕ) (table : List ℕ) → Outcome
+  fetched : (edition parts : ℕ) (table : List ℕ) → Outcome
   refused : (number : ℕ) → Outcome
 
 -- check 1 of a table
 abbrev pub checkTable : (edition parts : ℕ) (table : List ℕ) → Outcome
-checkTable e m t = cond (ltb maxTable (length t)) (refused 1) (found e m t)
+checkTable e m t = cond (ltb maxTable (length t)) (refused 1) (fetched e m t)
 
 -- check 18, then 1
 abbrev pub checkEdition : (file : List ℕ) (program : ℕ) → Option ℕ → Outcome
@@ -54,12 +54,12 @@ outcome room file p =
 
 -- the lent table afterwards: the table and the old bytes past it; after a refusal all old ones
 unfoldable pub content : Outcome → List ℕ → List ℕ
-content (found e m t) old = t ++ drop (length t) old
+content (fetched e m t) old = t ++ drop (length t) old
 content (refused number) old = old
 
 -- the answer; no refusal names a node
 unfoldable pub answerOf : Outcome → Fetched
-answerOf (found e m t) = Done (length t) e m
+answerOf (fetched e m t) = Done (length t) e m
 answerOf (refused number) = Refused number 0
 
 -- the contract of `fetch`: the answer, and the whole content of the lent table

@@ -11,7 +11,7 @@ use Rattle.blocks.specs.Editions.{fileFits, blocksIn, blockAt, counted, 
 use Rattle.blocks.specs.declared.Sums.{Sums}
 use Rattle.blocks.specs.declared.Place.{Place}
 use Rattle.blocks.specs.declared.Edition.{Edition}
-use Rattle.blocks.specs.declared.Edition.the-variants.{Whole, Broken}
+use Rattle.blocks.specs.declared.Edition.the-variants.{Whole, None}
 
 pub record Summed (bytes : List ℕ) (r : Sums) : Type 0 where
   pub first : r .first ≡ firstCheck bytes
@@ -36,40 +36,25 @@ pub record Placed (file : List ℕ) (o : Option ℕ) (r : Place) : Type 0 where
   pub used : r .length ≡ lengthOf file o
   pub parts : r .parts ≡ namedBy file o
 
--- of the block that counts for a program, an edition and a part
-pub record Found (file : List ℕ) (program edition part : ℕ) (r : Place) : Type 0 where
+-- of the block that counts for a program, an edition and a part (a record, so that these are inferred)
+pub record FoundPlace (file : List ℕ) (program edition part : ℕ) (r : Place) : Type 0 where
   pub place : Placed file (counted file program edition part) r
 
--- an edition, if it is whole, with its number of parts and the length of its table
-unfoldable pub editionOf : (file : List ℕ) (program edition : ℕ) → Edition
-editionOf file p e = cond (whole file p e) (Whole e (partsOf file p e) (length (tableOf file p e))) Broken
-
--- the edition that was chosen
+-- an edition that is chosen, with its number of parts and the length of its table
 abbrev pub chosen : (file : List ℕ) (program : ℕ) → Option ℕ → Edition
-chosen file p none = Broken
+chosen file p none = None
 chosen file p (some e) = Whole e (partsOf file p e) (length (tableOf file p e))
 
+-- if it is whole
+unfoldable pub editionOf : (file : List ℕ) (program edition : ℕ) → Edition
+editionOf file p e = cond (whole file p e) (chosen file p (some e)) None
+
 -- an edition is higher than the best so far
-abbrev pub beatsOf : ℕ → Edition → Bool
-beatsOf e (Whole d m n) = ltb d e
-beatsOf e Broken = true
+abbrev pub higherThan : ℕ → Edition → Bool
+higherThan e (Whole d m n) = ltb d e
+higherThan e None = true
 
-abbrev pub orElse : Edition → Edition → Edition
-orElse (Whole e m n) other = Whole e m n
-orElse Broken other = other
-
--- the best edition so far, or a higher one, if that is whole
-abbrev pub betterOf : (file : List ℕ) (program edition : ℕ) → Edition → Edition
-betterOf file p e best = cond (beatsOf e best) (orElse (editionOf file p e) best) best
-
-abbrev pub isAt : ℕ → Option ℕ → Bool
-isAt i none = false
-isAt i (some j) = eqb j i
-
--- block i is the one that counts for part 0 of its edition
-unfoldable pub leads : (file : List ℕ) (program i : ℕ) → Bool
-leads file p i = isAt i (counted file p (editionIn (blockAt file i)) 0)
-
--- the best edition so far, with the one that block i leads
-unfoldable pub considered : (file : List ℕ) (program i : ℕ) → Edition → Edition
-considered file p i best = cond (leads file p i) (betterOf file p (editionIn (blockAt file i)) best) best
+-- the best of the editions whose part 0 is in one of the first n blocks: whole, and no higher one of them is
+pub data Best (file : List ℕ) (p n : ℕ) : Edition → Type 0 where
+  none-yet : ((d i : ℕ) → i < n → counted file p d 0 ≡ some i → whole file p d ≡ false) → Best file p n None
+  best : (e : ℕ) → whole file p e ≡ true → ((d i : ℕ) → i < n → counted file p d 0 ≡ some i → e < d → whole file p d ≡ false) → Best file p n (chosen file p (some e))

@@ -6,14 +6,18 @@ ghost use mathlib.Core.Option.{some};
 ghost use Prim.Native.Nat.{_+_, _*_, _<_, _≤_};
 ghost use lib.ListN.{length, drop};
 ghost use Rattle.blocks.specs.Block.{blockSize, word as wordOf, allZero, good as goodOf};
-ghost use Rattle.blocks.specs.Editions.{fileFits, blocksIn, isGoodFor, partsOf, newest as newestOf, tableOf};
-ghost use Rattle.blocks.specs.Steps.{Summed, usable, Checked, isPart, Placed, Found, editionOf, beatsOf, considered, chosen};
+ghost use Rattle.blocks.specs.Editions.{fileFits, blocksIn, blockAt, isGoodFor, partsOf, newest as newestOf, tableOf};
+ghost use Rattle.blocks.specs.Steps.{Summed, usable, Checked, isPart, Placed, FoundPlace, editionOf, higherThan, Best, chosen};
 ghost use Rattle.blocks.specs.Fetching.{Locating, Handing, Fetching};
 
-// The bytes of a block, and of its content, which starts at byte 8.
 const BLOCK: usize = 512;
 
+// Where the content of a block starts, its size, and where the two check bytes stand.
+const CONTENT_AT: usize = 8;
+
 const CONTENT: usize = 502;
+
+const CHECKS_AT: usize = 510;
 
 const MAX_BLOCKS: usize = 64;
 
@@ -77,11 +81,11 @@ fn is_good(block: &[u8]) -> bool
     requires { ⌜ length (now block) ≡ blockSize ⌝ }
     ensures { λ r. ⌜ r ≡ goodOf (now (block .entry)) ⌝ }
 {
-    let sums = sum_bytes(&block[0..510]);
-    if wide(block[510]) as u32 != sums.first {
+    let sums = sum_bytes(&block[0..CHECKS_AT]);
+    if wide(block[CHECKS_AT]) as u32 != sums.first {
         return false;
     }
-    if wide(block[511]) as u32 != sums.second {
+    if wide(block[CHECKS_AT + 1]) as u32 != sums.second {
         return false;
     }
     let used = word(block, 6) as usize;
@@ -91,7 +95,7 @@ fn is_good(block: &[u8]) -> bool
     if CONTENT < used {
         return false;
     }
-    all_zero(&block[8 + used..510])
+    all_zero(&block[CONTENT_AT + used..CHECKS_AT])
 }
 
 // Whether a block is a good one of the program; one of another program is not summed.
@@ -131,7 +135,15 @@ fn fits(file: &[u8]) -> bool
     (file.len() % BLOCK == 0) & (file.len() <= MAX_BLOCKS * BLOCK)
 }
 
-// For each block, whether it is a good one of the program. Nothing else sums bytes, so that each block is summed once.
+fn block_at(file: &[u8], i: usize) -> &[u8]
+    requires { ⌜ blockSize * i + blockSize ≤ length (now file) ⌝ }
+    ensures { λ r. ⌜ (now r ≡ blockAt (now (file .entry)) i) × (length (now r) ≡ blockSize) ⌝ }
+{
+    let at = BLOCK * i;
+    &file[at..at + BLOCK]
+}
+
+// For each block, whether it is a good one of the program. A fetch sums bytes here alone, so that it sums each block once.
 fn check_blocks(file: &[u8], program: u16) -> [bool; MAX_BLOCKS]
     requires { ⌜ fileFits (now file) ≡ true ⌝ }
     ensures { λ r. ⌜ Checked (now (file .entry)) program r ⌝ }
@@ -140,8 +152,7 @@ fn check_blocks(file: &[u8], program: u16) -> [bool; MAX_BLOCKS]
     let n = file.len() / BLOCK;
     let mut i: usize = 0;
     while i < n {
-        let at = BLOCK * i;
-        good[i] = is_usable(&file[at..at + BLOCK], program);
+        good[i] = is_usable(block_at(file, i), program);
         i += 1;
     }
     good
@@ -159,10 +170,9 @@ fn place_at(file: &[u8], i: usize) -> Place
     requires { ⌜ blockSize * i + blockSize ≤ length (now file) ⌝ }
     ensures { λ r. ⌜ Placed (now (file .entry)) (some i) r ⌝ }
 {
-    let at = BLOCK * i;
-    let block = &file[at..at + BLOCK];
+    let block = block_at(file, i);
     Place {
-        from: at + 8,
+        from: BLOCK * i + CONTENT_AT,
         length: word(block, 6) as usize,
         parts: block[5],
     }
@@ -171,7 +181,7 @@ fn place_at(file: &[u8], i: usize) -> Place
 // Of the good blocks for a program, an edition and a part the last counts.
 fn find(file: &[u8], good: &[bool; MAX_BLOCKS], program: u16, edition: u16, number: u8) -> Place
     requires { ⌜ Checked (now file) program (now good) ⌝ }
-    ensures { λ r. ⌜ Found (now (file .entry)) program edition number r ⌝ }
+    ensures { λ r. ⌜ FoundPlace (now (file .entry)) program edition number r ⌝ }
 {
     let n = file.len() / BLOCK;
     let mut seen: usize = 0;
@@ -179,8 +189,7 @@ fn find(file: &[u8], good: &[bool; MAX_BLOCKS], program: u16, edition: u16, numb
         seen += 1;
         let i = n - seen;
         if good[i] {
-            let at = BLOCK * i;
-            if is_part(&file[at..at + BLOCK], edition, number) {
+            if is_part(block_at(file, i), edition, number) {
                 return place_at(file, i);
             }
         }
@@ -192,14 +201,14 @@ fn find(file: &[u8], good: &[bool; MAX_BLOCKS], program: u16, edition: u16, numb
     }
 }
 
-// An edition that is whole, with its number of parts and the length of its table.
+// A whole edition, with its number of parts and the length of its table; or that there is none.
 enum Edition {
     Whole {
         edition: u16,
         parts: u8,
         length: usize,
     },
-    Broken,
+    None,
 }
 
 // Whether an edition is whole whose part 0 names so many parts.
@@ -214,18 +223,18 @@ fn check_edition(
     ensures { λ r. ⌜ r ≡ editionOf (now (file .entry)) program edition ⌝ }
 {
     if parts == 0 {
-        return Edition::Broken;
+        return Edition::None;
     }
     let mut length: usize = 0;
     let mut k: u8 = 0;
     while k < parts {
         let place = find(file, good, program, edition, k);
         if place.parts != parts {
-            return Edition::Broken;
+            return Edition::None;
         }
         k += 1;
         if (k < parts) & (place.length != CONTENT) {
-            return Edition::Broken;
+            return Edition::None;
         }
         length += place.length;
     }
@@ -237,8 +246,8 @@ fn check_edition(
 }
 
 // Whether an edition is higher than the best so far.
-fn beats(edition: u16, best: Edition) -> bool
-    ensures { λ r. ⌜ r ≡ beatsOf edition best ⌝ }
+fn is_higher(edition: u16, best: Edition) -> bool
+    ensures { λ r. ⌜ r ≡ higherThan edition best ⌝ }
 {
     match best {
         Edition::Whole {
@@ -246,7 +255,7 @@ fn beats(edition: u16, best: Edition) -> bool
             parts: _,
             length: _,
         } => highest < edition,
-        Edition::Broken => true,
+        Edition::None => true,
     }
 }
 
@@ -259,20 +268,22 @@ fn consider(
     i: usize,
     best: Edition,
 ) -> Edition
-    requires { ⌜ Checked (now file) program (now good) × (i < blocksIn (now file)) ⌝ }
-    ensures { λ r. ⌜ r ≡ considered (now (file .entry)) program i best ⌝ }
+    requires { ⌜ Checked (now file) program (now good) × (i < blocksIn (now file)) × Best (now file) program i best ⌝ }
+    ensures { λ r. ⌜ Best (now (file .entry)) program (i + 1) r ⌝ }
 {
-    let at = BLOCK * i;
-    let edition = word(&file[at..at + BLOCK], 2);
-    if !beats(edition, best) {
+    if !good[i] {
+        return best;
+    }
+    let edition = word(block_at(file, i), 2);
+    if !is_higher(edition, best) {
         return best;
     }
     let first = find(file, good, program, edition, 0);
-    if first.from != at + 8 {
+    if first.from != BLOCK * i + CONTENT_AT {
         return best;
     }
     let next = check_edition(file, good, program, edition, first.parts);
-    let Edition::Broken = next else {
+    let Edition::None = next else {
         return next;
     };
     best
@@ -284,7 +295,7 @@ fn newest(file: &[u8], good: &[bool; MAX_BLOCKS], program: u16) -> Edition
     ensures { λ r. ⌜ r ≡ chosen (now (file .entry)) program (newestOf (now (file .entry)) program) ⌝ }
 {
     let n = file.len() / BLOCK;
-    let mut best = Edition::Broken;
+    let mut best = Edition::None;
     let mut i: usize = 0;
     while i < n {
         best = consider(file, good, program, i, best);
@@ -334,13 +345,12 @@ pub fn locate(file: &[u8], program: u16, edition: u16, number: u8) -> Span
     let mut seen: usize = 0;
     while seen < n {
         seen += 1;
-        let at = BLOCK * (n - seen);
-        let block = &file[at..at + BLOCK];
-        if is_good_for(block, program, edition, number) {
-            let length = word(block, 6) as usize;
+        let last = n - seen;
+        if is_good_for(block_at(file, last), program, edition, number) {
+            let place = place_at(file, last);
             return Span {
-                from: at + 8,
-                length,
+                from: place.from,
+                length: place.length,
             };
         }
     }

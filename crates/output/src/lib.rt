@@ -48,6 +48,11 @@ pub fn write_number(n: usize) -> bool {
     write_word(b" ") && io::print_decimal(libc::STDOUT_FILENO, n as u64)
 }
 
+// A space and a byte as a number.
+pub fn write_byte(byte: u8) -> bool {
+    write_number(wide(byte))
+}
+
 // The two digits of a byte.
 fn put_hex(text: &mut [u8], at: usize, byte: u8)
     requires { ⌜ at + 1 < length (now text) ⌝ }
@@ -78,5 +83,5 @@ pub fn write_hex(bytes: &[u8]) -> bool {
 
 // The word and the two figures of a refusal.
 pub fn write_refusal(number: u8, node: usize) -> bool {
-    write_word(b"refused") && write_number(wide(number)) && write_number(node)
+    write_word(b"refused") && write_byte(number) && write_number(node)
 }

@@ -41,7 +41,7 @@ fn run_fetch(file: &[u8], program: u16, first: u8, table: &mut [u8]) -> bool {
         } => output::write_word(b"done")
             && output::write_number(length)
             && output::write_number(edition as usize)
-            && output::write_number(parts as usize)
+            && output::write_byte(parts)
             && write_table(table, length)
             && end_line(table, length, first),
         Fetched::Refused { number, node } => {

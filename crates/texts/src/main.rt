@@ -1,20 +1,13 @@
 // Reads many texts: standard input holds them one after the other, each as its length in two bytes, lowest first, and its
 // bytes. For each a line is written: `ok`, the nodes, the signals and the bytes of the table; or the refusal. The expected output
 // comes from another program (compare/).
-ghost use Prim.Native.Nat.{_≤_};
 use input::Input;
 use text::Reading;
-
-fn wide(x: u8) -> usize
-    ensures { λ r. ⌜ r ≤ 255 ⌝ }
-{
-    x as usize
-}
 
 fn write_bytes(bytes: &[u8]) -> bool {
     let mut i: usize = 0;
     while i < bytes.len() {
-        if !output::write_number(wide(bytes[i])) {
+        if !output::write_byte(bytes[i]) {
             return false;
         }
         i += 1;

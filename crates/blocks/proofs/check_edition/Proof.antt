@@ -38,7 +38,7 @@ loop-less : tie.Need-loop-less Inv-loop μ-loop
 loop-less c = omega arith
 
 loop-again : tie.Need-loop-again Inv-loop μ-loop
-loop-again c = completing-next (c .before .before .before .before .before .before .before .loop .inv) (c .before .before .before .before .before .before .loop-test .taken) (c .before .before .before .before .before .find .ensures) (c .before .before .before .if2 .left) (c .before .before .before .before .before .before .before .before .before .before .pre .0 .fits) (c .before .if3 .left)
+loop-again c = completing-next (c .before .before .before .before .before .before .before .loop .inv) (c .before .before .before .before .before .before .loop-test .taken) (c .before .before .before .before .before .find .ensures) (c .before .before .before .if2 .left) (c .before .if3 .left)
 
 returns-4 : tie.Need-returns-4 Inv-loop μ-loop
 returns-4 c = completing-end (c .before .loop .inv) (omega (arith, c .before .before .if1 .left)) (c .loop-test .left)

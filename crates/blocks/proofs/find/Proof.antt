@@ -1,13 +1,11 @@
 -- `blocks::find` meets its contract: none of the last `seen` blocks counts.
-use borrow.Author.Needs.{needs}
 use native.Mathlib.Omega.{arith}
-use Prim.Native.Nat.{_+_, _-_}
+use Prim.Native.Nat.{_-_}
 use mathlib.Core.Path.{refl, ap, _∙_}
 use denote.Ref.{now}
-use lib.ListN.{length}
 use Rattle.blocks.specs.Editions.{blocksIn}
 use Rattle.blocks.specs.Steps.{isPart}
-use Rattle.blocks.proofs.Blocks.{block-is, block-length, file-length, few-blocks}
+use Rattle.blocks.proofs.Blocks.{block-within, few-blocks}
 use Rattle.blocks.proofs.Finding.{Searching, search-start, search-bad, search-other, search-found, search-ended}
 use Rattle.blocks.proofs.find.Statement.{statement}
 use Rattle.blocks.proofs.find.Tie as tie
@@ -32,37 +30,22 @@ sub-i c = omega arith
 
 element-copy-out-if1 : tie.Need-element-copy-out-if1 Inv-loop μ-loop
 unfolding blocksIn
-element-copy-out-if1 c = omega (arith, file-length (now (c .before .before .before .args .file)) (c .before .before .before .pre .fits), few-blocks (now (c .before .before .before .args .file)) (c .before .before .before .pre .fits))
+element-copy-out-if1 c = omega (arith, few-blocks (now (c .before .before .before .args .file)) (c .before .before .before .pre .fits))
 
-mul-at : tie.Need-mul-at Inv-loop μ-loop
+block-at-requires : tie.Need-block-at-requires Inv-loop μ-loop
 unfolding blocksIn
-mul-at c = omega (arith, file-length (now (c .before .before .before .before .before .args .file)) (c .before .before .before .before .before .pre .fits), few-blocks (now (c .before .before .before .before .before .args .file)) (c .before .before .before .before .before .pre .fits))
-
-add-is-part : tie.Need-add-is-part Inv-loop μ-loop
-unfolding blocksIn
-add-is-part c = omega (arith, file-length (now (c .before .before .before .before .before .args .file)) (c .before .before .before .before .before .pre .fits), few-blocks (now (c .before .before .before .before .before .args .file)) (c .before .before .before .before .before .pre .fits))
-
-sub-is-part : tie.Need-sub-is-part Inv-loop μ-loop
-sub-is-part c = search needs
-
-part-is-part-start : tie.Need-part-is-part-start Inv-loop μ-loop
-part-is-part-start c = search needs
-
-part-is-part-end : tie.Need-part-is-part-end Inv-loop μ-loop
-unfolding blocksIn
-part-is-part-end c = omega (arith, file-length (now (c .before .before .before .before .before .args .file)) (c .before .before .before .before .before .pre .fits), few-blocks (now (c .before .before .before .before .before .args .file)) (c .before .before .before .before .before .pre .fits))
+block-at-requires c κs = block-within (now (c .before .before .before .before .before .args .file)) _ (omega arith)
 
 is-part-requires : tie.Need-is-part-requires Inv-loop μ-loop
-unfolding blocksIn
-is-part-requires c κs = ap length (block-is (now (c .before .before .before .before .before .before .args .file)) (blocksIn (now (c .before .before .before .before .before .before .args .file)) - (c .before .before .before .before .loop .seen + 1))) ∙ block-length (now (c .before .before .before .before .before .before .args .file)) (blocksIn (now (c .before .before .before .before .before .before .args .file)) - (c .before .before .before .before .loop .seen + 1)) (omega (arith, file-length (now (c .before .before .before .before .before .before .args .file)) (c .before .before .before .before .before .before .pre .fits), few-blocks (now (c .before .before .before .before .before .before .args .file)) (c .before .before .before .before .before .before .pre .fits)))
+is-part-requires c κs = c .block-at .ensures .1
 
 place-at-requires : tie.Need-place-at-requires Inv-loop μ-loop
 unfolding blocksIn
-place-at-requires c κs = omega (arith, file-length (now (c .before .before .before .before .before .before .before .before .args .file)) (c .before .before .before .before .before .before .before .before .pre .fits), few-blocks (now (c .before .before .before .before .before .before .before .before .args .file)) (c .before .before .before .before .before .before .before .before .pre .fits))
+place-at-requires c κs = block-within (now (c .before .before .before .before .before .before .before .before .args .file)) _ (omega arith)
 
 returns : tie.Need-returns Inv-loop μ-loop
 unfolding blocksIn
-returns c = search-found (c .before .before .before .before .before .before .before .before .before .pre) (c .before .before .before .before .before .before .before .loop .inv) (blocksIn (now (c .before .before .before .before .before .before .before .before .before .args .file)) - (c .before .before .before .before .before .before .before .loop .seen + 1)) (omega arith) (c .before .before .before .before .if1 .taken) (c .before .before .is-part .ensures ∙ ap (isPart (c .before .before .before .before .before .before .before .before .before .args .edition) (c .before .before .before .before .before .before .before .before .before .args .number)) (block-is (now (c .before .before .before .before .before .before .before .before .before .args .file)) (blocksIn (now (c .before .before .before .before .before .before .before .before .before .args .file)) - (c .before .before .before .before .before .before .before .loop .seen + 1)))) (c .before .if2 .taken) (c .place-at .ensures)
+returns c = search-found (c .before .before .before .before .before .before .before .before .before .pre) (c .before .before .before .before .before .before .before .loop .inv) _ (omega arith) (c .before .before .before .before .if1 .taken) (c .before .before .is-part .ensures ∙ ap (isPart (c .before .before .before .before .before .before .before .before .before .args .edition) (c .before .before .before .before .before .before .before .before .before .args .number)) (c .before .before .before .block-at .ensures .0)) (c .before .if2 .taken) (c .place-at .ensures)
 
 loop-less : tie.Need-loop-less Inv-loop μ-loop
 unfolding blocksIn
@@ -70,7 +53,7 @@ loop-less c = omega arith
 
 loop-again : tie.Need-loop-again Inv-loop μ-loop
 unfolding blocksIn
-loop-again c = search-other (c .before .before .before .before .before .before .before .before .pre) (c .before .before .before .before .before .before .loop .inv) (blocksIn (now (c .before .before .before .before .before .before .before .before .args .file)) - (c .before .before .before .before .before .before .loop .seen + 1)) (omega arith) (c .before .before .before .if1 .taken) (c .before .is-part .ensures ∙ ap (isPart (c .before .before .before .before .before .before .before .before .args .edition) (c .before .before .before .before .before .before .before .before .args .number)) (block-is (now (c .before .before .before .before .before .before .before .before .args .file)) (blocksIn (now (c .before .before .before .before .before .before .before .before .args .file)) - (c .before .before .before .before .before .before .loop .seen + 1)))) (c .if2 .left)
+loop-again c = search-other (c .before .before .before .before .before .before .before .before .pre) (c .before .before .before .before .before .before .loop .inv) _ (omega arith) (c .before .before .before .if1 .taken) (c .before .is-part .ensures ∙ ap (isPart (c .before .before .before .before .before .before .before .before .args .edition) (c .before .before .before .before .before .before .before .before .args .number)) (c .before .before .block-at .ensures .0)) (c .if2 .left)
 
 loop-less-2 : tie.Need-loop-less-2 Inv-loop μ-loop
 unfolding blocksIn
@@ -78,7 +61,7 @@ loop-less-2 c = omega arith
 
 loop-again-2 : tie.Need-loop-again-2 Inv-loop μ-loop
 unfolding blocksIn
-loop-again-2 c = search-bad (c .before .before .before .before .before .pre) (c .before .before .before .loop .inv) (blocksIn (now (c .before .before .before .before .before .args .file)) - (c .before .before .before .loop .seen + 1)) (omega arith) (c .if1 .left)
+loop-again-2 c = search-bad (c .before .before .before .before .before .pre) (c .before .before .before .loop .inv) _ (omega arith) (c .if1 .left)
 
 returns-2 : tie.Need-returns-2 Inv-loop μ-loop
 unfolding blocksIn
@@ -86,4 +69,4 @@ returns-2 c = search-ended (c .before .loop .inv) (omega arith) refl refl refl
 
 pub find-spec : {M : Type 1} → statement M
 find-spec =
-    tie.close (tie.spec Inv-loop μ-loop loop-holds add-seen sub-i element-copy-out-if1 mul-at add-is-part sub-is-part part-is-part-start part-is-part-end is-part-requires place-at-requires returns loop-less loop-again loop-less-2 loop-again-2 returns-2)
+    tie.close (tie.spec Inv-loop μ-loop loop-holds add-seen sub-i element-copy-out-if1 block-at-requires is-part-requires place-at-requires returns loop-less loop-again loop-less-2 loop-again-2 returns-2)

@@ -29,6 +29,9 @@ cast-if1 c = search needs
 returns : tie.Need-returns
 returns c = first-bad (now (c .before .before .before .before .before .before .before .args .block)) (c .before .before .wide .ensures .0) (c .before .before .before .before .sum-bytes .ensures .first) (c .if1 .taken)
 
+add-wide : tie.Need-add-wide
+add-wide c = search needs
+
 shared-slice-read-wide-2 : tie.Need-shared-slice-read-wide-2
 shared-slice-read-wide-2 c = search needs
 
@@ -73,4 +76,4 @@ returns-5 c = filled (now (c .before .before .before .before .before .before .be
 
 pub is-good-spec : {M : Type 1} → statement M
 is-good-spec =
-    tie.close (tie.spec sub-sum-bytes part-sum-bytes-start part-sum-bytes-end sum-bytes-requires shared-slice-read-wide wide-requires cast-if1 returns shared-slice-read-wide-2 wide-requires-2 cast-if2 returns-2 word-requires cast-used returns-3 returns-4 add-all-zero sub-all-zero part-all-zero-start part-all-zero-end all-zero-requires returns-5)
+    tie.close (tie.spec sub-sum-bytes part-sum-bytes-start part-sum-bytes-end sum-bytes-requires shared-slice-read-wide wide-requires cast-if1 returns add-wide shared-slice-read-wide-2 wide-requires-2 cast-if2 returns-2 word-requires cast-used returns-3 returns-4 add-all-zero sub-all-zero part-all-zero-start part-all-zero-end all-zero-requires returns-5)

@@ -25,7 +25,7 @@ find-requires : tie.Need-find-requires Inv-loop μ-loop
 find-requires c κs = c .before .before .before .before .pre .0
 
 add-end : tie.Need-add-end Inv-loop μ-loop
-add-end c = omega (arith, place-within (c .before .find .ensures) (c .before .before .before .before .before .before .pre .0 .fits))
+add-end c = omega (arith, place-within (c .before .find .ensures))
 
 sub-copy : tie.Need-sub-copy Inv-loop μ-loop
 sub-copy c = search needs
@@ -34,7 +34,7 @@ part-copy-start : tie.Need-part-copy-start Inv-loop μ-loop
 part-copy-start c = search needs
 
 part-copy-end : tie.Need-part-copy-end Inv-loop μ-loop
-part-copy-end c = omega (arith, place-within (c .before .find .ensures) (c .before .before .before .before .before .before .pre .0 .fits))
+part-copy-end c = omega (arith, place-within (c .before .find .ensures))
 
 sub-copy-2 : tie.Need-sub-copy-2 Inv-loop μ-loop
 sub-copy-2 c = joining-at (omega (arith, ap length (table-is (now (c .before .before .before .before .before .before .before .args .file)) (c .before .before .before .before .before .before .before .args .program) (c .before .before .before .before .before .before .before .args .edition) (c .before .before .before .before .before .before .before .pre .1)), c .before .before .before .before .before .before .before .pre .2)) (c .before .before .before .before .loop .inv)
