@@ -96,14 +96,7 @@ pub fn every_file(letters: &[Bytes], most: u32) -> impl Iterator<Item = Vec<u8>>
 /// ones; one of another program.
 pub fn letters() -> Vec<Bytes> {
     let block = |edition: u16, [part, parts]: [u8; 2], byte: u8, used: usize| {
-        let program = PROGRAM;
-        let head = Head {
-            program,
-            edition,
-            part,
-            parts,
-        };
-        head.block(&vec![byte; used])
+        Head::new(PROGRAM, edition, part, parts).block(&vec![byte; used])
     };
     let first = block(1, [0, 1], b'a', 1);
     let higher = block(2, [0, 1], b'k', 4);

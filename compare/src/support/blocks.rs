@@ -26,14 +26,19 @@ pub struct Head {
 }
 
 impl Head {
+    pub fn new(program: u16, edition: u16, part: u8, parts: u8) -> Head {
+        Head {
+            program,
+            edition,
+            part,
+            parts,
+        }
+    }
+
     /// What the block says, good or not.
     pub fn of(block: &Bytes) -> Head {
-        Head {
-            program: pair_of(block, PROGRAM_AT),
-            edition: pair_of(block, EDITION_AT),
-            part: block[PART_AT],
-            parts: block[PARTS_AT],
-        }
+        let [program, edition] = [PROGRAM_AT, EDITION_AT].map(|at| pair_of(block, at));
+        Head::new(program, edition, block[PART_AT], block[PARTS_AT])
     }
 
     /// A block with this content, good if there is any.
@@ -53,15 +58,9 @@ impl Head {
 pub fn stored(program: u16, edition: u16, table: &[u8]) -> Vec<Bytes> {
     let contents = table.chunks(CONTENT);
     let parts = u8::try_from(contents.len()).expect("no more than 255 parts");
-    let blocks = contents.zip(0..parts).map(|(content, part)| {
-        let head = Head {
-            program,
-            edition,
-            part,
-            parts,
-        };
-        head.block(content)
-    });
+    let blocks = contents
+        .zip(0..parts)
+        .map(|(content, part)| Head::new(program, edition, part, parts).block(content));
     blocks.collect()
 }
 

@@ -1,5 +1,5 @@
--- What F-4 says, sentence by sentence, of the definitions and of the calls: the statements alone. The proofs are in proofs/Theorems.antt,
--- proofs/Damage.antt and proofs/Storing.antt.
+-- What F-4 says, sentence by sentence, of the definitions and of the calls: the statements alone. The proofs are in proofs/Theorems.antt, but
+-- for `Files` (Blocks.antt), `Damage` (Damage.antt) and `RoundTrip` (Storing.antt).
 use mathlib.Core.Path.{_≡_}
 use mathlib.Core.Logic.{_↔_, _⊎_}
 use mathlib.Core.Bool.{true, false}

@@ -334,7 +334,7 @@ pub struct Span {
 }
 
 // Where the used content of a part is; empty if no block counts for it, or the file is refused 17. From the last block down: the
-// first that is met counts, and no other has to be summed.
+// first good one that is met counts, and only blocks for this part are summed.
 pub fn locate(file: &[u8], program: u16, edition: u16, number: u8) -> Span
     ensures { λ r. ⌜ Locating (now (file .entry)) program edition number r ⌝ }
 {

@@ -103,14 +103,7 @@ fn alone(edition: u16, content: &[u8]) -> Bytes {
 }
 
 fn block_of(edition: u16, part: u8, parts: u8, content: &[u8]) -> Bytes {
-    let program = PROGRAM;
-    let head = Head {
-        program,
-        edition,
-        part,
-        parts,
-    };
-    head.block(content)
+    Head::new(PROGRAM, edition, part, parts).block(content)
 }
 
 /// Content that fills a block, all of it this byte.
