@@ -5,7 +5,7 @@ ghost use mathlib.Core.List.{_++_};
 ghost use mathlib.Core.Option.{some};
 ghost use Prim.Native.Nat.{_+_, _*_, _<_, _≤_};
 ghost use lib.ListN.{length, drop};
-ghost use Rattle.blocks.specs.Block.{blockSize, word as wordOf, allZero, good as goodOf};
+ghost use Rattle.blocks.specs.Block.{blockSize, word as wordOf, reduced as reducedOf, allZero, good as goodOf};
 ghost use Rattle.blocks.specs.Editions.{fileFits, blocksIn, blockAt, isGoodFor, partsOf, newest as newestOf, tableOf};
 ghost use Rattle.blocks.specs.Steps.{Summed, usable, Checked, isPart, Placed, FoundPlace, editionOf, higherThan, Best, chosen};
 ghost use Rattle.blocks.specs.Fetching.{Locating, Handing, Fetching};
@@ -38,13 +38,19 @@ fn word(block: &[u8], at: usize) -> u16
     wide(block[at]) + 256 * wide(block[at + 1])
 }
 
+fn reduced(sum: u32) -> u32
+    ensures { λ r. ⌜ r ≡ reducedOf sum ⌝ }
+{
+    sum % 255
+}
+
 // The two check bytes of some bytes.
 struct Sums {
     first: u32,
     second: u32,
 }
 
-// The sums are taken modulo 255 once, at the end: those of a block's bytes fit without.
+// The sums are reduced once, at the end: those of a block's bytes fit without.
 fn sum_bytes(bytes: &[u8]) -> Sums
     requires { ⌜ length (now bytes) ≤ blockSize ⌝ }
     ensures { λ r. ⌜ Summed (now (bytes .entry)) r ⌝ }
@@ -58,8 +64,8 @@ fn sum_bytes(bytes: &[u8]) -> Sums
         i += 1;
     }
     Sums {
-        first: first % 255,
-        second: second % 255,
+        first: reduced(first),
+        second: reduced(second),
     }
 }
 

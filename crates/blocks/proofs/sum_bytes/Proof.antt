@@ -2,7 +2,7 @@
 use borrow.Author.Needs.{needs}
 use native.Mathlib.Omega.{arith}
 use Prim.Native.Nat.{_-_}
-use mathlib.Core.Path.{refl}
+use mathlib.Core.Path.{refl, _∙_}
 use lib.ListN.{length}
 use Rattle.blocks.specs.Block.{secondCheck}
 use Rattle.blocks.proofs.Running.{Summing, summing-next, summing-end}
@@ -43,9 +43,15 @@ loop-less c = search needs
 loop-again : tie.Need-loop-again Inv-loop μ-loop
 loop-again c = summing-next (c .before .before .before .loop .inv) _ (c .before .before .before .before .before .pre) (omega arith) (c .wide .ensures .1) (c .wide .ensures .0)
 
+reduced-requires : tie.Need-reduced-requires Inv-loop μ-loop
+reduced-requires c κs = search needs
+
+reduced-requires-2 : tie.Need-reduced-requires-2 Inv-loop μ-loop
+reduced-requires-2 c κs = search needs
+
 returns : tie.Need-returns Inv-loop μ-loop
-returns c = record { first = summing-end (c .before .loop .inv) (omega arith) .0; second = summing-end (c .before .loop .inv) (omega arith) .1 }
+returns c = record { first = c .before .reduced .ensures ∙ summing-end (c .before .before .before .loop .inv) (omega arith) .0; second = c .reduced2 .ensures ∙ summing-end (c .before .before .before .loop .inv) (omega arith) .1 }
 
 pub sum-bytes-spec : {M : Type 1} → statement M
 sum-bytes-spec =
-    tie.close (tie.spec Inv-loop μ-loop loop-holds shared-slice-read-wide wide-requires cast-first add-first add-second add-i loop-less loop-again returns)
+    tie.close (tie.spec Inv-loop μ-loop loop-holds shared-slice-read-wide wide-requires cast-first add-first add-second add-i loop-less loop-again reduced-requires reduced-requires-2 returns)
