@@ -30,11 +30,11 @@ module _ (file : List ℕ) (p e : ℕ) {next : Edition} (n : next ≡ editionOf 
   unfolding editionOf
   by-check b w = n ∙ ap (λ c. cond c (chosen file p (some e)) None) w
 
-  not-whole : next ≡ None → whole file p e ≡ false
-  not-whole t = cannot-pass (whole file p e) (λ w. let q = by-check true w in let z : _≡_ {A = ℕ} 0 1 = cc in omega arith)
+  none-told : next ≡ None → whole file p e ≡ false
+  none-told t = cannot-pass (whole file p e) (λ w. let q = by-check true w in let z : _≡_ {A = ℕ} 0 1 = cc in omega arith)
 
-  is-whole : {d m k : ℕ} → next ≡ Whole d m k → (whole file p e ≡ true) × (next ≡ chosen file p (some e))
-  is-whole t = go (whole file p e) refl
+  whole-told : {d m k : ℕ} → next ≡ Whole d m k → (whole file p e ≡ true) × (next ≡ chosen file p (some e))
+  whole-told t = go (whole file p e) refl
     where
       go : (b : Bool) → whole file p e ≡ b → (whole file p e ≡ true) × (next ≡ chosen file p (some e))
       go true w = (w, by-check true w)
@@ -81,10 +81,10 @@ module _ {file : List ℕ} {p n : ℕ} {x : Edition} (b : Best file p n x) where
 
     module _ {next : Edition} (v : next ≡ editionOf file p e) where
       pub retained : next ≡ None → Best file p (n + 1) x
-      retained t = passed-by (λ d c u. ap (whole file p) (own c) ∙ not-whole file p e v t)
+      retained t = passed-by (λ d c u. ap (whole file p) (own c) ∙ none-told file p e v t)
 
       pub surpassed : {d m k : ℕ} → higherThan e x ≡ true → next ≡ Whole d m k → Best file p (n + 1) next
-      surpassed u t = let (w, r) = is-whole file p e v t in rw r (raised e (sym q) u w)
+      surpassed u t = let (w, r) = whole-told file p e v t in rw r (raised e (sym q) u w)
 
 -- ---- all blocks
 
