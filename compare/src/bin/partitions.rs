@@ -55,7 +55,7 @@ use compare::support::files::{self, Files};
 use compare::support::partitions::{partition, WAY_NUMBERS};
 use compare::support::random::Random;
 use compare::support::vectors::{read_blocks, BlockOutcome, BlockVector};
-use compare::support::{arguments, hex, SEED};
+use compare::support::{hex, SEED};
 use compare::table::MOST_BYTES;
 use compare::{fetch, part};
 
@@ -67,22 +67,19 @@ const MOST_BLOCKS: usize = 5;
 const MOST_PARTS: usize = 3;
 
 fn main() -> ExitCode {
-    files::exit_code("partitions", write_files())
-}
-
-fn write_files() -> Result<(), String> {
-    let arguments = arguments::read(["--block-vectors"])?;
-    let [vectors] = &arguments.options;
-    println!("seed {SEED:#x}");
-    let mut files = Files::default();
-    for file in vectors {
-        add_vectors(&mut files, file)?;
-    }
-    add_edges(&mut files)?;
-    let random = &mut Random::new(SEED);
-    add_damaged(&mut files, random);
-    add_random(&mut files, random);
-    files.write("files", &arguments)
+    files::generate(
+        "partitions",
+        "files",
+        "--block-vectors",
+        add_vectors,
+        |files| {
+            add_edges(files)?;
+            let random = &mut Random::new(SEED);
+            add_damaged(files, random);
+            add_random(files, random);
+            Ok(())
+        },
+    )
 }
 
 fn add(files: &mut Files, file: &[u8], calls: &[Call]) {

@@ -24,7 +24,7 @@ use compare::support::random::Random;
 use compare::support::text_edges::{self, edges};
 use compare::support::texts::{damage_bytes, damage_tokens, printed, text, NUMBERS};
 use compare::support::vectors::read_texts;
-use compare::support::{arguments, hex, SEED};
+use compare::support::{hex, SEED};
 use compare::text::translate;
 use compare::Refusal;
 
@@ -36,20 +36,10 @@ const LONG_RANDOM: usize = 4;
 const RANDOM: usize = 360;
 
 fn main() -> ExitCode {
-    files::exit_code("texts", write_files())
-}
-
-fn write_files() -> Result<(), String> {
-    let arguments = arguments::read(["--text-vectors"])?;
-    let [vectors] = &arguments.options;
-    println!("seed {SEED:#x}");
-    let mut files = Files::default();
-    for file in vectors {
-        add_vectors(&mut files, file)?;
-    }
-    add_edges(&mut files)?;
-    add_random(&mut files)?;
-    files.write("texts", &arguments)
+    files::generate("texts", "texts", "--text-vectors", add_vectors, |files| {
+        add_edges(files)?;
+        add_random(files)
+    })
 }
 
 type Outcome = Result<(Vec<u8>, usize), Refusal>;

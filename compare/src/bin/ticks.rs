@@ -24,7 +24,7 @@ use compare::support::files::{self, Files};
 use compare::support::random::Random;
 use compare::support::ticks::{even_trees, one_list, table, NUMBERS};
 use compare::support::vectors::read_ticks;
-use compare::support::{arguments, edges, hex, tick_edges, SEED};
+use compare::support::{edges, hex, tick_edges, SEED};
 use compare::tick_line;
 
 /// How many of each size: of few nodes, of some, and about as many as are allowed.
@@ -37,20 +37,10 @@ const EVEN_TREES: usize = 300;
 const ONE_LIST: usize = 80;
 
 fn main() -> ExitCode {
-    files::exit_code("ticks", write_files())
-}
-
-fn write_files() -> Result<(), String> {
-    let arguments = arguments::read(["--tick-vectors"])?;
-    let [vectors] = &arguments.options;
-    println!("seed {SEED:#x}");
-    let mut files = Files::default();
-    for file in vectors {
-        add_vectors(&mut files, file)?;
-    }
-    add_edges(&mut files)?;
-    add_random(&mut files)?;
-    files.write("tables", &arguments)
+    files::generate("ticks", "tables", "--tick-vectors", add_vectors, |files| {
+        add_edges(files)?;
+        add_random(files)
+    })
 }
 
 /// Adds a table whose line is known.

@@ -1,8 +1,10 @@
 //! The two files of a generator: the cases, and what is expected of them.
 
+use std::path::Path;
 use std::process::ExitCode;
 
-use super::arguments::Arguments;
+use super::arguments::{self, Arguments};
+use super::SEED;
 
 /// Both as they grow. None is written before all cases are there, so that one that
 /// disagrees leaves the old files alone.
@@ -47,6 +49,28 @@ impl Files {
         );
         arguments.write(&self.input, self.expected.as_bytes())
     }
+}
+
+/// Runs a generator with vector files of one kind, whose cases come first.
+pub fn generate(
+    program: &str,
+    what: &str,
+    option: &str,
+    add_vectors: impl Fn(&mut Files, &Path) -> Result<(), String>,
+    add_others: impl FnOnce(&mut Files) -> Result<(), String>,
+) -> ExitCode {
+    let write_files = || {
+        let arguments = arguments::read([option])?;
+        let [vectors] = &arguments.options;
+        println!("seed {SEED:#x}");
+        let mut files = Files::default();
+        for file in vectors {
+            add_vectors(&mut files, file)?;
+        }
+        add_others(&mut files)?;
+        files.write(what, &arguments)
+    };
+    exit_code(program, write_files())
 }
 
 /// An error is told under the program's name, as several programs may run in one go.

@@ -74,7 +74,7 @@ small-tick t old new (RefusedTick number node) o = omega (arith, ticksTold .refu
 
 pub small-fetched : (file : List ℕ) (p : ℕ) (old new : List ℕ) (r : Fetched) → Fetching file p old new r → Small (tellFetched r)
 small-fetched file p old new (DoneFetch n e m) o = tt
-small-fetched file p old new (RefusedFetch number node) o = omega (arith, of-fetch .refused file p old new number node o .1)
+small-fetched file p old new (RefusedFetch number node) o = omega (arith, of-fetch .refused file p old new number node .0 o .1)
 
 -- it changes no answer
 short-same : (before : Check) (answer : List ℕ) → answer ≡ answerAfter (shortAnswer before) answer

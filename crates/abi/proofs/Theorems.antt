@@ -227,7 +227,7 @@ module _ (file : List ℕ) (p : ℕ) (old new answer answer′ : List ℕ) where
   fetch-own : (x : Fetched) → Fetching file p old new x → 0 < returned (tellFetched x) → Own Passed (new ≡ old) (Fetching file p old new) tellFetched (λ number node. Fetching file p old new (RefusedFetch number node)) answer answer′ 18 fetch-known x
   fetch-own (DoneFetch n e m) o h = absurd (omega arith)
   fetch-own (RefusedFetch number node) o h =
-      let (same, no-node, reason) = of-fetch .refused file p old new number node o in
+      let (same, no-node, reason) = of-fetch .refused file p old new number node .0 o in
       let (some, known) = reason-known reason in
       record {
         known = record { number = number; node = node; is = refl; some = some; known = known; within = omega arith };
@@ -237,7 +237,7 @@ module _ (file : List ℕ) (p : ℕ) (old new answer answer′ : List ℕ) where
 
   fetch-done : (x : Fetched) → Fetching file p old new x → returned (tellFetched x) ≡ 0 → answer′ ≡ answerAfter (tellFetched x) answer → (n e m : ℕ) × Fetching file p old new (DoneFetch n e m) × (answer′ ≡ onto (n ∷ e ∷ m ∷ []) answer)
   fetch-done (DoneFetch n e m) o z a = (n, e, m, o, a)
-  fetch-done (RefusedFetch number node) o z a = absurd (omega (arith, reason-known (of-fetch .refused file p old new number node o .2) .0))
+  fetch-done (RefusedFetch number node) o z a = absurd (omega (arith, reason-known (of-fetch .refused file p old new number node .0 o .2) .0))
 
 part-refused : (file : List ℕ) (p e k : ℕ) (answer answer′ : List ℕ) (r : ℕ) → LocatingC file p e k answer answer′ r → 0 < r → (length answer < 3) × (r ≡ returned (Refusal 3 0)) × (answer′ ≡ answer)
 part-refused file p e k answer answer′ r o h = go (decLt (length answer) 3)

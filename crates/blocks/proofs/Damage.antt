@@ -11,7 +11,7 @@ use borrow.Author.Tests.{eqb-true}
 use lib.Dec.{eqb}
 use lib.ListN.{length, getD, take, drop, set}
 use lib.Seq.{take-set-lt, take-set-le, drop-set-lt, getD-set-same, getD-set-other, getD-take, getD-drop, length-take-le}
-use Rattle.blocks.specs.Block.{checksAt, contentSize, word, usedIn, reduced, sum, firstCheck, runningFrom, secondCheck, allZero, zeroFilled, good}
+use Rattle.blocks.specs.Block.{contentAt, contentSize, checksAt, word, usedIn, reduced, sum, firstCheck, runningFrom, secondCheck, allZero, zeroFilled, good}
 use Rattle.blocks.specs.Theorems.{Changed, Alike, Unruled, Damage}
 use Rattle.blocks.proofs.Good.{Good, good-is, is-good}
 use Rattle.codes.proofs.Bools.{left, right, cannot-pass}
@@ -72,10 +72,10 @@ zero-at [] j z = refl
 zero-at (x ∷ xs) zero z = eqb-true _ _ (left (eqb x 0) (allZero xs) z)
 zero-at (x ∷ xs) (suc j) z = zero-at xs j (right (eqb x 0) z)
 
-filler-zero : (b : List ℕ) (i : ℕ) → zeroFilled b ≡ true → 8 + usedIn b ≤ i → i < checksAt → getD b i 0 ≡ 0
+filler-zero : (b : List ℕ) (i : ℕ) → zeroFilled b ≡ true → contentAt + usedIn b ≤ i → i < checksAt → getD b i 0 ≡ 0
 unfolding zeroFilled
 filler-zero b i z l h =
-    let m = 8 + usedIn b in
+    let m = contentAt + usedIn b in
     let same : m + (i - m) ≡ i = omega arith in
     ap (λ n. getD b n 0) (sym same)
     ∙ sym (getD-take (contentSize - usedIn b) (drop m b) (i - m) 0 (omega arith) ∙ getD-drop m b (i - m) 0)
@@ -99,6 +99,11 @@ module _ (b : List ℕ) (i v : ℕ) (c : Changed b i v) where
   unfolding word
   used-kept p q = omega (arith, stored 6 p, stored 7 q)
 
+  -- a check byte that is changed is not the sum any more, since the bytes before it are as they were
+  changed-check : (j : ℕ) (f : List ℕ → ℕ) → checksAt ≤ i → i ≡ j → getD b j 0 ≡ f (take checksAt b) → getD (set b i v) j 0 ≡ f (take checksAt (set b i v)) → ⊥
+  changed-check j f l at before after =
+      c .other (sym new ∙ ap (λ n. getD (set b i v) n 0) at ∙ after ∙ ap f (take-set-le checksAt b i v l) ∙ sym before ∙ ap (λ n. getD b n 0) (sym at))
+
   alike-if : Good b → Good (set b i v) → (i < checksAt) × Alike (getD b i 0) v
   alike-if g k = go (decLt i checksAt) (decLt checksAt i)
     where
@@ -107,52 +112,44 @@ module _ (b : List ℕ) (i v : ℕ) (c : Changed b i v) where
           let same : firstCheck (take checksAt b) ≡ firstCheck (set (take checksAt b) i v) =
           sym (g .first) ∙ sym (stored checksAt (λ e. omega arith)) ∙ k .first ∙ ap firstCheck (take-set-lt checksAt b i v h) in
           (h, rw (own h) at (first-differ (take checksAt b) i v (omega (arith, before-checks)) (rw (own h) (c .before)) (c .after) (λ e. c .other (e ∙ own h)) same))
-      go (no h) (no r) =
-          let at : i ≡ checksAt = omega arith in
-          let front : take checksAt (set b i v) ≡ take checksAt b = take-set-le checksAt b i v (omega arith) in
-          absurd (c .other (sym new ∙ ap (λ n. getD (set b i v) n 0) at ∙ k .first ∙ ap firstCheck front ∙ sym (g .first) ∙ ap (λ n. getD b n 0) (sym at)))
-      go (no h) (yes r) =
-          let at : i ≡ (checksAt + 1) = omega (arith, c .place) in
-          let front : take checksAt (set b i v) ≡ take checksAt b = take-set-le checksAt b i v (omega arith) in
-          absurd (c .other (sym new ∙ ap (λ n. getD (set b i v) n 0) at ∙ k .second ∙ ap secondCheck front ∙ sym (g .second) ∙ ap (λ n. getD b n 0) (sym at)))
+      go (no h) (no r) = absurd (changed-check checksAt firstCheck (omega arith) (omega arith) (g .first) (k .first))
+      go (no h) (yes r) = absurd (changed-check (checksAt + 1) secondCheck (omega arith) (omega (arith, c .place)) (g .second) (k .second))
 
-  not-6 : Good b → Good (set b i v) → Alike (getD b i 0) v → i ≡ 6 → ⊥
+  -- the used length would leave its range
+  not-used : Good b → Good (set b i v) → Alike (getD b i 0) v → 6 ≤ i → i < contentAt → ⊥
   unfolding word
-  not-6 g k s e =
-      let x : getD b 6 0 ≡ getD b i 0 = ap (λ n. getD b n 0) (sym e) in
-      let y : getD (set b i v) 6 0 ≡ v = ap (λ n. getD (set b i v) n 0) (sym e) ∙ new in
-      ⊎-elim (λ a. omega (arith, g .some, g .short, k .some, k .short, stored 7 (λ q. omega arith)))
-      (λ a. omega (arith, g .some, g .short, k .some, k .short, stored 7 (λ q. omega arith))) s
+  not-used g k s l h = go (decLt i 7)
+    where
+      changed : (j : ℕ) → i ≡ j → (getD b j 0 ≡ getD b i 0) × (getD (set b i v) j 0 ≡ v)
+      changed j e = (ap (λ n. getD b n 0) (sym e), ap (λ n. getD (set b i v) n 0) (sym e) ∙ new)
 
-  not-7 : Good b → Good (set b i v) → Alike (getD b i 0) v → i ≡ 7 → ⊥
-  unfolding word
-  not-7 g k s e =
-      let x : getD b 7 0 ≡ getD b i 0 = ap (λ n. getD b n 0) (sym e) in
-      let y : getD (set b i v) 7 0 ≡ v = ap (λ n. getD (set b i v) n 0) (sym e) ∙ new in
-      ⊎-elim (λ a. omega (arith, g .short, k .short)) (λ a. omega (arith, g .short, k .short)) s
+      go : Dec (i < 7) → ⊥
+      go (yes a) =
+          let (x, y) = changed 6 (omega arith) in
+          ⊎-elim (λ t. omega (arith, g .some, g .short, k .some, k .short, stored 7 (λ q. omega arith)))
+          (λ t. omega (arith, g .some, g .short, k .some, k .short, stored 7 (λ q. omega arith))) s
+      go (no a) =
+          let (x, y) = changed 7 (omega arith) in
+          ⊎-elim (λ t. omega (arith, g .short, k .short)) (λ t. omega (arith, g .short, k .short)) s
 
-  not-filler : Good b → Good (set b i v) → i < checksAt → 8 + usedIn b ≤ i → ⊥
+  not-filler : Good b → Good (set b i v) → i < checksAt → contentAt + usedIn b ≤ i → ⊥
   not-filler g k h l =
       let used : usedIn (set b i v) ≡ usedIn b = used-kept (λ e. omega arith) (λ e. omega arith) in
       c .other (sym new ∙ filler-zero (set b i v) i (k .zeros) (omega arith) h ∙ sym (filler-zero b i (g .zeros) l h))
 
   unruled-if : Good b → Good (set b i v) → i < checksAt → Alike (getD b i 0) v → Unruled b i
-  unruled-if g k h s = go (decLt i 6) (decLt i 8) (decLt i (8 + usedIn b))
+  unruled-if g k h s = go (decLt i 6) (decLt i contentAt) (decLt i (contentAt + usedIn b))
     where
-      go : Dec (i < 6) → Dec (i < 8) → Dec (i < 8 + usedIn b) → Unruled b i
+      go : Dec (i < 6) → Dec (i < contentAt) → Dec (i < contentAt + usedIn b) → Unruled b i
       go (yes a) q r = inl a
-      go (no a) (yes q) r = absurd (between (decLt i 7))
-        where
-          between : Dec (i < 7) → ⊥
-          between (yes l) = not-6 g k s (omega arith)
-          between (no l) = not-7 g k s (omega arith)
+      go (no a) (yes q) r = absurd (not-used g k s (omega arith) q)
       go (no a) (no q) (yes r) = inr (omega arith, r)
       go (no a) (no q) (no r) = absurd (not-filler g k h (omega arith))
 
   still-good : Good b → Alike (getD b i 0) v → Unruled b i → Good (set b i v)
   unfolding zeroFilled
   still-good g s u =
-      let low : i < 8 + usedIn b = ⊎-elim (λ a. omega (arith, g .some)) (λ a. a .1) u in
+      let low : i < contentAt + usedIn b = ⊎-elim (λ a. omega (arith, g .some)) (λ a. a .1) u in
       let h : i < checksAt = omega (arith, g .short) in
       let p : 6 ≡ i → ⊥ = λ e. ⊎-elim (λ a. omega arith) (λ a. omega arith) u in
       let q : 7 ≡ i → ⊥ = λ e. ⊎-elim (λ a. omega arith) (λ a. omega arith) u in
@@ -167,8 +164,8 @@ module _ (b : List ℕ) (i v : ℕ) (c : Changed b i v) where
         some = omega (arith, g .some);
         short = omega (arith, g .short);
         zeros =
-            ap (λ n. allZero (take (contentSize - n) (drop (8 + n) (set b i v)))) used
-            ∙ ap (λ l. allZero (take (contentSize - usedIn b) l)) (drop-set-lt (8 + usedIn b) b i v low)
+            ap (λ n. allZero (take (contentSize - n) (drop (contentAt + n) (set b i v)))) used
+            ∙ ap (λ l. allZero (take (contentSize - usedIn b) l)) (drop-set-lt (contentAt + usedIn b) b i v low)
             ∙ g .zeros;
       }
 

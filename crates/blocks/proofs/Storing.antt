@@ -7,11 +7,12 @@ use Prim.Native.Nat.{ℕ, zero, suc, _+_, _-_, _*_, _/_, _%_, _≤_, _<_}
 use native.Mathlib.Nat.{div-add-mod, mod-lt}
 use native.Mathlib.Decide.{decLt}
 use native.Mathlib.Omega.{arith}
-use lib.ListN.{length, getD, take, drop, replicate, length-append, length-drop, length-replicate, length-take}
+use lib.ListN.{length, getD, take, drop, replicate, length-append, length-drop, length-replicate, length-take, take-append-drop}
 use lib.Seq.{take-append-le, drop-append-le, take-all, drop-drop, take-add, take-at, drop-at, getD-at, getD-append-add}
 use Rattle.blocks.specs.Block.{contentAt, checksAt, Bytes, blockSize, contentSize, word, programIn, editionIn, partIn, partsIn, usedIn, firstCheck, secondCheck, allZero, zeroFilled, good}
 use Rattle.blocks.specs.Editions.{maxBlocks, fileFits, blockAt, counted, contentOf, partsOf, whole, newest, joined, tableOf}
 use Rattle.blocks.specs.Storing.{unsealed, sealed, partCount, piece, storedPart, stored, Holds}
+use Rattle.esterel.proofs.Every.{Every, none, also, every-left, every-right, every-join, every-at}
 use Rattle.codes.proofs.Bools.{cannot-pass, false-not-true}
 use Rattle.blocks.specs.Fetching.{maxTable, fetched, outcome, content, answerOf, Fetching}
 use Rattle.blocks.specs.Theorems.{GoodBlock, Complete, FetchedBack, RoundTrip}
@@ -278,40 +279,27 @@ module _ (p e : ℕ) (t : List ℕ) (few : partCount t ≤ maxBlocks) where
 
 -- such a file has bytes
 
-abbrev AllBytes : List ℕ → Type 0
-AllBytes [] = Unit {0}
-AllBytes (x ∷ xs) = (x < 256) × AllBytes xs
+abbrev Byte : ℕ → Type 0
+Byte x = x < 256
 
-all-of : (xs : List ℕ) → Bytes xs → AllBytes xs
-all-of [] b = tt
-all-of (x ∷ xs) b = (b 0, all-of xs (λ j. b (suc j)))
+every-byte : (xs : List ℕ) → Bytes xs → Every Byte xs
+every-byte [] b = none
+every-byte (x ∷ xs) b = also (b 0) (every-byte xs (λ j. b (suc j)))
 
-bytes-of : (xs : List ℕ) → AllBytes xs → Bytes xs
-bytes-of [] a j = omega arith
-bytes-of (x ∷ xs) (h, a) zero = h
-bytes-of (x ∷ xs) (h, a) (suc j) = bytes-of xs a j
+every-piece : (t : List ℕ) (k : ℕ) → Every Byte t → Every Byte (piece t k)
+unfolding piece
+every-piece t k e =
+    let n = contentSize * k in
+    let rest : Every Byte (drop n t) = every-right (take n t) (drop n t) (rw (take-append-drop n t) e) in
+    every-left (take contentSize (drop n t)) (drop contentSize (drop n t)) (rw (take-append-drop contentSize (drop n t)) rest)
 
-all-append : (xs ys : List ℕ) → AllBytes xs → AllBytes ys → AllBytes (xs ++ ys)
-all-append [] ys a b = b
-all-append (x ∷ xs) ys (h, a) b = (h, all-append xs ys a b)
+every-zero : (n : ℕ) → Every Byte (replicate n 0)
+every-zero zero = none
+every-zero (suc n) = also {x = 0} (omega arith) (every-zero n)
 
-all-zeros : (n : ℕ) → AllBytes (replicate n 0)
-all-zeros zero = tt
-all-zeros (suc n) = (omega arith, all-zeros n)
-
-all-take : (n : ℕ) (xs : List ℕ) → AllBytes xs → AllBytes (take n xs)
-all-take zero xs a = tt
-all-take (suc n) [] a = tt
-all-take (suc n) (x ∷ xs) (h, a) = (h, all-take n xs a)
-
-all-drop : (n : ℕ) (xs : List ℕ) → AllBytes xs → AllBytes (drop n xs)
-all-drop zero xs a = a
-all-drop (suc n) [] a = tt
-all-drop (suc n) (x ∷ xs) (h, a) = all-drop n xs a
-
-all-joined : (f : ℕ → List ℕ) (m : ℕ) → ((k : ℕ) → k < m → AllBytes (f k)) → AllBytes (joined f m)
-all-joined f zero h = tt
-all-joined f (suc m) h = all-append (joined f m) (f m) (all-joined f m (λ k l. h k (omega arith))) (h m (omega arith))
+every-joined : (f : ℕ → List ℕ) (m : ℕ) → ((k : ℕ) → k < m → Every Byte (f k)) → Every Byte (joined f m)
+every-joined f zero h = none
+every-joined f (suc m) h = every-join (every-joined f m (λ k l. h k (omega arith))) (h m (omega arith))
 
 low : (n : ℕ) → n % 256 < 256
 low n = mod-lt n (omega arith)
@@ -322,21 +310,20 @@ high n h = omega (arith, div-add-mod n 256)
 check-byte : (n : ℕ) → n % 255 < 256
 check-byte n = omega (arith, mod-lt n {m = 255} (omega arith))
 
-all-sealed : (p e k m : ℕ) (xs : List ℕ) → p < 65536 → e < 65536 → k < 256 → m < 256 → length xs ≤ contentSize → AllBytes xs → AllBytes (sealed (unsealed p e k m xs))
+every-sealed : (p e k m : ℕ) (xs : List ℕ) → p < 65536 → e < 65536 → k < 256 → m < 256 → length xs ≤ contentSize → Every Byte xs → Every Byte (sealed (unsealed p e k m xs))
 unfolding sealed unsealed firstCheck secondCheck
-all-sealed p e k m xs hp he hk hm short a =
-    let content = all-append xs (replicate (contentSize - length xs) 0) a (all-zeros (contentSize - length xs)) in
-    all-append (unsealed p e k m xs) _
-    (low p, (high p hp, (low e, (high e he, (hk, (hm, (low (length xs), (high (length xs) (omega arith), content))))))))
-    (check-byte _, (check-byte _, tt))
+every-sealed p e k m xs hp he hk hm short a =
+    every-join
+    (also (low p) (also (high p hp) (also (low e) (also (high e he) (also hk (also hm (also (low (length xs)) (also (high (length xs) (omega arith))
+    (every-join a (every-zero (contentSize - length xs)))))))))))
+    (also (check-byte _) (also (check-byte _) none))
 
 stored-bytes : (p e : ℕ) (t : List ℕ) → p < 65536 → e < 65536 → length t ≤ 2048 → Bytes t → Bytes (stored p e t)
-unfolding stored piece
+unfolding stored
 stored-bytes p e t hp he short b =
-    bytes-of (stored p e t)
-    (all-joined (storedPart p e t) (partCount t)
-    (λ k h. all-sealed p e k (partCount t) (piece t k) hp he (omega (arith, count-least t)) (omega (arith, count-least t)) (piece-short t k h)
-    (all-take contentSize (drop (contentSize * k) t) (all-drop (contentSize * k) t (all-of t b)))))
+    every-at 0 (omega arith)
+    (every-joined (storedPart p e t) (partCount t)
+    (λ k h. every-sealed p e k (partCount t) (piece t k) hp he (omega (arith, count-least t)) (omega (arith, count-least t)) (piece-short t k h) (every-piece t k (every-byte t b))))
 
 pub round-trip : RoundTrip
 round-trip =

@@ -3,7 +3,7 @@ use mathlib.Core.Path.{_≡_, refl, sym, ap, _∙_}
 use mathlib.Core.Logic.{_↔_, _⊎_, inl, inr, ⊎-elim}
 use mathlib.Core.Bool.{Bool, true, false, _||_, cond}
 use mathlib.Core.Option.{Option, none, some}
-use mathlib.Core.List.{List, [], _∷_, foldl}
+use mathlib.Core.List.{List, [], _∷_, foldl, _++_}
 use Prim.Native.Nat.{ℕ, _+_, _≤_, _<_}
 use native.Mathlib.Nat.{mod-add-mod, mod-lt, mod-eq-of-lt, add-zero}
 use native.Mathlib.Decide.{decLt}
@@ -14,8 +14,10 @@ use lib.ListN.{length, take, drop}
 use Rattle.codes.proofs.Bools.{both, left, right, either, inl-true, inr-true, cannot-pass, false-not-true}
 use Rattle.blocks.specs.Block.{contentAt, contentSize, Bytes, usedIn, reduced, sum, firstCheck, runningFrom, secondCheck}
 use Rattle.blocks.specs.Editions.{fileFits, blocksIn, blockAt, counted, lengthOf, contentOf, namedBy, partsOf, completes, whole, newest, joined, tableOf, allBelow}
-use Rattle.blocks.specs.Fetching.{handed, Locating, maxTable, Outcome, fetched, refused, checkEdition, outcome, content, answerOf}
+use Rattle.blocks.specs.Fetching.{handed, Locating, maxTable, Outcome, fetched, refused, checkEdition, outcome, content, answerOf, Fetching}
+use Rattle.blocks.proofs.Fetches.{refusing, finding, short-room, bad-file, good-file, too-long, fitting}
 use Rattle.blocks.specs.declared.Span.{Span}
+use Rattle.blocks.specs.declared.Fetched.{Fetched}
 use Rattle.blocks.specs.declared.Fetched.the-variants.{Done, Refused}
 use Rattle.blocks.specs.Theorems.{addByte, CheckBytes, GoodBlock, Complete, Superseding, Wrote, Reason, shortBuffer, badFile, noEdition, longTable, OfFetch, OfPart}
 use Rattle.blocks.proofs.Last.{last-some, last-none, all-holds, holds-all}
@@ -197,6 +199,13 @@ module _ {file : List ℕ} {p : ℕ} {old new : List ℕ} where
       let none-named : node ≡ 0 = cc in
       (t, none-named, rw same x)
 
+refused-answer : {file : List ℕ} {p : ℕ} {old new : List ℕ} {r : Fetched} {number : ℕ} → Fetching file p old new r → outcome (length old) file p ≡ refused number → r ≡ Refused number 0
+unfolding answerOf
+refused-answer f q = f .answer ∙ ap answerOf q
+
+written-back : {file : List ℕ} {p : ℕ} {old new : List ℕ} {n e m : ℕ} → Wrote file p old new n e m → new ≡ tableOf file p e ++ drop (length (tableOf file p e)) old
+written-back {file} {p} {old} {e = e} w = w .table ∙ ap (λ k. tableOf file p e ++ drop k old) (w .long)
+
 -- the numbers of the checks
 pub reason-known : {room : ℕ} {file : List ℕ} {p number : ℕ} → Reason room file p number → (1 ≤ number) × (number ≤ 18)
 reason-known (shortBuffer h) = (omega arith, omega arith)
@@ -209,21 +218,27 @@ empty-none : (p : ℕ) → newest [] p ≡ none
 unfolding newest
 empty-none p = last-none (whole [] p) 65536 .1 (λ e l w. let (i, c) = led [] p e w in omega (arith, counted-good c .within))
 
-empty-fetched : {p room : ℕ} {o : Outcome} → 2048 ≤ room → View room [] p o → answerOf o ≡ Refused 18 0
-unfolding answerOf
-empty-fetched {p} h (finds e r f w s) = absurd (let q = sym (empty-none p) ∙ w in let z : _≡_ {A = ℕ} 0 1 = cc in omega arith)
-empty-fetched h (refuses number (shortBuffer l)) = absurd (omega arith)
-empty-fetched h (refuses number (badFile r f)) = absurd (false-not-true f (whole-blocks [] 0 (omega arith) refl))
-empty-fetched h (refuses number (noEdition r f w)) = refl
-empty-fetched {p} h (refuses number (longTable e r f w l)) = absurd (let q = sym (empty-none p) ∙ w in let z : _≡_ {A = ℕ} 0 1 = cc in omega arith)
+-- and back: each reason makes its outcome
+refused-by : {room : ℕ} {file : List ℕ} {p number : ℕ} → Reason room file p number → outcome room file p ≡ refused number
+refused-by {room} {file} {p} (shortBuffer h) = short-room file p room h
+refused-by {room} {file} {p} (badFile r f) = bad-file file p room r refl f
+refused-by {room} {file} {p} (noEdition r f w) = good-file file p room r refl f ∙ ap (checkEdition file p) w
+refused-by {room} {file} {p} (longTable e r f w h) =
+    good-file file p room r refl f ∙ too-long (record { is = w; parts = refl; long = refl }) h
+
+fetched-by : {file : List ℕ} {p : ℕ} {old new : List ℕ} {n e m : ℕ} → Wrote file p old new n e m → outcome (length old) file p ≡ fetched e m (tableOf file p e)
+fetched-by {file} {p} {old} w =
+    good-file file p (length old) (w .room) refl (w .fits) ∙ fitting (record { is = w .edition; parts = w .parts; long = w .long }) (w .short)
 
 pub of-fetch : OfFetch
 of-fetch =
     record {
-      empty = λ p old new r h f. f .answer ∙ empty-fetched h (outcome-view (length old) [] p);
+      empty = λ p old new r h f. refused-answer f (refused-by (noEdition h (whole-blocks [] 0 (omega arith) refl) (empty-none p)));
       determined = λ file p old new new′ r r′ f g. (f .table ∙ sym (g .table), f .answer ∙ sym (g .answer));
-      done = λ file p old new n e m f. done-of n e m (outcome-view (length old) file p) (f .answer) (f .table);
-      refused = λ file p old new number node f. refused-of number node (outcome-view (length old) file p) (f .answer) (f .table);
+      done = λ file p old new n e m.
+          (λ f. done-of n e m (outcome-view (length old) file p) (f .answer) (f .table), λ w. finding (tableOf file p e) (fetched-by w) (w .long) (written-back w));
+      refused = λ file p old new number node.
+          (λ f. refused-of number node (outcome-view (length old) file p) (f .answer) (f .table), λ (same, none-named, reason). rw none-named (refusing number (refused-by reason) same));
     }
 
 module _ (file : List ℕ) (p e k : ℕ) where

@@ -18,6 +18,7 @@ contentSize = 502
 abbrev pub checksAt : ℕ
 checksAt = 510
 
+-- what a file is a list of
 abbrev pub Bytes : List ℕ → Type 0
 Bytes xs = (j : ℕ) → getD xs j 0 < 256
 

@@ -34,6 +34,7 @@ allBelow f (suc n) = allBelow f n && f n
 unfoldable pub isFor : (program edition part : ℕ) → List ℕ → Bool
 isFor p e k b = eqb (programIn b) p && (eqb (editionIn b) e && eqb (partIn b) k)
 
+-- and is good
 abbrev pub isGoodFor : (program edition part : ℕ) → List ℕ → Bool
 isGoodFor p e k b = good b && isFor p e k b
 

@@ -104,11 +104,12 @@ pub data Reason (room : ℕ) (file : List ℕ) (program : ℕ) : ℕ → Type 0 
 pub record OfFetch : Type 0 where
   -- the contract leaves nothing open
   pub determined : (file : List ℕ) (p : ℕ) (old new new′ : List ℕ) (r r′ : Fetched) → Fetching file p old new r → Fetching file p old new′ r′ → (new ≡ new′) × (r ≡ r′)
-  pub done : (file : List ℕ) (p : ℕ) (old new : List ℕ) (n e m : ℕ) → Fetching file p old new (Done n e m) → Wrote file p old new n e m
+  -- it is done exactly with the table of the edition that supersedes, if that fits
+  pub done : (file : List ℕ) (p : ℕ) (old new : List ℕ) (n e m : ℕ) → Fetching file p old new (Done n e m) ↔ Wrote file p old new n e m
   -- an empty file has no whole edition
   pub empty : (p : ℕ) (old new : List ℕ) (r : Fetched) → 2048 ≤ length old → Fetching [] p old new r → r ≡ Refused 18 0
-  -- after a refusal the lent table is as it was
-  pub refused : (file : List ℕ) (p : ℕ) (old new : List ℕ) (number node : ℕ) → Fetching file p old new (Refused number node) → (new ≡ old) × (node ≡ 0) × Reason (length old) file p number
+  -- it is refused exactly with the number of the first check that fails, and the lent table is as it was
+  pub refused : (file : List ℕ) (p : ℕ) (old new : List ℕ) (number node : ℕ) → Fetching file p old new (Refused number node) ↔ ((new ≡ old) × (node ≡ 0) × Reason (length old) file p number)
 
 pub record OfPart : Type 0 where
   -- empty exactly if no block counts for the part or the file is refused 17; whole editions are not asked for
