@@ -20,7 +20,7 @@ use Rattle.blocks.specs.declared.Edition.{Edition}
 use Rattle.blocks.specs.declared.Edition.the-variants.{Whole, None}
 use Rattle.blocks.proofs.Blocks.{block-below}
 use Rattle.blocks.proofs.Last.{last-some, last-none}
-use Rattle.blocks.proofs.Counted.{block, counted-good}
+use Rattle.blocks.proofs.Counted.{counted-good}
 
 -- ---- one more block
 

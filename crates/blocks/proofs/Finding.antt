@@ -7,8 +7,7 @@ use Prim.Native.Nat.{ℕ, _+_, _-_, _≤_}
 use native.Mathlib.Nat.{sub-zero}
 use native.Mathlib.Numerals.{add-one}
 use native.Mathlib.Omega.{arith}
-use lib.ListN.{length, getD}
-use Rattle.blocks.specs.Block.{good}
+use lib.ListN.{getD}
 use Rattle.blocks.specs.Editions.{blocksIn, blockAt, lastBelow, isGoodFor, counted}
 use Rattle.blocks.specs.declared.Place.{Place}
 use Rattle.blocks.specs.Steps.{Checked, isPart, Placed, FoundPlace}
