@@ -55,7 +55,7 @@ answer-refused : (v : Verdict) (number node : ℕ) → Refused number node ≡ a
 answer-refused (passed p) number node e = cc
 answer-refused (refused a b) number node e = cc
 
-answer-passed : (v : Verdict) → Passed ≡ answerOf v → (p : Stmt) × (v ≡ passed p)
+pub answer-passed : (v : Verdict) → Passed ≡ answerOf v → (p : Stmt) × (v ≡ passed p)
 answer-passed (passed p) e = (p, refl)
 answer-passed (refused a b) e = (leaf nothing, cc)
 

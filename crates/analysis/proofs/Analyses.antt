@@ -10,25 +10,30 @@ use lib.ListN.{length, getD, drop, List·getD-append}
 use lib.Seq.{drop-at}
 use Rattle.codes.specs.Codes.{empty, word}
 use Rattle.codes.proofs.Bools.{left, right}
+use Rattle.esterel.specs.Limits.{maxNodes}
 use Rattle.esterel.specs.Statement.{Stmt, size, loopDepth}
 use Rattle.esterel.specs.Sets.{startSet, anyInstantSet, Place, at, contextOf, stmtOf, placesOf, mark}
 use Rattle.esterel.specs.Table.{Verdict, passed, refused, scan}
 use Rattle.esterel.specs.Checks.{checkProgram, Line, lineOf, listing}
 use Rattle.esterel.proofs.Accepted.{statements}
-use Rattle.table.specs.Program.{programOf}
+use Rattle.esterel.proofs.Reading.{length-passed}
+use Rattle.table.specs.Program.{programOf, Readable}
+use Rattle.table.specs.Columns.{sizesOf}
 use Rattle.table.specs.Check.{refuse, passIf, lengthCheck}
 use Rattle.table.specs.Check.{answerOf as checkOf}
 use Rattle.table.specs.declared.Check.{Check}
 use Rattle.table.specs.declared.Check.the-variants.{Passed}
 use Rattle.table.specs.declared.Check.the-variants.{Refused as RefusedCheck}
-use Rattle.table.proofs.Found.{pass-true}
 use Rattle.table.proofs.Bytes.{table-length}
+use Rattle.table.proofs.Sizing.{measured}
+use Rattle.table.proofs.Surveying.{few-nodes}
 use Rattle.analysis.specs.Steps.{setOfStmt}
-use Rattle.analysis.specs.Passes.{Filled, wordsOf, onto, flagsOf, Fillable, contextWord, contextsOf, marksOf, Ready, Walkable}
-use Rattle.analysis.specs.Analysis.{checkRoom, checked, roomFor, answerOf, refusalOf, kOf, aOf, sOf, markOf, column, verdictFor, Analysis}
+use Rattle.analysis.specs.Passes.{Filled, wordsOf, onto, flagsOf, Fillable, contextWord, contextsOf, marksOf, Ready, Accepting, Walkable}
+use Rattle.analysis.specs.Analysis.{checkRoom, checked, CallChecked, SizesChecked, roomFor, answerOf, refusalOf, kOf, aOf, sOf, markOf, column, verdictFor, Analysis}
+use Rattle.analysis.specs.declared.Acceptance.{Acceptance}
 use Rattle.analysis.specs.declared.Analysed.{Analysed}
 use Rattle.analysis.specs.declared.Analysed.the-variants.{Done, Refused}
-use Rattle.analysis.proofs.Accepts.{length-law}
+use Rattle.analysis.proofs.Accepts.{length-law, answer-passed, not-both}
 use Rattle.analysis.proofs.Contexts.{length-marks}
 use Rattle.analysis.proofs.Filling.{filled, length-flags, flags-at}
 
@@ -47,23 +52,78 @@ module _ (t : List ℕ) (room : Bool) where
   unfolding checked
   after-length c e = length-law t (later room) ∙ ap (λ x. refuse x (later room)) (sym e)
 
-  pub length-refused : (c : Check) (number node : ℕ) → c ≡ lengthCheck t → c ≡ RefusedCheck number node → checked room t ≡ refused number node
+  length-refused : (c : Check) (number node : ℕ) → c ≡ lengthCheck t → c ≡ RefusedCheck number node → checked room t ≡ refused number node
   length-refused c number node e z = after-length c e ∙ ap (λ x. refuse x (later room)) z
 
   module _ (c : Check) (e : c ≡ lengthCheck t) (z : c ≡ Passed) (r : Check) (er : r ≡ passIf 3 room) where
     after-room : checked room t ≡ refuse r (checkProgram (scan t 0 []))
     after-room = after-length c e ∙ ap (λ x. refuse x (later room)) z ∙ room-check room (checkProgram (scan t 0 [])) ∙ ap (λ x. refuse x (checkProgram (scan t 0 []))) (sym er)
 
-    pub room-refused : (number node : ℕ) → r ≡ RefusedCheck number node → checked room t ≡ refused number node
+    room-refused : (number node : ℕ) → r ≡ RefusedCheck number node → checked room t ≡ refused number node
     room-refused number node f = after-room ∙ ap (λ x. refuse x (checkProgram (scan t 0 []))) f
 
-    pub room-passed : r ≡ Passed → checked room t ≡ checkProgram (scan t 0 [])
+    room-passed : r ≡ Passed → checked room t ≡ checkProgram (scan t 0 [])
     room-passed f = after-room ∙ ap (λ x. refuse x (checkProgram (scan t 0 []))) f
+
+-- where it passes, the buffers suffice and the program passes
+checked-program : (t : List ℕ) (room : Bool) (p : Stmt) → checked room t ≡ passed p → (room ≡ true) × (checkProgram (scan t 0 []) ≡ passed p)
+unfolding checked
+checked-program t true p e = (refl, length-passed t (checkProgram (scan t 0 [])) p e)
+checked-program t false p e = let z = length-passed t (refused 3 0) p e in (cc, cc)
 
 -- a refusal's number and node are its verdict's
 pub verdict-refused : (v : Verdict) (c : Check) (number node : ℕ) → c ≡ checkOf v → c ≡ RefusedCheck number node → v ≡ refused number node
 verdict-refused (passed p) c number node e z = let f : RefusedCheck number node ≡ Passed = sym z ∙ e in cc
 verdict-refused (refused x y) c number node e z = let f : RefusedCheck number node ≡ RefusedCheck x y = sym z ∙ e in cc
+
+-- ---- the returns of `check_call`
+
+module _ {t : List ℕ} {room : Bool} where
+  refused-call : {r : Acceptance} (number node : ℕ) → checked room t ≡ refused number node → r .check ≡ RefusedCheck number node → CallChecked room t r
+  refused-call number node v e = record { answer = e ∙ sym (ap checkOf v); loops = λ z. absurd (not-both e z); ready = λ z. absurd (not-both e z) }
+
+  module _ {c : Check} (e : c ≡ lengthCheck t) where
+    pub length-fails : (loops number node : ℕ) → c ≡ RefusedCheck number node → CallChecked room t (record { check = c; loops = loops })
+    length-fails loops number node z = refused-call number node (length-refused t room c number node e z) z
+
+    module _ (z : c ≡ Passed) {b : Check} (eb : b ≡ passIf 3 room) where
+      pub room-fails : (loops number node : ℕ) → b ≡ RefusedCheck number node → CallChecked room t (record { check = b; loops = loops })
+      room-fails loops number node f = refused-call number node (room-refused t room c e z b eb number node f) f
+
+      pub call-checked : {r : Acceptance} → b ≡ Passed → Accepting t r → CallChecked room t r
+      call-checked f o = record { answer = o .answer ∙ ap checkOf (sym (room-passed t room c e z b eb f)); loops = o .loops; ready = o .ready }
+
+-- a call that passed
+module _ {t : List ℕ} {room : Bool} {r : Acceptance} (o : CallChecked room t r) where
+  pub call-refused : (number node : ℕ) → r .check ≡ RefusedCheck number node → checked room t ≡ refused number node
+  call-refused number node z = verdict-refused (checked room t) (r .check) number node (o .answer) z
+
+  pub call-passed : r .check ≡ Passed → (room ≡ true) × (checked room t ≡ passed (programOf t))
+  call-passed z =
+      let (p, e) = answer-passed (checked room t) (sym z ∙ o .answer) in
+      let (suffices, v) = checked-program t room p e in
+      (suffices, e ∙ sym v ∙ o .ready z .verdict)
+
+  pub sizes-fail : (sizes : List ℕ) (number node : ℕ) → r .check ≡ RefusedCheck number node → SizesChecked room t sizes (r .check)
+  sizes-fail sizes number node z = record { answer = o .answer; sized = λ y. absurd (not-both z y) }
+
+  module _ (z : r .check ≡ Passed) where
+    abbrev fine : Readable t
+    fine = o .ready z .placed .readable
+
+    -- what the sizes need
+    pub sizable : (old : List ℕ) → maxNodes ≤ length old → Readable t × (size (programOf t) ≤ length old)
+    sizable old long = (fine, omega (arith, few-nodes t fine))
+
+    -- they are filled in, in the place of old
+    pub sizes-checked : (old sizes : List ℕ) → maxNodes ≤ length sizes → sizes ≡ onto (sizesOf (programOf t)) old → SizesChecked room t sizes Passed
+    sizes-checked old sizes long is =
+        let (suffices, verdict) = call-passed z in
+        let few = few-nodes t fine in
+        record {
+          answer = sym z ∙ o .answer;
+          sized = λ _. record { suffices = suffices; verdict = verdict; ready = o .ready z; measured = measured old fine (omega arith) is; few = few };
+        }
 
 -- nothing lent has changed
 pub refusing : {t k a s m : List ℕ} {r : Analysed} (number node : ℕ) → verdictFor t k a s m ≡ refused number node → r ≡ Refused number node → Analysis t k a s m k a s m r
@@ -89,9 +149,8 @@ pub record Room (n k a s m : ℕ) : Type 0 where
   pub contexts : n ≤ s
   pub marks : n ≤ m
 
-pub room-of : (n k a s m : ℕ) (r : Check) → r ≡ passIf 3 (roomFor n k a s m) → r ≡ Passed → Room n k a s m
-room-of n k a s m r e z =
-    let f : roomFor n k a s m ≡ true = pass-true 3 _ (sym e ∙ z) in
+pub room-of : (n k a s m : ℕ) → roomFor n k a s m ≡ true → Room n k a s m
+room-of n k a s m f =
     let g = left (leb n k && leb n a && leb n s) (leb n m) f in
     let h = left (leb n k && leb n a) (leb n s) g in
     record {
@@ -184,10 +243,9 @@ module _ {t : List ℕ} (o : Ready t) where
             marksRoom = omega (arith, nodes-are, room .marks);
           }
 
-      pub finishing : {s′ m′ : List ℕ} {n loops : ℕ} → verdictFor t k a s m ≡ checkProgram (scan t 0 []) → n ≡ length t / 2 → loops ≡ loopDepth p → s′ ≡ onto (contextsOf p) s → m′ ≡ onto (marksOf p) f → Analysis t k a s m k′ a′ s′ m′ (Done n loops)
+      pub finishing : {s′ m′ : List ℕ} {n loops : ℕ} → verdictFor t k a s m ≡ passed p → n ≡ length t / 2 → loops ≡ loopDepth p → s′ ≡ onto (contextsOf p) s → m′ ≡ onto (marksOf p) f → Analysis t k a s m k′ a′ s′ m′ (Done n loops)
       unfolding answerOf
-      finishing {n = n} v en el es em =
-          let z : verdictFor t k a s m ≡ passed p = v ∙ o .verdict in
+      finishing {n = n} z en el es em =
           record {
             answer = ap₂ Done (en ∙ nodes-are) el ∙ sym (ap answerOf z);
             startsAre = ek ∙ column-is kOf p _ _ k z (starts-column p);

@@ -71,27 +71,27 @@ sequence-word a b = rw (∋-word a 0 (omega arith)) (go (a 0) refl)
     go true e = rw (without-ended-word a, union-word (withoutEnded a) b) (word-same _ _ (λ k h. refl))
     go false e = rw (without-ended-word a) (word-same _ _ (λ k h. sym (or-false (withoutEnded a k))))
 
--- each node's word from its children's
+-- each node's word from its children's; of the statements w and v, in their place, only the kind and the field are looked at
 module _ (any : Bool) where
-  leaf-step : (l : Leaf) (x y : ℕ) → codesOf any (kindOf (kind (leaf l))) (field (leaf l)) x y ≡ word (setOfStmt any (leaf l))
+  pub leaf-step : (l : Leaf) (x y : ℕ) → codesOf any (kindOf (kind (leaf l))) (field (leaf l)) x y ≡ word (setOfStmt any (leaf l))
   unfolding kindOf
   leaf-step nothing x y = singleton-word 0
   leaf-step pause x y = refl
   leaf-step (emit s) x y = singleton-word 0
   leaf-step (exit level) x y = singleton-word (2 + level)
 
-  one-step : (u : Unary) (q : Stmt) (y : ℕ) → setOfStmt any q 64 ≡ false → codesOf any (kindOf (kind (one u q))) (field (one u q)) (word (setOfStmt any q)) y ≡ word (setOfStmt any (one u q))
+  pub one-step : (u : Unary) (w q : Stmt) (y : ℕ) → setOfStmt any q 64 ≡ false → codesOf any (kindOf (kind (one u w))) (field (one u w)) (word (setOfStmt any q)) y ≡ word (setOfStmt any (one u q))
   unfolding kindOf
-  one-step (signal s) q y h = refl
-  one-step (suspend s) q y h = refl
-  one-step loop q y h = without-ended-word (setOfStmt any q)
-  one-step trap q y h = caught-word (setOfStmt any q) h
+  one-step (signal s) w q y h = refl
+  one-step (suspend s) w q y h = refl
+  one-step loop w q y h = without-ended-word (setOfStmt any q)
+  one-step trap w q y h = caught-word (setOfStmt any q) h
 
-  two-step : (b : Binary) (q r : Stmt) → codesOf any (kindOf (kind (two b q r))) (field (two b q r)) (word (setOfStmt any q)) (word (setOfStmt any r)) ≡ word (setOfStmt any (two b q r))
+  pub two-step : (b : Binary) (w v q r : Stmt) → codesOf any (kindOf (kind (two b w v))) (field (two b w v)) (word (setOfStmt any q)) (word (setOfStmt any r)) ≡ word (setOfStmt any (two b q r))
   unfolding kindOf
-  two-step (present s) q r = union-word (setOfStmt any q) (setOfStmt any r)
-  two-step sequence q r = sequence-word (setOfStmt any q) (setOfStmt any r)
-  two-step parallel q r = parallel-word (setOfStmt any q) (setOfStmt any r)
+  two-step (present s) w v q r = union-word (setOfStmt any q) (setOfStmt any r)
+  two-step sequence w v q r = sequence-word (setOfStmt any q) (setOfStmt any r)
+  two-step parallel w v q r = parallel-word (setOfStmt any q) (setOfStmt any r)
 
 -- the word of a subtree
 abbrev pub wordOf : Bool → Waiting → ℕ
@@ -106,7 +106,7 @@ module _ {t : List ℕ} (ok : Placed t) where
       nltb→le maxDepth (w .depth) (toNot (ltb maxDepth (w .depth)) y)
 
   -- no code is past the outermost trap's
-  few : (any : Bool) (j : ℕ) → AtMost (suc maxTraps) (setOfStmt any (statementAt (nodes (programOf t)) j))
+  pub few : (any : Bool) (j : ℕ) → AtMost (suc maxTraps) (setOfStmt any (statementAt (nodes (programOf t)) j))
   few any j =
       let pass = places-pass (placesOf (programOf t)) (ok .passes) in
       codes-few (programOf t) (pass .traps) (pass .exits) (pauseSet any) (pause-few any) j
@@ -134,7 +134,7 @@ module _ {t : List ℕ} (ok : Placed t) where
     pub kind-is : k ≡ kindOf (kind here)
     kind-is = ek ∙ ap kindOf (kind-byte t (ok .readable) i h)
 
-    field-is : f ≡ field here
+    pub field-is : f ≡ field here
     field-is = ef ∙ field-byte t (ok .readable) i h
 
     pub exit-field : k ≡ Exit → f < maxTraps
@@ -148,5 +148,5 @@ module _ {t : List ℕ} (ok : Placed t) where
         go (leaf l) e c = leaf-step any l x y
         go (one u q) e c =
             let (le, child) = only-child (programOf t) i u q e in
-            rw c (one-step any u q y (cannot-pass (setOfStmt any q 64) (λ z. omega (arith, few any (i - 1) 64 (rw child z)))))
-        go (two b q r) e c = rw (c .0, c .1) (two-step any b q r)
+            rw c (one-step any u q q y (cannot-pass (setOfStmt any q 64) (λ z. omega (arith, few any (i - 1) 64 (rw child z)))))
+        go (two b q r) e c = rw (c .0, c .1) (two-step any b q r q r)

@@ -54,6 +54,14 @@ unfolding checked
 checked-told true t = length-told t _ 11 (omega arith) (program-told t)
 checked-told false t = length-told t _ 11 (omega arith) (λ h. refuses 3 0 record { some = omega arith; known = omega arith; within = omega arith })
 
+-- one by a later check than 3 is the table's own, and the buffers suffice
+pub refused-late : (room : Bool) (t : List ℕ) (number node : ℕ) → checked room t ≡ refused number node → 3 < number → (room ≡ true) × (verdict t ≡ refused number node)
+unfolding checked
+refused-late true t number node e h = (refl, sym (checked-room t) ∙ e)
+refused-late false t number node e h =
+    let short : Told 3 (checked false t) = length-told t _ 3 (omega arith) (λ l. refuses 3 0 record { some = omega arith; known = omega arith; within = omega arith }) in
+    absurd (omega (arith, told-numbered (subst (Told 3) e short) .known))
+
 -- an answer is of one verdict
 refused-of : (v : Verdict) (number node : ℕ) → Refused number node ≡ answerOf v → v ≡ refused number node
 unfolding answerOf

@@ -1,16 +1,21 @@
 -- What `analyse` answers and leaves in the lent buffers.
-use Prim.Native.Nat.{ℕ, _/_}
+use Prim.Native.Nat.{ℕ, _/_, _≤_}
 use mathlib.Core.Path.{_≡_}
 use mathlib.Core.Bool.{Bool, true, false, _&&_}
 use mathlib.Core.List.{List, [], map}
 use lib.Dec.{leb}
 use lib.ListN.{length}
+use Rattle.esterel.specs.Limits.{maxNodes}
 use Rattle.esterel.specs.Statement.{Stmt, size, loopDepth}
 use Rattle.esterel.specs.Table.{Verdict, passed, refused, scan, checkLength}
 use Rattle.esterel.specs.Checks.{checkProgram, Line, line, listing}
 use Rattle.table.specs.declared.Check
 use Rattle.table.specs.declared.Check.{Check}
-use Rattle.analysis.specs.Passes.{onto}
+use Rattle.table.specs.Check.{answerOf as checkOf}
+use Rattle.table.specs.Program.{programOf}
+use Rattle.table.specs.Columns.{Measured}
+use Rattle.analysis.specs.Passes.{onto, Ready}
+use Rattle.analysis.specs.declared.Acceptance.{Acceptance}
 use Rattle.analysis.specs.declared.Analysed.{Analysed}
 use Rattle.analysis.specs.declared.Analysed.the-variants.{Done, Refused}
 
@@ -22,6 +27,24 @@ checkRoom false next = refused 3 0
 -- checks 1, 2, 3, 4 to 11, in this order
 unfoldable pub checked : Bool → List ℕ → Verdict
 checked room t = checkLength t (checkRoom room (checkProgram (scan t 0 [])))
+
+-- what they answer, where `room` says whether the lent buffers suffice
+pub record CallChecked (room : Bool) (t : List ℕ) (r : Acceptance) : Type 0 where
+  pub answer : r .check ≡ checkOf (checked room t)
+  pub loops : r .check ≡ Check.Passed → r .loops ≡ loopDepth (programOf t)
+  pub ready : r .check ≡ Check.Passed → Ready t
+
+-- a call that passes them, with the sizes of the subtrees
+pub record Sized (room : Bool) (t sizes : List ℕ) : Type 0 where
+  pub suffices : room ≡ true
+  pub verdict : checked room t ≡ passed (programOf t)
+  pub ready : Ready t
+  pub measured : Measured t sizes
+  pub few : size (programOf t) ≤ maxNodes
+
+pub record SizesChecked (room : Bool) (t sizes : List ℕ) (r : Check) : Type 0 where
+  pub answer : r ≡ checkOf (checked room t)
+  pub sized : r ≡ Check.Passed → Sized room t sizes
 
 -- n entries for each of K, A, S and marks
 abbrev pub roomFor : (n starts anys contexts marks : ℕ) → Bool

@@ -5,7 +5,7 @@ ghost use Prim.Native.Nat.{_+_, _-_, _<_, _≤_};
 ghost use lib.ListN.{length, getD, set};
 ghost use Rattle.codes.specs.Words.{_∋_, singletonOf, meetsOf};
 ghost use Rattle.codes.specs.Codes.{bit, word};
-ghost use Rattle.esterel.specs.Limits.{maxDepth, maxTraps};
+ghost use Rattle.esterel.specs.Limits.{maxNodes, maxDepth, maxTraps};
 ghost use Rattle.table.specs.declared.Kind.the-variants.{Exit};
 ghost use Rattle.table.specs.Kinds.{isLoop, isSequence};
 ghost use Rattle.table.specs.Program.{programOf};
@@ -13,7 +13,7 @@ ghost use Rattle.table.specs.Check.{WellSized, passIf};
 ghost use Rattle.analysis.specs.Steps.{pauseSet, sequenceOf, codesOf, underFirstOf, underSecondOf};
 ghost use Rattle.analysis.specs.Contexts.{TopOf, OnlyOf, SecondOf, Descended};
 ghost use Rattle.analysis.specs.Passes.{Placed, onto, loopsCheck, wordsOf, flagsOf, Fillable, contextsOf, marksOf, Walkable, Accepting};
-ghost use Rattle.analysis.specs.Analysis.{refusalOf, roomFor, Analysis};
+ghost use Rattle.analysis.specs.Analysis.{CallChecked, SizesChecked, refusalOf, roomFor, Analysis};
 use table::Check;
 use table::Kind;
 
@@ -44,7 +44,7 @@ fn exit_codes(level: usize) -> u64
 }
 
 // The codes of a node from those of its children: of the only one or the first, and of the second.
-fn codes_of(any: bool, kind: Kind, field: usize, first: u64, second: u64) -> u64
+pub fn codes_of(any: bool, kind: Kind, field: usize, first: u64, second: u64) -> u64
     requires { ⌜ (kind ≡ Exit → field < maxTraps) ⌝ }
     ensures { λ r. ⌜ r ≡ codesOf any kind field first second ⌝ }
 {
@@ -313,7 +313,7 @@ pub struct Acceptance {
 }
 
 // Checks 4 to 11 of a table that passes 1 and 2.
-pub fn accept(table: &[u8]) -> Acceptance
+fn accept(table: &[u8]) -> Acceptance
     requires { ⌜ WellSized (now table) ⌝ }
     ensures { λ r. ⌜ Accepting (now (table .entry)) r ⌝ }
 {
@@ -338,6 +338,51 @@ pub fn accept(table: &[u8]) -> Acceptance
     }
 }
 
+// Check 3, by whether the lent buffers suffice.
+fn check_room(room: bool) -> Check
+    ensures { λ r. ⌜ r ≡ passIf 3 room ⌝ }
+{
+    if room {
+        return Check::Passed;
+    }
+    Check::Refused { number: 3, node: 0 }
+}
+
+// Checks 1, 2, 3 and 4 to 11 of a call; `room` says whether the lent buffers suffice.
+pub fn check_call(table: &[u8], room: bool) -> Acceptance
+    ensures { λ r. ⌜ CallChecked room (now (table .entry)) r ⌝ }
+{
+    let length = table::check_length(table);
+    let Check::Passed = length else {
+        return Acceptance {
+            check: length,
+            loops: 0,
+        };
+    };
+    let lent = check_room(room);
+    let Check::Passed = lent else {
+        return Acceptance {
+            check: lent,
+            loops: 0,
+        };
+    };
+    accept(table)
+}
+
+// The same of a call that walks the tree: where the checks pass, the sizes of all subtrees are filled in.
+pub fn check_sized(table: &[u8], room: bool, sizes: &mut [u16]) -> Check
+    requires { ⌜ maxNodes ≤ length (now sizes) ⌝ }
+    ensures { λ r. ⌜ SizesChecked room (now (table .entry)) (now (sizes .exit)) r ⌝ }
+{
+    let accepted = check_call(table, room);
+    let check = accepted.check;
+    let Check::Passed = check else {
+        return check;
+    };
+    table::fill_sizes(table, sizes);
+    Check::Passed
+}
+
 // What an analysis answers: the number of nodes and the loop depth, or the number and the node of the refusal.
 pub enum Analysed {
     Done { nodes: usize, loops: usize },
@@ -354,14 +399,11 @@ fn refused(check: Check) -> Analysed
     }
 }
 
-// Check 3: each of four buffers has an entry for each of n nodes.
-fn check_room(n: usize, starts: usize, anys: usize, contexts: usize, marks: usize) -> Check
-    ensures { λ r. ⌜ r ≡ passIf 3 (roomFor n starts anys contexts marks) ⌝ }
+// Whether each of four buffers has an entry for each of n nodes.
+fn has_room(n: usize, starts: usize, anys: usize, contexts: usize, marks: usize) -> bool
+    ensures { λ r. ⌜ r ≡ roomFor n starts anys contexts marks ⌝ }
 {
-    if (n <= starts) & (n <= anys) & (n <= contexts) & (n <= marks) {
-        return Check::Passed;
-    }
-    Check::Refused { number: 3, node: 0 }
+    (n <= starts) & (n <= anys) & (n <= contexts) & (n <= marks)
 }
 
 // The analysis of a table: checks 1, 2, 3, 4 to 11, then K, A, S and marks of every node in postorder. A refusal changes
@@ -375,22 +417,15 @@ pub fn analyse(
 ) -> Analysed
     ensures { λ r. ⌜ Analysis (now (table .entry)) (now («start_sets» .entry)) (now («any_sets» .entry)) (now (contexts .entry)) (now (marks .entry)) (now («start_sets» .exit)) (now («any_sets» .exit)) (now (contexts .exit)) (now (marks .exit)) r ⌝ }
 {
-    let length = table::check_length(table);
-    let Check::Passed = length else {
-        return refused(length);
-    };
     let n = table.len() / 2;
-    let room = check_room(
+    let room = has_room(
         n,
         start_sets.len(),
         any_sets.len(),
         contexts.len(),
         marks.len(),
     );
-    let Check::Passed = room else {
-        return refused(room);
-    };
-    let accepted = accept(table);
+    let accepted = check_call(table, room);
     let check = accepted.check;
     let Check::Passed = check else {
         return refused(check);

@@ -1,6 +1,5 @@
 pub mod Examples
 pub mod Running
-pub mod Zeros
 pub mod Good
 pub mod Blocks
 pub mod Finding

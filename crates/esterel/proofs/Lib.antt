@@ -12,6 +12,7 @@ pub mod Answers
 pub mod Admitted
 pub mod Reading
 pub mod Every
+pub mod Scanning
 pub mod Accepted
 pub mod LoopCheck
 pub mod Refusals

@@ -8,7 +8,6 @@ ghost use mathlib.Core.List.{_++_};
 ghost use Prim.Native.Nat.{_≤_};
 ghost use lib.ListN.{drop, length, take};
 ghost use Rattle.esterel.specs.Limits.{maxNodes, signals};
-ghost use Rattle.table.specs.Check.{passIf};
 ghost use Rattle.instant.specs.Calls.{roomFor, CallChecked, refusalOf, handed, Reacts, Starting, Resuming};
 use table::Check;
 
@@ -47,14 +46,11 @@ fn refused(check: Check) -> Reaction
     }
 }
 
-// Check 3: a byte of state for each node, and one for each signal.
-fn check_room(n: usize, state: usize, emissions: usize) -> Check
-    ensures { λ r. ⌜ r ≡ passIf 3 (roomFor n state emissions) ⌝ }
+// Whether there is a byte of state for each of n nodes, and one for each signal.
+fn has_room(n: usize, state: usize, emissions: usize) -> bool
+    ensures { λ r. ⌜ r ≡ roomFor n state emissions ⌝ }
 {
-    if (n <= state) & (esterel::SIGNALS <= emissions) {
-        return Check::Passed;
-    }
-    Check::Refused { number: 3, node: 0 }
+    (n <= state) & (esterel::SIGNALS <= emissions)
 }
 
 // Checks 1, 2, 3 and 4 to 11, and where they pass the sizes of all subtrees.
@@ -62,21 +58,8 @@ fn check_call(table: &[u8], state: usize, emissions: usize, sizes: &mut [u16]) -
     requires { ⌜ maxNodes ≤ length (now sizes) ⌝ }
     ensures { λ r. ⌜ CallChecked (now (table .entry)) state emissions (now (sizes .exit)) r ⌝ }
 {
-    let length = table::check_length(table);
-    let Check::Passed = length else {
-        return length;
-    };
-    let room = check_room(table.len() / 2, state, emissions);
-    let Check::Passed = room else {
-        return room;
-    };
-    let accepted = analysis::accept(table);
-    let check = accepted.check;
-    let Check::Passed = check else {
-        return check;
-    };
-    table::fill_sizes(table, sizes);
-    Check::Passed
+    let room = has_room(table.len() / 2, state, emissions);
+    analysis::check_sized(table, room, sizes)
 }
 
 // The first n bytes.

@@ -7,7 +7,7 @@ use Prim.Native.Nat.{ℕ, zero, suc, _*_, _%_, _≤_, _<_}
 use native.Mathlib.Omega.{arith}
 use borrow.Author.Tests.{le-leb, ltb-false}
 use lib.Dec.{eqb, ltb}
-use lib.ListN.{length, getD, length-append, length-map, List·getD-map, List·getD-append}
+use lib.ListN.{length, getD, length-append, length-map, List·getD-append}
 use Rattle.codes.specs.Codes.{empty}
 use Rattle.esterel.specs.Limits.{maxNodes}
 use Rattle.esterel.specs.Statement.{nothing, Stmt, leaf, size, loopDepth}
@@ -15,16 +15,11 @@ use Rattle.esterel.specs.Sets.{Place, at, placesOf}
 use Rattle.esterel.specs.Table.{Verdict, passed, refused, scan, read}
 use Rattle.esterel.specs.Checks.{Line, lineOf, listing, checkPlaces, checkProgram, refuseAt, firstNode, tooDeep, tooManyTraps, uncaught, endsAtOnce, verdict}
 use Rattle.table.specs.Program.{programIn, programOf, Readable}
+use Rattle.table.proofs.Filling.{map-at}
 use Rattle.analysis.specs.Analysis.{checkRoom, checked, roomFor, answerOf, kOf, aOf, sOf, markOf, column}
 use Rattle.analysis.specs.declared.Analysed.the-variants.{Done, Refused}
 use Rattle.listing.specs.Written.{Column, Columns}
 use Rattle.listing.proofs.Lines.{length-lines, line-at}
-
--- entries within a list do not depend on what stands past it
-getD-any : (l : List ℕ) (d e i : ℕ) → i < length l → getD l i d ≡ getD l i e
-getD-any [] d e i h = absurd (omega arith)
-getD-any (x ∷ l) d e zero h = refl
-getD-any (x ∷ l) d e (suc i) h = getD-any l d e i (omega arith)
 
 pub column-of : (f : Line → ℕ) (p : Stmt) (old buffer : List ℕ) → buffer ≡ column f (passed p) old → Column f p buffer
 unfolding column
@@ -38,8 +33,7 @@ column-of f p old buffer e =
           let within : i < length (map f (listing p)) = omega arith in
           ap (λ l. getD l i 0) e
           ∙ List·getD-append (map f (listing p)) _ 0 i within
-          ∙ getD-any (map f (listing p)) 0 (f d) i within
-          ∙ List·getD-map f (listing p) i d
+          ∙ map-at f (listing p) d i (omega (arith, length-lines p))
           ∙ ap f (line-at p i);
     }
 

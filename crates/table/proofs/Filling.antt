@@ -4,7 +4,7 @@ use mathlib.Core.List.{List, [], _∷_, _++_, map}
 use Prim.Native.Nat.{ℕ, zero, suc, _+_, _≤_, _<_}
 use native.Mathlib.Numerals.{add-one}
 use native.Mathlib.Omega.{arith}
-use lib.ListN.{length, getD, take, drop, set, length-map, List·getD-map, List·getD-append}
+use lib.ListN.{length, getD, take, drop, set, length-map}
 use lib.Seq.{take-length}
 use Rattle.esterel.specs.Statement.{nothing, Stmt, leaf, size, nodes}
 use Rattle.esterel.specs.Outcome.{statementAt}
@@ -12,21 +12,19 @@ use Rattle.esterel.proofs.Sizes.{length-nodes}
 use Rattle.table.specs.Columns.{onto}
 use Rattle.table.proofs.Buffers.{front, front-suc, length-front, front-at}
 
+-- a number for each member of a list
+pub map-at : {A : Type 0} (f : A → ℕ) (xs : List A) (d : A) (i : ℕ) → i < length xs → getD (map f xs) i 0 ≡ f (getD xs i d)
+map-at f [] d i h = absurd (omega arith)
+map-at f (x ∷ xs) d zero h = refl
+map-at f (x ∷ xs) d (suc i) h = map-at f xs d i (omega arith)
+
 -- any column of a program, by its nodes
 module _ (f : Stmt → ℕ) (p : Stmt) where
   pub length-column : length (map f (nodes p)) ≡ size p
   length-column = length-map (nodes p) f ∙ length-nodes p
 
   pub column-at : (i : ℕ) → i < size p → getD (map f (nodes p)) i 0 ≡ f (statementAt (nodes p) i)
-  column-at i h =
-      sym (List·getD-append (map f (nodes p)) (f (leaf nothing) ∷ []) 0 i (rw length-column h))
-      ∙ getD-any (map f (nodes p)) (f (leaf nothing)) i (rw length-column h)
-      ∙ List·getD-map f (nodes p) i (leaf nothing)
-    where
-      getD-any : (l : List ℕ) (d i : ℕ) → i < length l → getD (l ++ (d ∷ [])) i 0 ≡ getD l i d
-      getD-any [] d i h = absurd (omega arith)
-      getD-any (x ∷ l) d zero h = refl
-      getD-any (x ∷ l) d (suc i) h = getD-any l d i (omega arith)
+  column-at i h = map-at f (nodes p) (leaf nothing) i (omega (arith, length-nodes p))
 
 -- n entries of the column are to be written, and i of them are
 pub record Filling (column old now : List ℕ) (n i : ℕ) : Type 0 where

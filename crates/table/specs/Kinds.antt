@@ -102,6 +102,9 @@ isExit k = isSame k Exit
 abbrev pub isSequence : Kind → Bool
 isSequence k = isSame k Sequence
 
+abbrev pub isSignal : Kind → Bool
+isSignal k = isSame k Signal
+
 abbrev pub isPresent : Kind → Bool
 isPresent k = isSame k Present
 

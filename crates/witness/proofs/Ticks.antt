@@ -24,18 +24,16 @@ use Rattle.esterel.proofs.Subtrees.{only-child}
 use Rattle.esterel.proofs.Theorems.{loopCheck}
 use Rattle.table.specs.Program.{programIn, programOf, Readable}
 use Rattle.table.specs.Columns.{onto, stmtAt, sizesOf}
-use Rattle.table.specs.Check.{passIf, lengthCheck}
 use Rattle.table.specs.declared.Check.{Check}
 use Rattle.table.specs.declared.Check.the-variants.{Passed}
 use Rattle.table.specs.declared.Check.the-variants.{Refused as RefusedCheck}
 use Rattle.table.proofs.Buffers.{sets-front}
-use Rattle.table.proofs.Found.{pass-true, length-refusal}
 use Rattle.table.proofs.Surveying.{few-nodes}
 use Rattle.table.proofs.Sizing.{measured}
-use Rattle.analysis.specs.Passes.{Accepting}
+use Rattle.analysis.specs.Analysis.{CallChecked}
 use Rattle.analysis.specs.declared.Acceptance.{Acceptance}
-use Rattle.analysis.proofs.Accepts.{well-sized, read-is}
-use Rattle.analysis.proofs.Analyses.{length-refused, room-refused, room-passed, verdict-refused, nodes-are}
+use Rattle.analysis.proofs.Analyses.{call-refused, call-passed, nodes-are}
+use Rattle.analysis.proofs.Theorems.{refused-late}
 use Rattle.starts.specs.Ticks.{tickAnswers, presents}
 use Rattle.starts.specs.Walk.{goal, walk, answersOf, Below}
 use Rattle.starts.specs.Computing.{WalkShows}
@@ -48,7 +46,7 @@ use Rattle.rows.proofs.Said.{row-low}
 use Rattle.witness.specs.declared.Walked.{Walked}
 use Rattle.witness.specs.declared.Tick.{Tick}
 use Rattle.witness.specs.declared.Tick.the-variants.{Ends, Accepted, Refused}
-use Rattle.witness.specs.Walks.{Walking, Walks, Goal, Faulty, refusalOf, Showing}
+use Rattle.witness.specs.Walks.{Walking, Walks, Goal, Faulty, Showing}
 use Rattle.witness.specs.Ticks.{verdictFor, Tells}
 
 -- ---- goal
@@ -154,44 +152,22 @@ module _ {t : List ℕ} {node : ℕ} (o : Faulty t node) where
 
 -- ---- find_tick
 
--- check 3 refuses by another number
-room-low : (b : Bool) (number node : ℕ) → passIf 3 b ≡ RefusedCheck number node → number ≡ 3
-room-low true number node e = cc
-room-low false number node e = cc
+module _ (old : List ℕ) {t : List ℕ} {a : Acceptance} (o : CallChecked (leb tickAnswers (length old)) t a) where
+  pub accepted-tells : {n loops : ℕ} → a .check ≡ Passed → n ≡ length t / 2 → loops ≡ a .loops → Tells t old old (Accepted n loops)
+  accepted-tells y en el = Tells.accepts (programOf t) (call-passed o y .1) (ap₂ Accepted (en ∙ nodes-are (o .ready y)) (el ∙ o .loops y)) refl
 
-module _ (old : List ℕ) {t : List ℕ} {c : Check} (e : c ≡ lengthCheck t) where
-  pub length-tells : {r : Tick} (number node : ℕ) → c ≡ RefusedCheck number node → r ≡ refusalOf c → Tells t old old r
-  length-tells number node z er =
-      Tells.refuses number node (length-refused t _ c number node e z) (λ y. omega (arith, length-refusal t number node (sym e ∙ z) .1)) (er ∙ ap refusalOf z) refl
+  module _ {number node : ℕ} (y : a .check ≡ RefusedCheck number node) where
+    pub refused-tells : {r : Tick} → (number ≡ 11 → ⊥) → r ≡ Refused number node → Tells t old old r
+    refused-tells d er = Tells.refuses number node (call-refused o number node y) d er refl
 
-  module _ (z : c ≡ Passed) {b : Check} (eb : b ≡ passIf 3 (leb tickAnswers (length old))) where
-    pub room-tells : {r : Tick} (number node : ℕ) → b ≡ RefusedCheck number node → r ≡ refusalOf b → Tells t old old r
-    room-tells number node f er =
-        Tells.refuses number node (room-refused t _ c e z b eb number node f) (λ y. omega (arith, room-low (leb tickAnswers (length old)) number node (sym eb ∙ f))) (er ∙ ap refusalOf f) refl
+    module _ (x : number ≡ 11) where
+      refuses-is : verdictFor t old ≡ refused 11 node
+      refuses-is = call-refused o number node y ∙ ap (λ m. refused m node) x
 
-    module _ (f : b ≡ Passed) {a : Acceptance} (o : Accepting t a) where
-      pub room-is : tickAnswers ≤ length old
-      room-is = leb-true tickAnswers (length old) (pass-true 3 _ (sym eb ∙ f))
+      pub faulty : Faulty t node × (tickAnswers ≤ length old)
+      faulty =
+          let (room, v) = refused-late (leb tickAnswers (length old)) t 11 node refuses-is (omega arith) in
+          (record { refuses = v }, leb-true tickAnswers (length old) room)
 
-      verdict-is : verdictFor t old ≡ checkProgram (scan t 0 [])
-      verdict-is = room-passed t _ c e z b eb f
-
-      pub accepted-tells : {n loops : ℕ} → a .check ≡ Passed → n ≡ length t / 2 → loops ≡ a .loops → Tells t old old (Accepted n loops)
-      accepted-tells y en el =
-          let ready = o .ready y in
-          Tells.accepts (programOf t) (verdict-is ∙ ready .verdict) (ap₂ Accepted (en ∙ nodes-are ready) (el ∙ o .loops y)) refl
-
-      module _ {number node : ℕ} (y : a .check ≡ RefusedCheck number node) where
-        refuses-is : checkProgram (scan t 0 []) ≡ refused number node
-        refuses-is = verdict-refused _ _ number node (o .answer) y
-
-        pub refused-tells : {r : Tick} → (number ≡ 11 → ⊥) → r ≡ Refused number node → Tells t old old r
-        refused-tells d er = Tells.refuses number node (verdict-is ∙ refuses-is) d er refl
-
-        module _ (x : number ≡ 11) where
-          pub faulty : Faulty t node
-          faulty = record { refuses = ap checkProgram (read-is t (well-sized t (sym e ∙ z))) ∙ refuses-is ∙ ap (λ m. refused m node) x }
-
-          pub shown-tells : {new : List ℕ} {n : ℕ} → Showing t node old new n → Tells t old new (Ends node n)
-          shown-tells s =
-              Tells.shows node (s .list) (verdict-is ∙ refuses-is ∙ ap (λ m. refused m node) x) (s .shown) (ap (Ends node) (s .long)) (s .written)
+      pub shown-tells : {new : List ℕ} {n : ℕ} → Showing t node old new n → Tells t old new (Ends node n)
+      shown-tells s = Tells.shows node (s .list) refuses-is (s .shown) (ap (Ends node) (s .long)) (s .written)

@@ -13,16 +13,11 @@ use Rattle.table.specs.Kinds.{isTrap}
 use Rattle.table.specs.Program.{programOf}
 use Rattle.table.specs.Columns.{onto, stmtAt}
 use Rattle.table.specs.declared.Kind.{Kind}
-use Rattle.table.specs.declared.Check.{Check}
-use Rattle.table.specs.declared.Check.the-variants.{Passed}
-use Rattle.table.specs.declared.Check.the-variants.{Refused as RefusedCheck}
 use Rattle.starts.specs.Ticks.{ShownAt, presents}
 use Rattle.starts.specs.Walk.{goal, walk, answersOf, codeOf}
 use Rattle.rows.specs.Rows.{valuesOf, LowRow, Holds}
 use Rattle.rows.specs.Filled.{Formed, RowsTo}
 use Rattle.witness.specs.declared.Walked.{Walked}
-use Rattle.witness.specs.declared.Tick.{Tick}
-use Rattle.witness.specs.declared.Tick.the-variants.{Refused}
 
 -- a node with one child is left: a trap changes the code
 pub record Leaves (k : Kind) (inner r : Walked) : Type 0 where
@@ -56,11 +51,6 @@ pub record Goal (row : List ℕ) : Type 0 where
 -- check 11 refuses the table, at this node
 pub record Faulty (t : List ℕ) (node : ℕ) : Type 0 where
   pub refuses : verdict t ≡ refused 11 node
-
--- a check's answer where it refuses
-abbrev pub refusalOf : Check → Tick
-refusalOf Passed = Refused 0 0  -- never asked
-refusalOf (RefusedCheck number node) = Refused number node
 
 -- a list that is shown, of the length r, and the bytes before and after
 pub record Showing (t : List ℕ) (node : ℕ) (old new : List ℕ) (r : ℕ) : Type 0 where

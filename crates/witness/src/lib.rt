@@ -3,16 +3,14 @@
 ghost use mathlib.Core.Path.{_≡_};
 ghost use mathlib.Core.Bool.{true, false};
 ghost use Prim.Native.Nat.{_+_, _*_, _<_, _≤_};
-ghost use lib.Dec.{leb};
 ghost use lib.ListN.{length};
 ghost use Rattle.table.specs.Kinds.{leafOf, leafCode};
-ghost use Rattle.table.specs.Check.{passIf};
 ghost use Rattle.table.specs.Columns.{stmtAt};
 ghost use Rattle.starts.specs.Ticks.{tickAnswers};
 ghost use Rattle.starts.specs.Walk.{noMore};
 ghost use Rattle.rows.specs.Rows.{valueOf, maxNumber, LowRow};
 ghost use Rattle.witness.specs.Needs.{underAt, Under, UpRow, First, RowLow, Absent};
-ghost use Rattle.witness.specs.Walks.{Leaves, Walking, Walks, Goal, Faulty, refusalOf, Showing};
+ghost use Rattle.witness.specs.Walks.{Leaves, Walking, Walks, Goal, Faulty, Showing};
 ghost use Rattle.witness.specs.Ticks.{Tells};
 use rows::Row;
 use table::Check;
@@ -240,39 +238,11 @@ fn show(table: &[u8], node: usize, answers: &mut [u8]) -> usize
     walked.at
 }
 
-// The refusal that a check answers. It is not asked of one that passed.
-fn refused(check: Check) -> Tick
-    ensures { λ r. ⌜ r ≡ refusalOf check ⌝ }
-{
-    match check {
-        Check::Passed => Tick::Refused { number: 0, node: 0 },
-        Check::Refused { number, node } => Tick::Refused { number, node },
-    }
-}
-
-// Check 3: room for any list that is shown.
-fn check_room(answers: usize) -> Check
-    ensures { λ r. ⌜ r ≡ passIf 3 (leb tickAnswers answers) ⌝ }
-{
-    if TICK_ANSWERS <= answers {
-        return Check::Passed;
-    }
-    Check::Refused { number: 3, node: 0 }
-}
-
 // Checks 1, 2, 3 and 4 to 11; after a refusal by 11, the list.
 pub fn find_tick(table: &[u8], answers: &mut [u8]) -> Tick
     ensures { λ r. ⌜ Tells (now (table .entry)) (now (answers .entry)) (now (answers .exit)) r ⌝ }
 {
-    let length = table::check_length(table);
-    let Check::Passed = length else {
-        return refused(length);
-    };
-    let room = check_room(answers.len());
-    let Check::Passed = room else {
-        return refused(room);
-    };
-    let accepted = analysis::accept(table);
+    let accepted = analysis::check_call(table, TICK_ANSWERS <= answers.len());
     let check = accepted.check;
     let Check::Refused { number, node } = check else {
         return Tick::Accepted {

@@ -1,4 +1,4 @@
--- `analysis::check_room` meets its contract: by whether all four buffers have room.
+-- `analysis::check_room` meets its contract: by whether there is room.
 use mathlib.Core.Path.{sym, ap}
 use Rattle.table.specs.Check.{passIf}
 use Rattle.analysis.proofs.check_room.Statement.{statement}

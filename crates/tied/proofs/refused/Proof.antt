@@ -1,9 +1,9 @@
--- `witness::refused` meets its contract.
-use mathlib.Core.Path.{sym, ap}
-use Rattle.witness.specs.Walks.{refusalOf}
+-- `tied::refused` meets its contract: case by case.
 use borrow.Author.Needs.{needs}
-use Rattle.witness.proofs.refused.Statement.{statement}
-use Rattle.witness.proofs.refused.Tie as tie
+use mathlib.Core.Path.{sym, ap}
+use Rattle.tied.specs.Calls.{refusalOf}
+use Rattle.tied.proofs.refused.Statement.{statement}
+use Rattle.tied.proofs.refused.Tie as tie
 
 enum-told : tie.Need-enum-told
 enum-told c = search needs

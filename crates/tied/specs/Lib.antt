@@ -1,0 +1,5 @@
+pub mod Ties
+pub mod Narrowed
+pub mod Theorems
+pub mod Passes
+pub mod Calls
