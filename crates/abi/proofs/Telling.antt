@@ -33,7 +33,12 @@ use Rattle.blocks.specs.declared.Fetched.{Fetched}
 use Rattle.blocks.specs.declared.Fetched.the-variants.{Done as DoneFetch}
 use Rattle.blocks.specs.declared.Fetched.the-variants.{Refused as RefusedFetch}
 use Rattle.blocks.proofs.Theorems.{of-fetch}
-use Rattle.abi.specs.Exported.{returned, answerAfter, Small, Tells, tellAnalysed, tellReaction, tellRendered, tellReading, tellTick, tellFetched, shortAnswer, Exported}
+use Rattle.tied.specs.Calls.{Narrowing}
+use Rattle.tied.specs.declared.Narrowed.{Narrowed}
+use Rattle.tied.specs.declared.Narrowed.the-variants.{Done as DoneNarrow}
+use Rattle.tied.specs.declared.Narrowed.the-variants.{Refused as RefusedNarrow}
+use Rattle.tied.proofs.OfNarrow.{ofNarrow}
+use Rattle.abi.specs.Exported.{returned, answerAfter, Small, Tells, tellAnalysed, tellReaction, tellRendered, tellReading, tellTick, tellFetched, tellNarrowed, shortAnswer, Exported}
 use Rattle.abi.specs.declared.Told.{Told}
 
 pub three : (l : List ℕ) (a b c : ℕ) → 3 ≤ length l → set (set (set l 0 a) 1 b) 2 c ≡ (a ∷ b ∷ c ∷ []) ++ drop 3 l
@@ -75,6 +80,10 @@ small-tick t old new (RefusedTick number node) o = omega (arith, ticksTold .refu
 pub small-fetched : (file : List ℕ) (p : ℕ) (old new : List ℕ) (r : Fetched) → Fetching file p old new r → Small (tellFetched r)
 small-fetched file p old new (DoneFetch n e m) o = tt
 small-fetched file p old new (RefusedFetch number node) o = omega (arith, of-fetch .refused file p old new number node .0 o .1)
+
+pub small-narrowed : (t ties old new : List ℕ) (r : Narrowed) → Narrowing t ties old new r → Small (tellNarrowed r)
+small-narrowed t ties old new (DoneNarrow n) o = tt
+small-narrowed t ties old new (RefusedNarrow number node) o = omega (arith, ofNarrow .refusals t ties old new number node o .2)
 
 -- it changes no answer
 short-same : (before : Check) (answer : List ℕ) → answer ≡ answerAfter (shortAnswer before) answer

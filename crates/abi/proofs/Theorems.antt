@@ -1,6 +1,6 @@
 -- Demand 1 of the exported functions: each contract by what was told.
 use mathlib.Core.Path.{_≡_, refl, sym, ap, _∙_}
-use mathlib.Core.Logic.{_⊎_, inl, inr}
+use mathlib.Core.Logic.{_⊎_, inl, inr, ⊎-elim}
 use mathlib.Core.Bool.{Bool, true, false, cond}
 use mathlib.Core.List.{List, [], _∷_, _++_}
 use Prim.Native.Nat.{ℕ, _≤_, _<_}
@@ -45,7 +45,12 @@ use Rattle.blocks.specs.declared.Fetched.{Fetched}
 use Rattle.blocks.specs.declared.Fetched.the-variants.{Done as DoneFetch}
 use Rattle.blocks.specs.declared.Fetched.the-variants.{Refused as RefusedFetch}
 use Rattle.blocks.proofs.Theorems.{of-fetch, reason-known}
-use Rattle.abi.specs.Exported.{returned, answerAfter, Tells, tellAnalysed, tellReaction, tellRendered, tellReading, tellTick, tellFetched, tellSpan, shortAnswer, Exported, LocatingC}
+use Rattle.tied.specs.Calls.{Narrowing}
+use Rattle.tied.specs.declared.Narrowed.{Narrowed}
+use Rattle.tied.specs.declared.Narrowed.the-variants.{Done as DoneNarrow}
+use Rattle.tied.specs.declared.Narrowed.the-variants.{Refused as RefusedNarrow}
+use Rattle.tied.proofs.OfNarrow.{ofNarrow}
+use Rattle.abi.specs.Exported.{returned, answerAfter, Tells, tellAnalysed, tellReaction, tellRendered, tellReading, tellTick, tellFetched, tellSpan, tellNarrowed, shortAnswer, Exported, LocatingC}
 use Rattle.abi.specs.Theorems.{Ran, TickShown, NoTick, IsRefused, Demand1OfExports}
 use Rattle.abi.specs.declared.Told.{Told}
 use Rattle.abi.specs.declared.Told.the-variants.{Refusal}
@@ -111,11 +116,17 @@ module _ {A : Type 0} (before : Check) (Same : Type 0) (Call : A → Type 0) (te
 
 -- ---- the functions
 
+first-known : (most : ℕ) → 3 ≤ most → (t : List ℕ) → Known most (shortAnswer (lengthCheck t))
+first-known most m t = short-known most m (lengthCheck t) (length-refusal t)
+
 length-known : (t : List ℕ) → Known 13 (shortAnswer (lengthCheck t))
-length-known t = short-known 13 (omega arith) (lengthCheck t) (length-refusal t)
+length-known t = first-known 13 (omega arith) t
 
 tick-known : (t : List ℕ) → Known 10 (shortAnswer (lengthCheck t))
-tick-known t = short-known 10 (omega arith) (lengthCheck t) (length-refusal t)
+tick-known t = first-known 10 (omega arith) t
+
+narrow-known : (t : List ℕ) → Known 19 (shortAnswer (lengthCheck t))
+narrow-known t = first-known 19 (omega arith) t
 
 none-known : (most : ℕ) → 3 ≤ most → Known most (shortAnswer Passed)
 none-known most m = short-known most m Passed (λ number node e. (let z : _≡_ {A = ℕ} 0 1 = cc in absurd (omega arith)))
@@ -239,6 +250,21 @@ module _ (file : List ℕ) (p : ℕ) (old new answer answer′ : List ℕ) where
   fetch-done (DoneFetch n e m) o z a = (n, e, m, o, a)
   fetch-done (RefusedFetch number node) o z a = absurd (omega (arith, reason-known (of-fetch .refused file p old new number node .0 o .2) .0))
 
+module _ (t ties old new answer answer′ : List ℕ) where
+  narrow-own : (x : Narrowed) → Narrowing t ties old new x → 0 < returned (tellNarrowed x) → Own (lengthCheck t) (new ≡ old) (Narrowing t ties old new) tellNarrowed (λ number node. Narrowing t ties old new (RefusedNarrow number node)) answer answer′ 19 (narrow-known t) x
+  narrow-own (DoneNarrow n) o h = absurd (omega arith)
+  narrow-own (RefusedNarrow number node) o h =
+      let (some, known, below, same) = ofNarrow .refusals t ties old new number node o in
+      record {
+        known = record { number = number; node = node; is = refl; some = some; known = ⊎-elim (λ k. omega arith) (λ k. omega arith) known; within = below };
+        refuses = o;
+        same = same;
+      }
+
+  narrow-done : (x : Narrowed) → Narrowing t ties old new x → returned (tellNarrowed x) ≡ 0 → answer′ ≡ answerAfter (tellNarrowed x) answer → (n : ℕ) × Narrowing t ties old new (DoneNarrow n) × (answer′ ≡ onto (n ∷ 0 ∷ 0 ∷ []) answer)
+  narrow-done (DoneNarrow n) o z e = (n, o, e)
+  narrow-done (RefusedNarrow number node) o z e = absurd (omega (arith, ofNarrow .refusals t ties old new number node o .0))
+
 part-refused : (file : List ℕ) (p e k : ℕ) (answer answer′ : List ℕ) (r : ℕ) → LocatingC file p e k answer answer′ r → 0 < r → (length answer < 3) × (r ≡ returned (Refusal 3 0)) × (answer′ ≡ answer)
 part-refused file p e k answer answer′ r o h = go (decLt (length answer) 3)
   where
@@ -283,6 +309,11 @@ demand1OfExports =
       fetchDone = λ file p table answer table′ answer′ o.
           (let (x, call, z, e) = done-told Passed _ _ tellFetched (λ number node. Unit {0}) answer answer′ 18 fetch-known o in
           fetch-done file p table table′ answer answer′ x call z e);
+      narrowRefused = λ t ties sets answer sets′ answer′ r o h.
+          refused-is (lengthCheck t) _ _ tellNarrowed _ answer answer′ 19 (narrow-known t) (narrow-own t ties sets sets′ answer answer′) r o h;
+      narrowDone = λ t ties sets answer sets′ answer′ o.
+          (let (x, call, z, e) = done-told (lengthCheck t) _ _ tellNarrowed (λ number node. Unit {0}) answer answer′ 19 (narrow-known t) o in
+          narrow-done t ties sets sets′ answer answer′ x call z e);
       partRefused = part-refused;
       partDone = λ file p e k answer answer′ o.
           (let (x, call, z, a) = done-told Passed _ _ tellSpan (λ number node. Unit {0}) answer answer′ 3 (none-known 3 (omega arith)) o in (x, call, a));

@@ -34,6 +34,10 @@ use Rattle.blocks.specs.declared.Span.{Span}
 use Rattle.blocks.specs.declared.Fetched.{Fetched}
 use Rattle.blocks.specs.declared.Fetched.the-variants.{Done as DoneFetch}
 use Rattle.blocks.specs.declared.Fetched.the-variants.{Refused as RefusedFetch}
+use Rattle.tied.specs.Calls.{Narrowing}
+use Rattle.tied.specs.declared.Narrowed.{Narrowed}
+use Rattle.tied.specs.declared.Narrowed.the-variants.{Done as DoneNarrow}
+use Rattle.tied.specs.declared.Narrowed.the-variants.{Refused as RefusedNarrow}
 use Rattle.abi.specs.declared.Told.{Told}
 use Rattle.abi.specs.declared.Told.the-variants.{Figures, Refusal}
 
@@ -91,6 +95,10 @@ tellFetched (RefusedFetch number node) = Refusal number node
 abbrev pub tellSpan : Span → Told
 tellSpan span = Figures (span .from) (span .length) 0
 
+abbrev pub tellNarrowed : Narrowed → Told
+tellNarrowed (DoneNarrow nodes) = Figures nodes 0 0
+tellNarrowed (RefusedNarrow number node) = Refusal number node
+
 -- an answer of fewer than three entries fails check 3, which comes after the call's checks before it
 abbrev pub shortAnswer : (before : Check) → Told
 shortAnswer Passed = Refusal 3 0
@@ -132,3 +140,6 @@ FetchingC file p table answer table′ answer′ r = Exported Passed (table′ �
 -- no other buffer is written, and only check 3 of the answer refuses
 abbrev pub LocatingC : (file : List ℕ) (program edition part : ℕ) (answer answer′ : List ℕ) → ℕ → Type 0
 LocatingC file p e k answer answer′ r = Exported Passed (Unit {0}) (Locating file p e k) tellSpan answer answer′ r
+
+abbrev pub NarrowingC : (t ties sets answer sets′ answer′ : List ℕ) → ℕ → Type 0
+NarrowingC t ties sets answer sets′ answer′ r = Exported (lengthCheck t) (sets′ ≡ sets) (Narrowing t ties sets sets′) tellNarrowed answer answer′ r

@@ -30,7 +30,10 @@ use Rattle.blocks.specs.Fetching.{Locating, Fetching}
 use Rattle.blocks.specs.declared.Span.{Span}
 use Rattle.blocks.specs.declared.Fetched.the-variants.{Done as DoneFetch}
 use Rattle.blocks.specs.declared.Fetched.the-variants.{Refused as RefusedFetch}
-use Rattle.abi.specs.Exported.{returned, shortAnswer, Analysing, StartingC, ResumingC, RenderingC, ReadingC, TickingC, FetchingC, LocatingC}
+use Rattle.tied.specs.Calls.{Narrowing}
+use Rattle.tied.specs.declared.Narrowed.the-variants.{Done as DoneNarrow}
+use Rattle.tied.specs.declared.Narrowed.the-variants.{Refused as RefusedNarrow}
+use Rattle.abi.specs.Exported.{returned, shortAnswer, Analysing, StartingC, ResumingC, RenderingC, ReadingC, TickingC, FetchingC, LocatingC, NarrowingC}
 use Rattle.abi.specs.declared.Told.the-variants.{Refusal}
 
 -- after 0 the call has closed with these figures
@@ -99,6 +102,10 @@ pub record Demand1OfExports : Type 0 where
       (file : List ℕ) (p e k : ℕ) (answer answer′ : List ℕ) (r : ℕ) →
       LocatingC file p e k answer answer′ r → 0 < r →
       (length answer < 3) × (r ≡ returned (Refusal 3 0)) × (answer′ ≡ answer)
+  pub narrowRefused :
+      (t ties sets answer sets′ answer′ : List ℕ) (r : ℕ) →
+      NarrowingC t ties sets answer sets′ answer′ r → 0 < r →
+      (sets′ ≡ sets) × IsRefused 19 (lengthCheck t) (λ number node. Narrowing t ties sets sets′ (RefusedNarrow number node)) answer answer′ r
   -- where 0 is returned, the call was not refused, and its figures stand in the answer
   pub analyseDone :
       (t k a s m answer k′ a′ s′ m′ answer′ : List ℕ) →
@@ -129,3 +136,7 @@ pub record Demand1OfExports : Type 0 where
       (file : List ℕ) (p e k : ℕ) (answer answer′ : List ℕ) →
       LocatingC file p e k answer answer′ 0 →
       (s : Span) × Locating file p e k s × (answer′ ≡ onto (s .from ∷ s .length ∷ 0 ∷ []) answer)
+  pub narrowDone :
+      (t ties sets answer sets′ answer′ : List ℕ) →
+      NarrowingC t ties sets answer sets′ answer′ 0 →
+      (n : ℕ) × Narrowing t ties sets sets′ (DoneNarrow n) × (answer′ ≡ onto (n ∷ 0 ∷ 0 ∷ []) answer)

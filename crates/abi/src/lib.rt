@@ -6,7 +6,7 @@ ghost use Prim.Native.Nat.{_≤_, _<_};
 ghost use lib.ListN.{length};
 ghost use Rattle.table.specs.Check.{lengthCheck};
 ghost use Rattle.analysis.specs.Passes.{onto};
-ghost use Rattle.abi.specs.Exported.{maxNode, returned, Small, Tells, tellAnalysed, tellReaction, tellRendered, tellReading, tellTick, tellFetched, tellSpan, shortAnswer, Analysing, StartingC, ResumingC, RenderingC, ReadingC, TickingC, FetchingC, LocatingC};
+ghost use Rattle.abi.specs.Exported.{maxNode, returned, Small, Tells, tellAnalysed, tellReaction, tellRendered, tellReading, tellTick, tellFetched, tellSpan, tellNarrowed, shortAnswer, Analysing, StartingC, ResumingC, RenderingC, ReadingC, TickingC, FetchingC, LocatingC, NarrowingC};
 use analysis::Analysed;
 use blocks::Fetched;
 use blocks::Span;
@@ -14,6 +14,7 @@ use instant::Reaction;
 use listing::Rendered;
 use table::Check;
 use text::Reading;
+use tied::Narrowed;
 use witness::Tick;
 
 // What a call tells: three figures, or the number and the node of a refusal.
@@ -186,6 +187,19 @@ fn tell_span(span: Span) -> Told
     }
 }
 
+fn tell_narrowed(narrowed: Narrowed) -> Told
+    ensures { λ r. ⌜ r ≡ tellNarrowed narrowed ⌝ }
+{
+    match narrowed {
+        Narrowed::Done { nodes } => Told::Figures {
+            first: nodes,
+            second: 0,
+            third: 0,
+        },
+        Narrowed::Refused { number, node } => Told::Refusal { number, node },
+    }
+}
+
 #[no_mangle]
 pub extern "C" fn bavzhrono_analyse(
     table: &[u8],
@@ -308,4 +322,21 @@ pub extern "C" fn bavzhrono_part(
     }
     let span = blocks::locate(file, program, edition, part);
     tell(tell_span(span), answer)
+}
+
+// The start sets where some signals are known for certain.
+#[no_mangle]
+pub extern "C" fn bavzhrono_narrow(
+    table: &[u8],
+    ties: &[u8],
+    sets: &mut [u64],
+    answer: &mut [u64],
+) -> u32
+    ensures { λ r. ⌜ NarrowingC (now (table .entry)) (now (ties .entry)) (now (sets .entry)) (now (answer .entry)) (now (sets .exit)) (now (answer .exit)) r ⌝ }
+{
+    if answer.len() < FIGURES {
+        return short_answer(table);
+    }
+    let narrowed = tied::narrow(table, ties, sets);
+    tell(tell_narrowed(narrowed), answer)
 }

@@ -66,10 +66,10 @@ module _ (t : List ℕ) (room : Bool) where
     room-passed f = after-room ∙ ap (λ x. refuse x (checkProgram (scan t 0 []))) f
 
 -- where it passes, the buffers suffice and the program passes
-checked-program : (t : List ℕ) (room : Bool) (p : Stmt) → checked room t ≡ passed p → (room ≡ true) × (checkProgram (scan t 0 []) ≡ passed p)
+pub checked-program : (room : Bool) (t : List ℕ) (p : Stmt) → checked room t ≡ passed p → (room ≡ true) × (checkProgram (scan t 0 []) ≡ passed p)
 unfolding checked
-checked-program t true p e = (refl, length-passed t (checkProgram (scan t 0 [])) p e)
-checked-program t false p e = let z = length-passed t (refused 3 0) p e in (cc, cc)
+checked-program true t p e = (refl, length-passed t (checkProgram (scan t 0 [])) p e)
+checked-program false t p e = let z = length-passed t (refused 3 0) p e in (cc, cc)
 
 -- a refusal's number and node are its verdict's
 pub verdict-refused : (v : Verdict) (c : Check) (number node : ℕ) → c ≡ checkOf v → c ≡ RefusedCheck number node → v ≡ refused number node
@@ -101,7 +101,7 @@ module _ {t : List ℕ} {room : Bool} {r : Acceptance} (o : CallChecked room t r
   pub call-passed : r .check ≡ Passed → (room ≡ true) × (checked room t ≡ passed (programOf t))
   call-passed z =
       let (p, e) = answer-passed (checked room t) (sym z ∙ o .answer) in
-      let (suffices, v) = checked-program t room p e in
+      let (suffices, v) = checked-program room t p e in
       (suffices, e ∙ sym v ∙ o .ready z .verdict)
 
   pub sizes-fail : (sizes : List ℕ) (number node : ℕ) → r .check ≡ RefusedCheck number node → SizesChecked room t sizes (r .check)

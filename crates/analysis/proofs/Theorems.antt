@@ -34,6 +34,9 @@ use Rattle.analysis.proofs.Analyses.{map-lines, line-k, line-a, line-s,
 
 -- ---- the call's verdict and the table's
 
+pub nodes-are : (t : List ℕ) (p : Stmt) → verdict t ≡ passed p → length t / 2 ≡ size p
+nodes-are t p e = omega (arith, ap length (acceptance t p e .0), length-postfix p)
+
 pub checked-room : (t : List ℕ) → checked true t ≡ verdict t
 unfolding checked
 checked-room t = sym (length-first t (scan t 0 []))
@@ -42,11 +45,6 @@ pub checked-passed : (room : Bool) (t : List ℕ) (p : Stmt) → checked room t 
 unfolding checked
 checked-passed true t p e = sym (checked-room t) ∙ e
 checked-passed false t p e = let z = length-passed t (refused 3 0) p e in cc
-
-pub checked-suffices : (room : Bool) (t : List ℕ) (p : Stmt) → checked room t ≡ passed p → room ≡ true
-unfolding checked
-checked-suffices true t p e = refl
-checked-suffices false t p e = let z = length-passed t (refused 3 0) p e in cc
 
 -- a refusal of checks 1 to 11
 pub checked-told : (room : Bool) (t : List ℕ) → Told 11 (checked room t)

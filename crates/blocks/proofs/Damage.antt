@@ -8,13 +8,13 @@ use native.Mathlib.Nat.{add-zero, add-mod-right, div-add-mod}
 use native.Mathlib.Decide.{decLt}
 use native.Mathlib.Omega.{arith}
 use borrow.Author.Tests.{eqb-true}
-use lib.Dec.{eqb}
 use lib.ListN.{length, getD, take, drop, set}
 use lib.Seq.{take-set-lt, take-set-le, drop-set-lt, getD-set-same, getD-set-other, getD-take, getD-drop, length-take-le}
 use Rattle.blocks.specs.Block.{contentAt, contentSize, checksAt, word, usedIn, reduced, sum, firstCheck, runningFrom, secondCheck, allZero, zeroFilled, good}
 use Rattle.blocks.specs.Theorems.{Changed, Alike, Unruled, Damage}
-use Rattle.blocks.proofs.Good.{Good, good-is, is-good}
-use Rattle.codes.proofs.Bools.{left, right, cannot-pass}
+use Rattle.blocks.proofs.Good.{all-zero, Good, good-is, is-good}
+use Rattle.codes.proofs.Bools.{cannot-pass}
+use Rattle.esterel.proofs.Scanning.{each}
 
 -- sums, with one value changed for one that is alike
 same-reduced : (a : ℕ) → reduced (a + 255) ≡ reduced (a + 0)
@@ -68,9 +68,7 @@ first-differ xs i v h hx hv d e =
     reduced-differ (rest xs i) (getD xs i 0) v hx hv d (ap reduced (sym (sum-own xs i h)) ∙ e ∙ ap reduced (sum-rest xs i v h))
 
 zero-at : (xs : List ℕ) (j : ℕ) → allZero xs ≡ true → getD xs j 0 ≡ 0
-zero-at [] j z = refl
-zero-at (x ∷ xs) zero z = eqb-true _ _ (left (eqb x 0) (allZero xs) z)
-zero-at (x ∷ xs) (suc j) z = zero-at xs j (right (eqb x 0) z)
+zero-at xs j z = eqb-true _ _ (each all-zero refl xs z j)
 
 filler-zero : (b : List ℕ) (i : ℕ) → zeroFilled b ≡ true → contentAt + usedIn b ≤ i → i < checksAt → getD b i 0 ≡ 0
 unfolding zeroFilled

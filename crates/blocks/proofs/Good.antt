@@ -8,9 +8,13 @@ use borrow.Author.Tests.{eqb-true, eq-eqb, ne-eqb, leb-true, le-leb, lt-leb}
 use lib.Dec.{eqb, leb}
 use lib.ListN.{getD, take, drop}
 use Rattle.codes.proofs.Bools.{both, left, right}
+use Rattle.esterel.proofs.Scanning.{Tests}
 use Rattle.blocks.specs.Block.{contentAt, contentSize, checksAt, programIn, editionIn, partIn, usedIn, firstCheck, secondCheck, checksMatch, lengthFits, allZero, zeroFilled, good}
 use Rattle.blocks.specs.Editions.{isFor, isGoodFor}
 use Rattle.blocks.specs.Steps.{usable, isPart}
+
+pub all-zero : Tests allZero (λ x. eqb x 0)
+all-zero = record { none = refl; first = λ x xs. refl }
 
 -- what the tests of a good block say
 pub record Good (b : List ℕ) : Type 0 where

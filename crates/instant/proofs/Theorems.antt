@@ -17,13 +17,13 @@ use Rattle.esterel.specs.Checks.{verdict}
 use Rattle.esterel.specs.Instant.{Result, closed, starved, stuck, start, resume, admitted}
 use Rattle.esterel.specs.Outcome.{emitted, emissionBytes, outcome}
 use Rattle.esterel.specs.Theorems.{Accepted, Closes, NeedsMore}
-use Rattle.esterel.proofs.Reading.{length-postfix}
 use Rattle.esterel.proofs.Accepted.{acceptance}
 use Rattle.esterel.proofs.Run.{closed-held}
 use Rattle.esterel.proofs.Refusals.{Numbered, Told, told-numbered}
 use Rattle.esterel.proofs.Theorems.{demand3, starving}
 use Rattle.analysis.specs.Analysis.{checked}
-use Rattle.analysis.proofs.Theorems.{checked-room, checked-passed, checked-suffices, checked-told}
+use Rattle.analysis.proofs.Analyses.{checked-program}
+use Rattle.analysis.proofs.Theorems.{nodes-are, checked-room, checked-passed, checked-told}
 use Rattle.instant.specs.declared.Reaction.{Reaction}
 use Rattle.instant.specs.declared.Reaction.the-variants.{Closed, Refused}
 use Rattle.instant.specs.Calls.{roomFor, verdictFor, Call, closing, refuses, answerOf, stateAfter, emissionsAfter, startCall, resumeCall, Reacts, Starting, Resuming}
@@ -31,9 +31,6 @@ use Rattle.instant.specs.Calls.{closes as closesCall}
 use Rattle.instant.specs.Theorems.{Lent, Ends, closes, starves, Instant, Unchanged, Demand3OfCalls}
 use Rattle.instant.proofs.Emissions.{length-emissions}
 use Rattle.instant.proofs.Closing.{held-length, reacts-as}
-
-nodes-are : (t : List ℕ) (p : Stmt) → verdict t ≡ passed p → length t / 2 ≡ size p
-nodes-are t p e = omega (arith, ap length (acceptance t p e .0), length-postfix p)
 
 module _ {t state emissions : List ℕ} {p : Stmt} (l : Lent t p state emissions) where
   passes : verdictFor t (length state) (length emissions) ≡ passed p
@@ -48,7 +45,7 @@ module _ {t state emissions : List ℕ} {p : Stmt} (l : Lent t p state emissions
 lent-of : (t state emissions : List ℕ) (p : Stmt) → verdictFor t (length state) (length emissions) ≡ passed p → Lent t p state emissions
 lent-of t state emissions p e =
     let accepted = checked-passed _ t p e in
-    let room = checked-suffices _ t p e in
+    let (room, program) = checked-program _ t p e in
     record {
       accepted = accepted;
       places = omega (arith, nodes-are t p accepted, leb-true (length t / 2) (length state) (left (leb (length t / 2) (length state)) (leb signals (length emissions)) room));

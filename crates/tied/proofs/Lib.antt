@@ -6,3 +6,4 @@ pub mod Known
 pub mod Theorems
 pub mod Words
 pub mod Narrows
+pub mod OfNarrow

@@ -1,4 +1,4 @@
--- Each return of `narrow`.
+-- Check 19, and each return of `narrow`.
 use mathlib.Core.Path.{_≡_, refl, sym, ap, subst, _∙_}
 use mathlib.Core.Bool.{Bool, true, false, cond}
 use mathlib.Core.List.{List}
@@ -10,9 +10,9 @@ use lib.ListN.{length, take}
 use Rattle.codes.proofs.Bools.{left, right}
 use Rattle.esterel.specs.Limits.{maxNodes, signals}
 use Rattle.esterel.specs.Statement.{size}
-use Rattle.esterel.specs.Table.{Verdict, passed, refused}
+use Rattle.esterel.specs.Table.{passed, refused}
+use Rattle.esterel.proofs.Scanning.{Tests}
 use Rattle.table.specs.Program.{programOf}
-use Rattle.table.specs.Columns.{onto}
 use Rattle.table.specs.Check.{passIf}
 use Rattle.table.specs.declared.Check.{Check}
 use Rattle.table.specs.declared.Check.the-variants.{Passed}
@@ -21,10 +21,13 @@ use Rattle.table.proofs.Found.{pass-true}
 use Rattle.analysis.specs.Analysis.{checked, Sized, SizesChecked}
 use Rattle.analysis.proofs.Analyses.{verdict-refused, nodes-are}
 use Rattle.tied.specs.Ties.{tiesOf}
-use Rattle.tied.specs.Passes.{Sound, Known, wordsOf, SetsFilled}
+use Rattle.tied.specs.Passes.{Sound, Known, SetsFilled}
 use Rattle.tied.specs.Calls.{roomFor, areTies, checkTies, verdictFor, answerOf, setsAfter, Narrowing, refusalOf}
 use Rattle.tied.specs.declared.Narrowed.{Narrowed}
 use Rattle.tied.specs.declared.Narrowed.the-variants.{Done, Refused}
+
+pub are-ties : Tests areTies (λ b. leb b 2)
+are-ties = record { none = refl; first = λ b bs. refl }
 
 -- nothing lent has changed
 refusing : {t ties sets : List ℕ} {x : Narrowed} (number node : ℕ) → verdictFor t ties sets ≡ refused number node → x ≡ Refused number node → Narrowing t ties sets sets x

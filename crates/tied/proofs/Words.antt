@@ -44,7 +44,7 @@ module _ (c : Ties) (p : Stmt) where
   unfolding wordsOf
   length-words = length-map (spots c p) wordIn ∙ length-spots c p
 
-  words-at : (i : ℕ) → i < size p → getD (wordsOf c p) i 0 ≡ word (narrowedAt c p i)
+  pub words-at : (i : ℕ) → i < size p → getD (wordsOf c p) i 0 ≡ word (narrowedAt c p i)
   unfolding wordsOf
   words-at i h = map-at wordIn (spots c p) outside i (omega (arith, length-spots c p))
 

@@ -1,17 +1,25 @@
 -- What is proved of the narrowed sets: the statements alone. The proofs are in proofs/Theorems.antt.
-use Prim.Native.Nat.{ℕ, _+_, _≤_, _<_}
+use Prim.Native.Nat.{ℕ, _+_, _/_, _≤_, _<_}
 use mathlib.Core.Path.{_≡_}
-use mathlib.Core.Logic.{_↔_}
+use mathlib.Core.Logic.{_↔_, _⊎_}
 use mathlib.Core.Bool.{true}
 use mathlib.Core.List.{List}
+use lib.ListN.{length, getD, take}
+use Rattle.codes.specs.Words.{_∋_}
+use Rattle.esterel.specs.Limits.{maxNodes, signals}
 use Rattle.esterel.specs.Codes.{Represents, word}
 use Rattle.esterel.specs.Statement.{signal, suspend, loop, trap, present, sequence, parallel, Unary, Binary, Stmt, leaf, one, two, size, nodes}
 use Rattle.esterel.specs.Sets.{startSet}
+use Rattle.esterel.specs.Table.{passed, refused}
+use Rattle.esterel.specs.Checks.{verdict}
 use Rattle.esterel.specs.Instant.{Entry, Result, closed, starved, stuck, start}
 use Rattle.esterel.specs.Outcome.{statementAt}
 use Rattle.esterel.specs.Theorems.{Finishes, Accepted}
-use Rattle.tied.specs.Ties.{Tie, unknown, tiedAbsent, tiedPresent, Ties, noneTied, tie, startTied}
+use Rattle.tied.specs.Ties.{Tie, unknown, tiedAbsent, tiedPresent, Ties, tiesOf, noneTied, tie, startTied}
 use Rattle.tied.specs.Narrowed.{tiesUnder, tiesAt, narrowed, narrowedAt}
+use Rattle.tied.specs.Calls.{Narrowing}
+use Rattle.tied.specs.declared.Narrowed.{Narrowed}
+use Rattle.tied.specs.declared.Narrowed.the-variants.{Done, Refused}
 
 -- A code is in the narrowed set of a node exactly if some answers make the node, started alone under the ties of its place, finish with it.
 abbrev pub Exact : Type 0
@@ -75,3 +83,44 @@ pub data Alike : Result → Result → Type 0 where
 pub record Replacing : Type 0 where
   pub sets : (c : Ties) (p : Stmt) (k : ℕ) → narrowed c p k ≡ startSet (replaced c p) k
   pub starts : (c : Ties) (p : Stmt) (first other : ℕ) (answers : List ℕ) → Alike (startTied c first p answers) (start other (replaced c p) answers)
+
+-- What follows for the call. The lent buffers suffice
+pub record Lent (t ties sets : List ℕ) : Type 0 where
+  pub tiesRoom : signals ≤ length ties
+  pub setsRoom : length t / 2 ≤ length sets
+
+-- each signal's byte is 0, 1 or 2
+abbrev pub AreTies : List ℕ → Type 0
+AreTies ties = (s : ℕ) → s < signals → getD ties s 0 ≤ 2
+
+-- after Done, of the program p: bit k of entry i is 1 exactly if some answers make node i, started alone under the ties of its place, finish
+-- with code k; each entry represents the node's narrowed set, which is a part of K and has a code; the entries past them are as they were
+pub record NarrowedSets (p : Stmt) (c : Ties) (old new : List ℕ) : Type 0 where
+  pub bits :
+      (i first k : ℕ) → i < size p →
+      ((getD new i 0 ∋ k) ≡ true) ↔ Finishes (startTied (tiesAt c p i) first (statementAt (nodes p) i)) k
+  pub words : (i : ℕ) → i < size p → Represents (getD new i 0) (narrowedAt c p i)
+  pub inK : (i k : ℕ) → i < size p → (getD new i 0 ∋ k) ≡ true → startSet (statementAt (nodes p) i) k ≡ true
+  pub some : (i : ℕ) → i < size p → (k : ℕ) × ((getD new i 0 ∋ k) ≡ true)
+  pub past : (i : ℕ) → size p ≤ i → getD new i 0 ≡ getD old i 0
+  pub long : length new ≡ length old
+
+pub record OfNarrow : Type 0 where
+  -- where the table is accepted, which goes by K, the call is done exactly if the bytes are ties, and refused by 19 exactly if one is not
+  pub done :
+      (t ties old new : List ℕ) (r : Narrowed) (p : Stmt) → Lent t ties old → verdict t ≡ passed p → Narrowing t ties old new r →
+      (r ≡ Done (size p)) ↔ AreTies ties
+  pub badTies :
+      (t ties old new : List ℕ) (r : Narrowed) (p : Stmt) → Lent t ties old → verdict t ≡ passed p → Narrowing t ties old new r →
+      (r ≡ Refused 19 0) ↔ ((s : ℕ) × (s < signals) × (2 < getD ties s 0))
+  -- where it is not, the refusal is the table's own, whatever the bytes
+  pub table :
+      (t ties old new : List ℕ) (r : Narrowed) (number node : ℕ) → Lent t ties old → verdict t ≡ refused number node →
+      Narrowing t ties old new r → r ≡ Refused number node
+  pub sets :
+      (t ties old new : List ℕ) (n : ℕ) → Narrowing t ties old new (Done n) →
+      (p : Stmt) × (verdict t ≡ passed p) × (n ≡ size p) × NarrowedSets p (tiesOf (take signals ties)) old new
+  -- a refusal has a number from 1 to 11, or 19, and a node that a table can have, and changes nothing
+  pub refusals :
+      (t ties old new : List ℕ) (number node : ℕ) → Narrowing t ties old new (Refused number node) →
+      (1 ≤ number) × ((number ≤ 11) ⊎ (number ≡ 19)) × (node < maxNodes) × (new ≡ old)

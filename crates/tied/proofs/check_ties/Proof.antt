@@ -10,14 +10,12 @@ use lib.Dec.{leb}
 use lib.ListN.{length, getD, take}
 use lib.Seq.{length-take-le, getD-take}
 use Rattle.esterel.specs.Limits.{signals}
-use Rattle.esterel.proofs.Scanning.{Tests, Scanned, scanned-next, scanned-found, scanned-end}
+use Rattle.esterel.proofs.Scanning.{Scanned, scanned-next, scanned-found, scanned-end}
 use Rattle.table.specs.Check.{passIf}
 use Rattle.tied.specs.Calls.{areTies}
+use Rattle.tied.proofs.Narrows.{are-ties}
 use Rattle.tied.proofs.check_ties.Statement.{statement}
 use Rattle.tied.proofs.check_ties.Tie as tie
-
-tested : Tests areTies (λ b. leb b 2)
-tested = record { none = refl; first = λ b bs. refl }
 
 abbrev Inv-loop : tie.InvT-loop
 Inv-loop ties s₀ s = Scanned areTies (take signals ties) s
@@ -47,7 +45,7 @@ shared-slice-read-if1 : tie.Need-shared-slice-read-if1 Inv-loop μ-loop
 shared-slice-read-if1 c = search needs
 
 returns : tie.Need-returns Inv-loop μ-loop
-returns c = sym (ap (passIf 19) (scanned-found tested (c .before .before .before .loop .inv) (inside (c .before .before)) (byte-at (c .before .before) ∙ lt-leb _ _ (c .if1 .taken))))
+returns c = sym (ap (passIf 19) (scanned-found are-ties (c .before .before .before .loop .inv) (inside (c .before .before)) (byte-at (c .before .before) ∙ lt-leb _ _ (c .if1 .taken))))
 
 add-s : tie.Need-add-s Inv-loop μ-loop
 add-s c = omega arith
@@ -56,10 +54,10 @@ loop-less : tie.Need-loop-less Inv-loop μ-loop
 loop-less c = omega arith
 
 loop-again : tie.Need-loop-again Inv-loop μ-loop
-loop-again c = scanned-next tested (c .before .before .before .loop .inv) (inside (c .before .before)) (byte-at (c .before .before) ∙ le-leb _ _ (c .if1 .left))
+loop-again c = scanned-next are-ties (c .before .before .before .loop .inv) (inside (c .before .before)) (byte-at (c .before .before) ∙ le-leb _ _ (c .if1 .left))
 
 returns-2 : tie.Need-returns-2 Inv-loop μ-loop
-returns-2 c = sym (ap (passIf 19) (scanned-end tested (c .before .loop .inv) (omega (arith, long (c .before)))))
+returns-2 c = sym (ap (passIf 19) (scanned-end are-ties (c .before .loop .inv) (omega (arith, long (c .before)))))
 
 pub check-ties-spec : {M : Type 1} → statement M
 check-ties-spec =
