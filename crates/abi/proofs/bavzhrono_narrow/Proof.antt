@@ -21,7 +21,7 @@ tell-narrowed-requires : tie.Need-tell-narrowed-requires
 tell-narrowed-requires c κs = search needs
 
 tell-requires : tie.Need-tell-requires
-tell-requires c κs = (omega (arith, c .before .before .before .before .before .before .if1 .left), subst Small (sym (c .before .tell-narrowed .ensures)) (small-narrowed (now (c .before .before .before .before .before .before .before .before .before .before .args .table)) (now (c .before .before .before .before .before .before .before .before .before .before .args .ties)) (now (c .before .before .before .before .before .before .before .before .before .before .args .sets)) _ _ (c .before .before .before .before .narrow .ensures)))
+tell-requires c κs = (omega (arith, c .before .before .before .before .before .before .if1 .left), subst Small (sym (c .before .tell-narrowed .ensures)) (small-narrowed (now (c .before .before .before .before .before .before .before .before .before .before .before .args .table)) (now (c .before .before .before .before .before .before .before .before .before .before .before .args .ties)) (now (c .before .before .before .before .before .before .before .before .before .before .before .args .sets)) _ _ (c .before .before .before .before .narrow .ensures)))
 
 same-length : tie.Need-same-length
 same-length c = search needs
