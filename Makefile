@@ -44,6 +44,7 @@ vectors:
 	@compare/target/release/texts --text-vectors $(VECTORS)/text_open.jsonl crates/texts/stdin crates/texts/stdout
 	@compare/target/release/ticks --tick-vectors $(VECTORS)/tick_open.jsonl crates/ticks/stdin crates/ticks/stdout
 	@compare/target/release/partitions --block-vectors $(VECTORS)/blocks_open.jsonl crates/partitions/stdin crates/partitions/stdout
+	@compare/target/release/narrowings --tied-vectors $(VECTORS)/tied_open.jsonl crates/narrowings/stdin crates/narrowings/stdout
 	@for t in examples/*.table; do compare/target/release/list < $$t > $${t%.table}.listing; compare/target/release/tick < $$t > $${t%.table}.tick; done
 	@table=$$(mktemp); for t in examples/*.strl; do compare/target/release/translate < $$t > $$table; compare/target/release/list < $$table > $$t.listing; compare/target/release/tick < $$table > $$t.tick; done; rm $$table
 	@git diff --stat -- crates examples

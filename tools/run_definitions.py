@@ -1,11 +1,12 @@
 #!/usr/bin/env python3
 """Runs the theory's definitions on outside vectors and on edges of documents 01 and 02, and reports each difference.
 
-    python3 tools/run_definitions.py [--vectors DIR] [--listings N] [--instants N] [--texts N] [--ticks N] [--runs N] [--blocks N] [--seed S]
+    python3 tools/run_definitions.py [--vectors DIR] [--listings N] [--instants N] [--texts N] [--ticks N] [--runs N] [--blocks N]
+                                     [--ties N] [--seed S]
 
 Each vector becomes a theorem `what the definitions give ≡ what is expected`, proved by refl, so that the checker has to
 compute the definitions. All is written to a temporary repository, which has copies of crates/codes, crates/esterel,
-crates/grammar, crates/starts and crates/blocks. The theorem listing17 is the vector in line 17 of the listings; edges are numbered as
+crates/grammar, crates/starts, crates/blocks and crates/tied, and of what it stands on. The theorem listing17 is the vector in line 17 of the listings; edges are numbered as
 they stand below.
 A text's derivation cannot be computed: its tree is the one that the machine of crates/grammar finds, of which it is proved
 that it finds exactly the derivations. Of a tick that is shown, the rules are run with its list (tick17); where table and list are
@@ -18,9 +19,10 @@ import argparse, collections, json, os, random, re, shutil, subprocess, sys, tem
 from pathlib import Path
 
 ROOT = Path(__file__).resolve().parent.parent
-COPIED = ("codes", "esterel", "grammar", "starts", "blocks")
-CRATES_TXT = "codes:\nesterel: codes\ngrammar: esterel\nstarts: esterel codes\nblocks: esterel codes bytes\n" + "".join(
-    f"{name}: blocks starts grammar esterel codes\n" for name in ("control", "vectors"))
+COPIED = ("codes", "esterel", "grammar", "starts", "blocks", "table", "analysis", "tied")
+CRATES_TXT = "codes:\nesterel: codes\ngrammar: esterel\nstarts: esterel codes\nblocks: esterel codes bytes\n" + (
+    "table: esterel\nanalysis: table esterel codes\ntied: analysis table esterel codes\n") + "".join(
+    f"{name}: tied analysis table blocks starts grammar esterel codes\n" for name in ("control", "vectors"))
 
 # ---- the theorems in antt
 
@@ -49,6 +51,7 @@ use Rattle.grammar.specs.Machine as M
 use Rattle.starts.specs.Ticks.{Leads}
 use Rattle.blocks.specs.Editions as B
 use Rattle.blocks.specs.Fetching as F
+use Rattle.tied.specs.Calls as N
 
 pub data Shown : Type 0 where
   ok : (n d planned : ℕ) (lines : List Line) → Shown
@@ -265,6 +268,14 @@ fetchOf file p es = fetchedAs (cond (B.fileFits file) (F.checkEdition file p (fi
 
 abbrev pub partOf : (file : List ℕ) (program edition part : ℕ) → Shown
 partOf file p e k = written (B.contentOf file (F.handed file p e k))
+
+-- F-8: the lent sets after the call
+abbrev pub narrowedAs : (ties old : List ℕ) → Verdict → Shown
+narrowedAs ties old (passed p) = written (N.setsAfter (passed p) ties old)
+narrowedAs ties old (refused number node) = refusal number node
+
+abbrev pub narrowOf : (bytes ties old : List ℕ) → Shown
+narrowOf bytes ties old = narrowedAs ties old (N.verdictFor bytes ties old)
 """
 HEAD = """
 use mathlib.Core.Path.{_≡_, refl}
@@ -273,12 +284,15 @@ use Rattle.esterel.specs.Codes.{word}
 use Rattle.esterel.specs.Checks.{verdict, line}
 use Rattle.esterel.specs.Instant.{started, resumed}
 use Rattle.grammar.specs.Tokens.{tokens, classOf}
-use Rattle.CRATE.proofs.Calls.{shown, figures, call, readText, tickWith, firstTick, runOf, fetchOf, partOf, ok, ran, written, tick, went, refusal}
+use Rattle.CRATE.proofs.Calls.{shown, figures, call, readText, tickWith, firstTick, runOf, fetchOf, partOf, narrowOf, ok, ran, written, tick, went, refusal}
 use Rattle.blocks.specs.Block.{word as wordOf, firstCheck, secondCheck, checksMatch, lengthFits, zeroFilled, good}
 use Rattle.blocks.specs.Editions.{fileFits, blocksIn, blockAt, isFor, counted, partsOf, completes, whole, tableOf}
 use Rattle.blocks.specs.Fetching.{handed}
+use Rattle.analysis.specs.Analysis.{checked}
+use Rattle.tied.specs.Passes.{wordsOf}
+use Rattle.tied.specs.Calls.{setsAfter}
 """
-UNFOLDING = "unfolding word tokens classOf wordOf firstCheck secondCheck checksMatch lengthFits zeroFilled good fileFits blocksIn blockAt isFor counted partsOf completes whole tableOf handed"
+UNFOLDING = "unfolding word tokens classOf wordOf firstCheck secondCheck checksMatch lengthFits zeroFilled good fileFits blocksIn blockAt isFor counted partsOf completes whole tableOf handed checked wordsOf setsAfter"
 Theorem = collections.namedtuple("Theorem", "name left right")  # left: a call of the definitions; right: what is expected
 
 refused = "refusal {} {}".format  # number, node
@@ -362,6 +376,14 @@ def block_theorem(at, vector):
     else:
         right = "written " + a_list(bytes.fromhex(vector["content" if "part" in vector else "table"]))
     return Theorem(f"block{at}", left, right)
+
+def narrow_of(table, ties, sets):
+    return f"narrowOf {a_list(table)} {a_list(ties)} {a_list(sets)}"
+
+def tied_theorem(at, vector):
+    table = bytes.fromhex(vector["table"])
+    right = refused(vector["refused"], vector["node"]) if "refused" in vector else "written " + a_list([int(x, 16) for x in vector["sets"]] + [7])
+    return Theorem(f"tied{at}", narrow_of(table, bytes.fromhex(vector["ties"]), [7] * (len(table) // 2 + 1)), right)
 
 def vectors(file, wanted, chance, theorem):
     numbered = list(enumerate(file.read_text().splitlines(), 1))
@@ -505,13 +527,41 @@ def block_edges():
     for file, *numbers, right in PARTS:
         yield part_of(file, *numbers), "written " + a_list(right)
 
+def tied(*signals):
+    ties = [0] * 256
+    for signal, tie in signals:
+        ties[signal] = tie
+    return ties
+
+CHOICE = [1, 0, 2, 0, 6, 5]  # present 5 then nothing else pause
+# leaves the loop at once if 5 is present: as a program that K accepts
+LEAVES = [4, 0, 2, 0, 6, 5, 8, 0, 11, 0]
+NARROWINGS = [  # the ties follow the table; what is expected was worked out by hand from F-8 of document 02
+    (CHOICE, tied(), [1, 2, 3]), (CHOICE, tied((5, 1)), [1, 2, 2]), (CHOICE, tied((5, 2)), [1, 2, 1]), (CHOICE, tied((4, 2), (6, 1)), [1, 2, 3]),
+    # in the body, before it, after it, around it, and in two of one number
+    (CHOICE + [5, 5], tied((5, 2)), [1, 2, 3, 3]), (CHOICE + [5, 4], tied((5, 2)), [1, 2, 1, 1]),
+    (CHOICE + CHOICE + [5, 5, 9, 0], tied((5, 1)), [1, 2, 2, 1, 2, 3, 3, 2]), (CHOICE + [5, 5] + CHOICE + [9, 0], tied((5, 1)), [1, 2, 3, 3, 1, 2, 2, 2]),
+    (CHOICE + [5, 5, 2, 0, 6, 5], tied((5, 1)), [1, 2, 3, 3, 2, 2]), (CHOICE + [5, 5] + CHOICE + [9, 0, 5, 5], tied((5, 1)), [1, 2, 3, 3, 1, 2, 3, 3, 3]),
+    # a branch that is cut off keeps its own set; an emit and a suspend are no tests
+    (LEAVES, tied(), [4, 2, 6, 6, 3]), (LEAVES, tied((5, 1)), [4, 2, 2, 2, 2]), (LEAVES, tied((5, 2)), [4, 2, 4, 4, 1]),
+    ([3, 5, 2, 0, 9, 0, 7, 5], tied((5, 1)), [1, 2, 2, 2]), ([2, 0, 3, 5, 7, 5, 6, 5], tied((5, 2)), [2, 1, 1, 2]),
+    # acceptance is by K, and comes before 19; only 256 bytes are looked at
+    (CHOICE + [8, 0], tied((5, 1)), (11, 3)), (CHOICE + [8, 0], tied((5, 3)), (11, 3)), (CHOICE, tied((5, 3)), (19, 0)), (CHOICE, tied((255, 255)), (19, 0)),
+    (CHOICE, tied() + [3], [1, 2, 3]), (CHOICE, tied()[:255], (3, 0)), ([12, 0], tied()[:255], (3, 0)), ([], [], (2, 0)), ([12, 0], tied(), (4, 0)),
+]
+
+def tied_edges():
+    for table, ties, right in NARROWINGS:
+        yield narrow_of(table, ties, [9] * (len(table) // 2 + 2)), refused(*right) if isinstance(right, tuple) else "written " + a_list(right + [9, 9])
+    yield narrow_of(CHOICE, tied(), [9] * 2), refused(3, 0)
+
 def edge_theorems():
     edges = [(verdict(table, "figures"), refused(*key)) for key, tables in REFUSED.items() for table in tables]
     edges += [(verdict(table, "figures"), ok(*key)) for key, tables in ACCEPTED.items() for table in tables]
     edges += [(verdict(table), right) for table, right in LISTINGS] + [(call(*lent), right) for *lent, right in INSTANTS] + list(text_edges())
     edges += [(f"firstTick {a_list(table)} {len(key)}", f"tick {key[0]} {a_list(key[1:])}") for key, tables in TICKS.items() for table in tables]
     edges += [(ran_through(*lent), entered_twice(*right)) for *lent, right in ((table, steps, right) for table, steps, *right in RUNS)]
-    edges += block_edges()
+    edges += [*block_edges(), *tied_edges()]
     return [Theorem(f"edge{at}", *edge) for at, edge in enumerate(edges, 1)]
 
 TEXTS = [  # what is expected was worked out by hand from F-1 of document 02
@@ -543,6 +593,7 @@ def control_theorems():
               (([1, 0, 1, 0, 1, 1, 1, 0], [[], [0, 1, 2, 4, 5, 6]]), ([1, 1, 1, 0, 1, 1, 1, 0], [[], [0, 2, 4, 5, 6]]), ([1, 1, 1, 0, 1, 1, 1, 0], [[]]))]
     edges += [(fetch_of(bytes(FULL + SHORT_BLOCK), 7), right) for right in ("written " + a_list([5] * 502 + [9]), refused(18, 0))]
     edges += [(part_of(SHORT_BLOCK, 7, 2, 1), "written " + a_list(right)) for right in ([9], [])]
+    edges += [(narrow_of(CHOICE, tied((5, 2)), [9] * 4), right) for right in ("written " + a_list([1, 2, 3, 9]), "written " + a_list([1, 2, 1]), refused(19, 0))]
     return [Theorem(f"control{at}", *edge) for at, edge in enumerate(edges)]
 
 # ---- the temporary repository
@@ -605,13 +656,14 @@ def run(repo, args):
     ticks = sum(vectors(args.vectors / "tick_open.jsonl", args.ticks, chance, lambda *vector: list(tick_theorems(*vector))), [])
     runs = vectors(args.vectors / "reentry_open.jsonl", args.runs, chance, run_theorem)
     blocks = vectors(args.vectors / "blocks_open.jsonl", args.blocks, chance, block_theorem)
+    ties = vectors(args.vectors / "tied_open.jsonl", args.ties, chance, tied_theorem)
     edges, controls = edge_theorems(), control_theorems()
-    theorems = {x.name: x for x in edges + listings + instants + texts + ticks + runs + blocks}
+    theorems = {x.name: x for x in edges + listings + instants + texts + ticks + runs + blocks + ties}
     copy_crates(repo, args.whole)
     write_crate(repo, "control", controls, 1)
     write_crate(repo, "vectors", list(theorems.values()), 250)
     (repo / "crates.txt").write_text(CRATES_TXT)
-    for what, some in (("listings", listings), ("instants", instants), ("texts", texts), ("ticks", ticks), ("runs", runs), ("blocks", blocks), ("edges", edges)):
+    for what, some in (("listings", listings), ("instants", instants), ("texts", texts), ("ticks", ticks), ("runs", runs), ("blocks", blocks), ("ties", ties), ("edges", edges)):
         tally(what, some)
 
     proved, refusals, said = check(repo, "control")
@@ -637,6 +689,7 @@ def main():
     parser.add_argument("--ticks", type=int, metavar="N", help="likewise")
     parser.add_argument("--runs", type=int, metavar="N", help="likewise")
     parser.add_argument("--blocks", type=int, metavar="N", help="likewise")
+    parser.add_argument("--ties", type=int, metavar="N", help="likewise")
     parser.add_argument("--seed", type=int, default=random.randrange(10**6), metavar="S")
     parser.add_argument("--keep", action="store_true", help="keep the temporary repository")
     parser.add_argument("--whole", action="store_true", help="prove the copied crates whole first; else their definitions and types alone are read")

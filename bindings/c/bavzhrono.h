@@ -1,8 +1,9 @@
 /*
  * Bavzhrono: the checker and the runner of single instants for tables of pure Esterel, the reader
  * that makes such a table from text, the finder of the tick in which a refused loop's body ends at
- * once, and the fetcher of tables that are stored in blocks on the service partition, for C (C99)
- * and C++. Link with libabi.a (x86-64), which needs nothing but the C library.
+ * once, the fetcher of tables that are stored in blocks on the service partition, and the narrower
+ * of start sets by signals that are known for certain, for C (C99) and C++. Link with libabi.a
+ * (x86-64), which needs nothing but the C library.
  *
  * The table
  *
@@ -110,12 +111,14 @@
  *         16  the text has a 257th signal name                                  no
  *         17  the file is not of whole blocks of 512 bytes or has more than 64  no
  *         18  the program has no whole edition in the file                      no
+ *         19  a signal's tie is none of 0, 1 and 2                              no
  *
  * 4 to 6 are decided node by node: the first faulty node counts, with its lowest number. Each of
  * 8 to 11 covers the whole table before the next begins. 11 is not returned by bavzhrono_tick,
  * which shows the fault in its place. 12 is for bavzhrono_resume, 13 for it and bavzhrono_start,
  * and 14 to 16 are for bavzhrono_read: each covers the whole text before the next begins. 17 and 18
- * are for bavzhrono_fetch, whose check 1 is of the parts, joined.
+ * are for bavzhrono_fetch, whose check 1 is of the parts, joined. 19 is for bavzhrono_narrow, after
+ * 11.
  *
  * Buffers
  *
@@ -143,7 +146,7 @@
 
 /* The most nodes of a table, of two bytes each: enough for every buffer of n entries. */
 #define BAVZHRONO_MAX_NODES 1024
-/* The number of signals, and the length of the emissions. */
+/* The number of signals, and the length of the emissions and of the ties. */
 #define BAVZHRONO_SIGNALS 256
 /* A text of so many bytes holds the listing of any table. It is no limit of bavzhrono_read. */
 #define BAVZHRONO_MAX_TEXT 67584
@@ -151,6 +154,10 @@
 #define BAVZHRONO_MAX_SOURCE 16384
 /* The bytes of answers that bavzhrono_tick needs: any list fits. It is no limit of the instants. */
 #define BAVZHRONO_TICK_ANSWERS 512
+/* The bytes of ties. Not for answers, among which 0 is absent and any other byte present. */
+#define BAVZHRONO_TIE_UNKNOWN 0
+#define BAVZHRONO_TIE_ABSENT 1
+#define BAVZHRONO_TIE_PRESENT 2
 /* The bytes of a block on the service partition. */
 #define BAVZHRONO_BLOCK 512
 /* The most blocks of a file. */
@@ -302,6 +309,30 @@ uint32_t bavzhrono_fetch(const uint8_t *file, size_t file_length, uint16_t progr
 uint32_t bavzhrono_part(const uint8_t *file, size_t file_length, uint16_t program,
                         uint16_t edition, uint8_t part,
                         uint64_t *answer, size_t answer_length);
+
+/*
+ * The start sets, narrowed by signals that are known for certain, as inputs that are tied off are;
+ * checks 1 to 11 and 19.
+ *
+ * In:  the table, and the ties, BAVZHRONO_SIGNALS bytes needed: byte s says whether signal s is
+ *      unknown, absent or present (BAVZHRONO_TIE_UNKNOWN, _ABSENT, _PRESENT: 0, 1, 2). Bytes past
+ *      these are not looked at.
+ * Out: sets    n entries needed. Entry i is the narrowed start set of node i: the codes that it can
+ *              have, started alone at its place in the program, when each test (present) of a tied
+ *              signal gets the tied answer and all other tests answer freely.
+ *      answer  (n, 0, 0).
+ *
+ * Inside the body of a signal statement its number is unknown, whatever its tie. A suspend tests
+ * nothing when it is started, so its signal's tie makes no difference. A branch that a tied test
+ * cuts off keeps the set of its own start.
+ *
+ * With no signal tied the sets are K, and tying one more unknown signal never adds a code. 11 is by
+ * K as ever: a loop whose body can end only against the ties is refused too.
+ */
+uint32_t bavzhrono_narrow(const uint8_t *table, size_t table_length,
+                          const uint8_t *ties, size_t ties_length,
+                          uint64_t *sets, size_t sets_length,
+                          uint64_t *answer, size_t answer_length);
 
 #ifdef __cplusplus
 }

@@ -3,8 +3,8 @@
  *
  * The expected values are those that document 01 prints (Table W and its edges) or that its rules,
  * as F-5 and F-7 amend them, give by hand; the sets of W3 are those of the implementation in
- * compare/. The tables of texts, the lists of ticks and what files of blocks give are by hand, from
- * F-1, F-2 and F-4 of document 02 and their readings.
+ * compare/. The tables of texts, the lists of ticks, what files of blocks give and what ties leave
+ * of start sets are by hand, from F-1, F-2, F-4 and F-8 of document 02 and their readings.
  */
 #include "bavzhrono.h"
 #include "bavzhrono.h" /* twice, for the include guard */
@@ -19,7 +19,7 @@
 /* The bytes of the table that bavzhrono_read and bavzhrono_fetch write to. */
 #define TABLE_NEED (2 * BAVZHRONO_MAX_NODES)
 
-/* All buffers that a call can write to. */
+/* All buffers that a call can write to, and the ties, which it may not. */
 typedef struct {
     uint64_t start_sets[NODE_ROOM];
     uint64_t any_sets[NODE_ROOM];
@@ -30,12 +30,14 @@ typedef struct {
     uint8_t text[BAVZHRONO_MAX_TEXT + SPARE];
     uint8_t table[TABLE_NEED + SPARE];
     uint8_t answers[BAVZHRONO_TICK_ANSWERS + SPARE];
+    uint8_t ties[BAVZHRONO_SIGNALS + SPARE];
     uint64_t answer[BAVZHRONO_ANSWER + SPARE];
 } buffers;
 
 /* The lengths that are lent. */
 typedef struct {
-    size_t start_sets, any_sets, contexts, marks, state, emissions, text, table, answers, answer;
+    size_t start_sets, any_sets, contexts, marks, state, emissions, text, table, answers, ties,
+        answer;
 } lengths;
 
 typedef struct {
@@ -98,7 +100,7 @@ static void check(const char *call, const char *name, uint32_t returned, uint32_
 static lengths needed(size_t nodes, size_t text)
 {
     lengths lent = {nodes, nodes, nodes, nodes, nodes, BAVZHRONO_SIGNALS,
-                    text, TABLE_NEED, BAVZHRONO_TICK_ANSWERS, BAVZHRONO_ANSWER};
+                    text, TABLE_NEED, BAVZHRONO_TICK_ANSWERS, BAVZHRONO_SIGNALS, BAVZHRONO_ANSWER};
     return lent;
 }
 
@@ -109,6 +111,7 @@ static lengths spare(void)
     lent.emissions += SPARE;
     lent.table += SPARE;
     lent.answers += SPARE;
+    lent.ties += SPARE;
     lent.answer += SPARE;
     return lent;
 }
@@ -153,6 +156,25 @@ static uint32_t part_of(const uint8_t *bytes, size_t length, uint16_t program, u
                         uint8_t part, lengths lent)
 {
     return bavzhrono_part(bytes, length, program, edition, part, actual.answer, lent.answer);
+}
+
+/* The start sets' buffer serves for the narrowed ones, too. */
+static uint32_t narrow(const uint8_t *table, size_t length, lengths lent)
+{
+    return bavzhrono_narrow(table, length, actual.ties, lent.ties, actual.start_sets,
+                            lent.start_sets, actual.answer, lent.answer);
+}
+
+static void tie_signal(size_t signal, uint8_t byte)
+{
+    actual.ties[signal] = expected.ties[signal] = byte;
+}
+
+/* What the ties are filled with is wrong. It stays past those that are needed. */
+static void tie_none(void)
+{
+    for (size_t signal = 0; signal < BAVZHRONO_SIGNALS; signal++)
+        tie_signal(signal, BAVZHRONO_TIE_UNKNOWN);
 }
 
 /* Accepted tables: the sets of each node. */
@@ -287,8 +309,17 @@ static void test_code_63_in_all_sets(void)
     test_sets("code 63 in K, A and S", table, sets, 68, 1);
 }
 
-/* Refused tables: by number and node in four functions, as a line of text in the fifth. What 11
-   refuses is shown by one of the four, and is tested with the ticks. */
+/* Refused tables: by number and node in five functions, as a line of text in the sixth. What 11
+   refuses is shown by one of the five, and is tested with the ticks. */
+
+/* Refused whatever the ties, since 19 comes last. */
+static void test_not_narrowed(const char *name, const uint8_t *table, size_t length, lengths lent,
+                              uint32_t refused)
+{
+    check("narrow, wrong ties", name, narrow(table, length, lent), refused);
+    tie_none();
+    check("narrow", name, narrow(table, length, lent), refused);
+}
 
 static void test_refused(const char *name, const uint8_t *table, size_t length, uint32_t number,
                          uint32_t node)
@@ -302,6 +333,7 @@ static void test_refused(const char *name, const uint8_t *table, size_t length, 
     check("resume", name, instant(bavzhrono_resume, table, length, NULL, 0, spare()), refused);
     if (number != 11)
         check("tick", name, tick(table, length, spare()), refused);
+    test_not_narrowed(name, table, length, spare(), refused);
     memcpy(expected.text, line, (size_t)line_length);
     expect_answer((uint64_t)line_length, 0, 0);
     check("render", name, render(table, length, needed(0, (size_t)line_length)), 0);
@@ -362,6 +394,8 @@ static void test_macros(void)
     report(sizeof BAVZHRONO_NUMBER(wide) == 4 && sizeof BAVZHRONO_NODE(wide) == 4 &&
                BAVZHRONO_NUMBER(0) - 1 == UINT32_MAX && BAVZHRONO_NODE(0) - 1 == UINT32_MAX,
            "macros", "uint32_t");
+    report(BAVZHRONO_TIE_UNKNOWN == 0 && BAVZHRONO_TIE_ABSENT == 1 && BAVZHRONO_TIE_PRESENT == 2,
+           "macros", "ties");
 }
 
 /* Short buffers: refused with 3, and nothing is written. */
@@ -402,6 +436,7 @@ static void test_short_answer(size_t answer_length, const char *table_name, cons
     check("start", name, instant(bavzhrono_start, table, length, NULL, 0, lent), number);
     check("resume", name, instant(bavzhrono_resume, table, length, NULL, 0, lent), number);
     check("tick", name, tick(table, length, lent), number);
+    test_not_narrowed(name, table, length, lent, number);
     check("render", name, render(table, length, lent), 3);
 }
 
@@ -1580,6 +1615,385 @@ static void test_blocks(void)
     test_fetch_to_short_buffers();
 }
 
+/* Narrowed start sets. Ties are digits, from signal 0 on; all others are unknown. */
+
+static void tie(const char *digits)
+{
+    tie_none();
+    read_digits(actual.ties, digits);
+    read_digits(expected.ties, digits);
+}
+
+static void test_narrow(const char *name, const uint8_t *table, size_t nodes, const char *ties,
+                        const uint64_t *sets)
+{
+    lengths lent[2] = {needed(nodes, 0), spare()};
+    for (int more = 0; more < 2; more++) {
+        tie(ties);
+        memcpy(expected.start_sets, sets, nodes * sizeof sets[0]);
+        expect_answer(nodes, 0, 0);
+        check(more ? "narrow, more lent" : "narrow", name, narrow(table, 2 * nodes, lent[more]), 0);
+    }
+}
+
+typedef struct {
+    const char *name, *ties;
+    size_t nodes;
+    uint8_t table[26];
+    uint64_t sets[13];
+} narrow_test;
+
+/* Present 1 else pause. */
+#define TEST 1, 0, 2, 0, 6, 1
+/* In two traps, present 1 then exit 0 else pause, beside present 2 then exit 1. */
+#define EXITS 4, 0, 2, 0, 6, 1, 4, 1, 1, 0, 6, 2, 10, 0, 11, 0, 11, 0
+/* In a trap, a loop of present 1 then exit 0, and pause. */
+#define LOCK_REQUEST 4, 0, 1, 0, 6, 1, 2, 0, 9, 0, 8, 0, 11, 0
+
+static const narrow_test narrow_tests[] = {
+    {"a test, none tied", "", 3, {TEST}, {1, 2, 3}},
+    {"a test, tied absent", "01", 3, {TEST}, {1, 2, 2}},
+    {"a test, tied present", "02", 3, {TEST}, {1, 2, 1}},
+    {"a test, its neighbours tied", "202", 3, {TEST}, {1, 2, 3}},
+    {"a test of signal 0, tied absent", "1", 3, {1, 0, 2, 0, 6, 0}, {1, 2, 2}},
+    {"a test of signal 0, tied present", "2", 3, {1, 0, 2, 0, 6, 0}, {1, 2, 1}},
+
+    {"in the body, present", "02", 4, {TEST, 5, 1}, {1, 2, 3, 3}},
+    {"in the body, absent", "01", 4, {TEST, 5, 1}, {1, 2, 3, 3}},
+    {"in the body of another, present", "021", 4, {TEST, 5, 2}, {1, 2, 1, 1}},
+    {"in the body of another, absent", "012", 4, {TEST, 5, 2}, {1, 2, 2, 2}},
+    {"after the body, present", "02", 8, {TEST, 5, 1, TEST, 9, 0}, {1, 2, 3, 3, 1, 2, 1, 3}},
+    {"after the body, absent", "01", 8, {TEST, 5, 1, TEST, 9, 0}, {1, 2, 3, 3, 1, 2, 2, 2}},
+    {"before the body, present", "02", 8, {TEST, TEST, 5, 1, 9, 0}, {1, 2, 1, 1, 2, 3, 3, 3}},
+    {"before the body, absent", "01", 8, {TEST, TEST, 5, 1, 9, 0}, {1, 2, 2, 1, 2, 3, 3, 2}},
+    {"between two bodies", "01", 13, {TEST, 5, 1, TEST, 9, 0, TEST, 5, 1, 9, 0},
+     {1, 2, 3, 3, 1, 2, 2, 2, 1, 2, 3, 3, 2}},
+    {"to the left of the body", "01", 6, {TEST, 1, 0, 5, 1, 10, 0}, {1, 2, 2, 1, 1, 2}},
+    {"to the right of the body", "01", 6, {1, 0, 5, 1, TEST, 10, 0}, {1, 1, 1, 2, 2, 2}},
+    {"a body in a branch, absent", "01", 6, {TEST, 5, 1, 1, 0, 6, 1}, {1, 2, 3, 3, 1, 1}},
+    {"a body in a branch, present", "02", 6, {TEST, 5, 1, 1, 0, 6, 1}, {1, 2, 3, 3, 1, 3}},
+
+    {"two bodies of one number", "01", 5, {TEST, 5, 1, 5, 1}, {1, 2, 3, 3, 3}},
+    {"its own around another", "02", 5, {TEST, 5, 2, 5, 1}, {1, 2, 3, 3, 3}},
+    {"another around its own", "02", 5, {TEST, 5, 1, 5, 2}, {1, 2, 3, 3, 3}},
+    {"in the bodies of two others", "02", 5, {TEST, 5, 0, 5, 2}, {1, 2, 1, 1, 1}},
+    {"after the inner of two of one number", "01", 9, {TEST, 5, 1, TEST, 9, 0, 5, 1},
+     {1, 2, 3, 3, 1, 2, 3, 3, 3}},
+    {"before the inner of two of one number", "02", 9, {TEST, TEST, 5, 1, 9, 0, 5, 1},
+     {1, 2, 3, 1, 2, 3, 3, 3, 3}},
+    {"after the inner of two", "02", 9, {TEST, 5, 1, TEST, 9, 0, 5, 2},
+     {1, 2, 3, 3, 1, 2, 1, 3, 3}},
+
+    {"else is cut off", "02", 5, {2, 0, 1, 0, 2, 0, 6, 2, 6, 1}, {2, 1, 2, 3, 2}},
+    {"else is cut off, with a test of its own", "022", 5, {2, 0, 1, 0, 2, 0, 6, 2, 6, 1},
+     {2, 1, 2, 1, 2}},
+    {"then is cut off", "01", 5, {1, 0, 2, 0, 6, 2, 2, 0, 6, 1}, {1, 2, 3, 2, 2}},
+    {"a test of the same signal is cut off", "01", 5, {TEST, 2, 0, 6, 1}, {1, 2, 2, 2, 2}},
+    {"a loop is cut off", "01", 4, {2, 0, 8, 0, 1, 0, 6, 1}, {2, 2, 1, 1}},
+    {"after a pause", "02", 5, {2, 0, TEST, 9, 0}, {2, 1, 2, 1, 2}},
+
+    {"two tests, none tied", "", 7, {2, 0, 1, 0, 6, 1, TEST, 9, 0}, {2, 1, 3, 1, 2, 3, 3}},
+    {"two tests, absent", "01", 7, {2, 0, 1, 0, 6, 1, TEST, 9, 0}, {2, 1, 1, 1, 2, 2, 2}},
+    {"two tests, present", "02", 7, {2, 0, 1, 0, 6, 1, TEST, 9, 0}, {2, 1, 2, 1, 2, 1, 2}},
+
+    {"an emit before a test", "01", 5, {3, 1, TEST, 9, 0}, {1, 1, 2, 2, 2}},
+    {"a suspend of nothing, present", "02", 2, {1, 0, 7, 1}, {1, 1}},
+    {"a suspend of pause, absent", "01", 2, {2, 0, 7, 1}, {2, 2}},
+    {"a suspended test, present", "02", 4, {TEST, 7, 1}, {1, 2, 1, 1}},
+    {"a suspended test, absent", "01", 4, {TEST, 7, 1}, {1, 2, 2, 2}},
+    {"an exit's level is no signal", "22", 3, {4, 1, 11, 0, 11, 0}, {8, 4, 1}},
+
+    {"exits, none tied", "", 9, {EXITS}, {4, 2, 6, 8, 1, 9, 14, 7, 3}},
+    {"exits, 2 absent", "001", 9, {EXITS}, {4, 2, 6, 8, 1, 1, 6, 3, 3}},
+    {"exits, 2 present", "002", 9, {EXITS}, {4, 2, 6, 8, 1, 8, 8, 4, 1}},
+    {"exits, 1 absent", "01", 9, {EXITS}, {4, 2, 2, 8, 1, 9, 10, 6, 3}},
+    {"exits, both absent", "011", 9, {EXITS}, {4, 2, 2, 8, 1, 1, 2, 2, 2}},
+    {"exits, 1 absent and 2 present", "012", 9, {EXITS}, {4, 2, 2, 8, 1, 8, 8, 4, 1}},
+    {"exits, 1 present", "02", 9, {EXITS}, {4, 2, 4, 8, 1, 9, 12, 5, 1}},
+    {"exits, 1 present and 2 absent", "021", 9, {EXITS}, {4, 2, 4, 8, 1, 1, 4, 1, 1}},
+    {"exits, both present", "022", 9, {EXITS}, {4, 2, 4, 8, 1, 8, 8, 4, 1}},
+
+    {"a loop, none tied", "", 7, {LOCK_REQUEST}, {4, 1, 5, 2, 6, 6, 3}},
+    {"a loop, absent", "01", 7, {LOCK_REQUEST}, {4, 1, 1, 2, 2, 2, 2}},
+    {"a loop, present", "02", 7, {LOCK_REQUEST}, {4, 1, 4, 2, 4, 4, 1}},
+};
+
+static void test_narrow_by_hand(void)
+{
+    for (size_t i = 0; i < sizeof narrow_tests / sizeof narrow_tests[0]; i++) {
+        const narrow_test *test = &narrow_tests[i];
+        test_narrow(test->name, test->table, test->nodes, test->ties, test->sets);
+    }
+}
+
+/* With none tied the sets are those that bavzhrono_analyse gives. */
+static void test_none_tied(const char *name, const uint8_t *table, size_t length)
+{
+    static uint64_t start_sets[NODE_ROOM];
+
+    if (analyse(table, length, spare()) != 0)
+        report(0, "analyse", name);
+    memcpy(start_sets, actual.start_sets, sizeof start_sets);
+    prepare();
+    test_narrow(name, table, length / 2, "", start_sets);
+}
+
+static void test_start_sets_of_none_tied(void)
+{
+    static uint8_t table[2 * BAVZHRONO_MAX_NODES];
+    static const uint8_t exits[] = {EXITS}, lock_request[] = {LOCK_REQUEST};
+
+    test_none_tied("W1", w1, sizeof w1);
+    test_none_tied("W3", w3, sizeof w3);
+    test_none_tied("W7", w7, sizeof w7);
+    test_none_tied("W8 without its loop", w8, sizeof w8 - 2);
+    test_none_tied("the lock program of F-5", lock, sizeof lock);
+    test_none_tied("two exits", exits, sizeof exits);
+    test_none_tied("a loop with an exit", lock_request, sizeof lock_request);
+    test_none_tied("2,048 bytes", table, full_table(table));
+    test_none_tied("1,023 nodes, tests of one signal", table, balanced(table, 6, 9));
+    test_none_tied("level 61 under 62 traps", table, around(table, 4, 61, 11, 62));
+}
+
+/* Large tables. */
+
+/* Tests of so many signals in sequence, which all end but for one of the given set. Writes their
+   sets, too. */
+static size_t put_tests(uint8_t *table, uint64_t *sets, size_t signal, size_t count, size_t other,
+                        uint64_t set)
+{
+    size_t length, half = count / 2;
+
+    if (count == 1) {
+        length = put(table, 1, 0);
+        length += put(table + length, 2, 0);
+        sets[0] = 1;
+        sets[1] = 2;
+    } else {
+        length = put_tests(table, sets, signal, half, other, set);
+        length += put_tests(table + length, sets + length / 2, signal + half, count - half, other,
+                            set);
+    }
+    sets[length / 2] = other >= signal && other < signal + count ? set : 1;
+    return length + (count == 1 ? put(table + length, 6, (uint8_t)signal)
+                                : put(table + length, 9, 0));
+}
+
+/* 1,024 nodes: tests of all signals, which are tied present but for one, and a statement of one
+   child around them, which has this one's number. */
+static void test_narrow_all(const char *name, size_t other, char tied, uint64_t set, uint8_t kind)
+{
+    static uint8_t table[2 * BAVZHRONO_MAX_NODES];
+    static uint64_t sets[BAVZHRONO_MAX_NODES];
+    char ties[BAVZHRONO_SIGNALS + 1];
+    size_t length = put_tests(table, sets, 0, BAVZHRONO_SIGNALS, other, set);
+
+    memset(ties, '2', BAVZHRONO_SIGNALS);
+    ties[other] = tied;
+    ties[BAVZHRONO_SIGNALS] = '\0';
+    sets[length / 2] = set;
+    put(table + length, kind, (uint8_t)other);
+    test_narrow(name, table, BAVZHRONO_MAX_NODES, ties, sets);
+}
+
+/* 257 nodes, down to depth 256: a test of signal 0, and statements of one child around it, of which
+   the outermost has a field of its own. */
+static void test_narrow_deep(const char *name, uint8_t kind, uint8_t field, uint8_t outermost,
+                             const char *ties, uint64_t set)
+{
+    uint8_t table[2 * 257] = {1, 0, 2, 0, 6, 0};
+    uint64_t sets[257] = {1, 2, set};
+
+    for (size_t node = 3; node < 257; node++) {
+        put(table + 2 * node, kind, node == 256 ? outermost : field);
+        sets[node] = set;
+    }
+    test_narrow(name, table, 257, ties, sets);
+}
+
+/* A test of signal 0 between an exit from 62 traps and a pause. Each trap brings the exit's code
+   down by one, and the outermost catches it. */
+static void test_narrow_code_63(const char *name, const char *ties, int exits, int pauses)
+{
+    uint8_t table[2 * 65] = {4, 61, 2, 0, 6, 0};
+    uint64_t sets[65] = {(uint64_t)1 << 63, 2};
+
+    for (size_t node = 2; node < 65; node++) {
+        uint64_t exited = node < 64 ? (uint64_t)1 << (65 - node) : 1;
+        if (node > 2)
+            put(table + 2 * node, 11, 0);
+        sets[node] = (exits ? exited : 0) | (pauses ? 2 : 0);
+    }
+    test_narrow(name, table, 65, ties, sets);
+}
+
+static void test_narrow_edges(void)
+{
+    test_narrow_all("1,024 nodes, 0 absent", 0, '1', 2, 7);
+    test_narrow_all("1,024 nodes, 100 unknown", 100, '0', 3, 7);
+    test_narrow_all("1,024 nodes, 255 absent", 255, '1', 2, 7);
+    test_narrow_all("1,024 nodes, 255 present", 255, '2', 1, 7);
+    test_narrow_all("1,024 nodes, 0 in its body", 0, '1', 3, 5);
+    test_narrow_all("1,024 nodes, 255 in its body", 255, '2', 3, 5);
+    test_narrow_deep("254 bodies of its own, present", 5, 0, 0, "2", 3);
+    test_narrow_deep("254 bodies of another, present", 5, 1, 1, "2", 1);
+    test_narrow_deep("254 bodies of another, absent", 5, 1, 1, "1", 2);
+    test_narrow_deep("253 bodies of another in its own", 5, 1, 0, "1", 3);
+    test_narrow_deep("254 suspends, present", 7, 0, 0, "2", 1);
+    test_narrow_deep("254 suspends, absent", 7, 0, 0, "1", 2);
+    test_narrow_code_63("level 61 under 62 traps, none tied", "", 1, 1);
+    test_narrow_code_63("level 61 under 62 traps, present", "2", 1, 0);
+    test_narrow_code_63("level 61 under 62 traps, absent", "1", 0, 1);
+}
+
+/* A text that is read and then narrowed: in the factory mode there is no lock request. */
+static void test_read_then_narrow(void)
+{
+    static const char text[] = "trap Locked in\n"
+                               "    loop present LockRequest then exit Locked end; pause end\n"
+                               "end\n";
+    static const uint8_t table[] = {4, 0, 1, 0, 6, 0, 2, 0, 9, 0, 8, 0, 11, 0};
+    static const uint64_t sets[] = {4, 1, 1, 2, 2, 2, 2};
+
+    if (read_text(text, strlen(text), spare()) != 0 || actual.answer[0] != sizeof table / 2)
+        report(0, "read", "a text that is narrowed then");
+    tie("1");
+    memcpy(expected.table, table, sizeof table);
+    memcpy(expected.start_sets, sets, sizeof sets);
+    expect_answer(sizeof table / 2, 0, 0);
+    check("narrow", "a table that was read", narrow(actual.table, sizeof table, spare()), 0);
+}
+
+/* 11 is by K, also where no body ends with the ties. Signal 5 is tied. */
+static void test_by_k(const char *name, const uint8_t *table, size_t length, uint32_t node)
+{
+    char tied[64];
+
+    tie("000001");
+    sprintf(tied, "11, %s, absent", name);
+    check("narrow", tied, narrow(table, length, spare()), 11 + 256 * node);
+    tie("000002");
+    sprintf(tied, "11, %s, present", name);
+    check("narrow", tied, narrow(table, length, spare()), 11 + 256 * node);
+}
+
+static void test_refused_by_k(void)
+{
+    static const uint8_t in_branch[] = {1, 0, 8, 0, 2, 0, 6, 5};
+
+    test_by_k("W6", w6, sizeof w6, 3);
+    test_by_k("W8", w8, sizeof w8, 7);
+    test_by_k("a loop in a branch", in_branch, sizeof in_branch, 1);
+}
+
+/* Ties that are none, of signals that the table tests, declares, emits or does not have. */
+static void test_wrong_ties(void)
+{
+    static const uint8_t table[] = {TEST, 3, 0, 9, 0, 5, 255};
+    static const uint8_t bytes[] = {3, 4, 127, 128, 254, 255};
+    static const size_t signals[] = {0, 1, 2, 128, 255};
+    char name[64];
+
+    for (size_t i = 0; i < sizeof bytes / sizeof bytes[0]; i++) {
+        for (size_t j = 0; j < sizeof signals / sizeof signals[0]; j++) {
+            tie_none();
+            tie_signal(signals[j], bytes[i]);
+            sprintf(name, "19, %u for signal %u", (unsigned)bytes[i], (unsigned)signals[j]);
+            check("narrow", name, narrow(table, sizeof table, spare()), 19);
+        }
+    }
+    check("narrow", "19, all ties", narrow(table, sizeof table, spare()), 19);
+    check("narrow", "19, without a test", narrow(w1, sizeof w1, spare()), 19);
+}
+
+/* Whether a test of signal 1 gets the set, or 19 for the set 0 and then nothing written. */
+static int narrows_test_to(uint64_t set)
+{
+    static const uint8_t table[] = {TEST};
+    const uint64_t narrowed[] = {1, 2, set, 7, 3, 0, 0, 7}, old[] = {7, 7, 7, 7, 7, 7, 7, 7};
+    uint64_t written[8];
+
+    memcpy(written, old, sizeof old);
+    uint32_t returned = bavzhrono_narrow(table, sizeof table, actual.ties, sizeof actual.ties,
+                                         written, 4, written + 4, 4);
+    return returned == (set == 0 ? 19u : 0u) &&
+           memcmp(written, set == 0 ? old : narrowed, sizeof written) == 0;
+}
+
+/* Each byte at each place. Those past the signals are not looked at. */
+static void test_every_tie(void)
+{
+    int passed = 1;
+
+    tie_none();
+    for (size_t place = 0; place < sizeof actual.ties; place++) {
+        const uint8_t old = actual.ties[place];
+        for (int byte = 0; byte < 256; byte++) {
+            int wrong = place < BAVZHRONO_SIGNALS && byte > BAVZHRONO_TIE_PRESENT;
+            uint64_t set = wrong ? 0 : place != 1 || byte == 0 ? 3 : byte == 1 ? 2 : 1;
+            tie_signal(place, (uint8_t)byte);
+            passed = passed && narrows_test_to(set);
+        }
+        tie_signal(place, old);
+    }
+    report(passed, "narrow", "each byte at each place");
+    prepare();
+}
+
+/* Check 3 comes after 1 and 2 and before the kinds. */
+static void test_narrow_to_short(const char *table_name, const uint8_t *table, size_t length,
+                                 uint32_t number)
+{
+    static const size_t short_ties[] = {0, 1, 128, BAVZHRONO_SIGNALS - 1};
+    char name[64];
+    lengths lent = spare();
+
+    for (size_t i = 0; i < sizeof short_ties / sizeof short_ties[0]; i++) {
+        lent.ties = short_ties[i];
+        sprintf(name, "ties of %u, %s", (unsigned)lent.ties, table_name);
+        test_not_narrowed(name, table, length, lent, number);
+    }
+    lent = needed(length < 2 ? 0 : length / 2 - 1, 0);
+    sprintf(name, "sets of %u, %s", (unsigned)lent.start_sets, table_name);
+    test_not_narrowed(name, table, length, lent, number);
+}
+
+static void test_narrow_to_short_buffers(void)
+{
+    static uint8_t table[2 * BAVZHRONO_MAX_NODES + 2];
+    size_t full = full_table(table), too_long = full + put(table + full, 8, 0);
+    uint64_t *sets = actual.start_sets, *answer = actual.answer;
+
+    test_narrow_to_short("2,050 bytes", table, too_long, 1);
+    test_narrow_to_short("no byte", NULL, 0, 2);
+    test_narrow_to_short("odd length", w1, sizeof w1 - 1, 2);
+    test_narrow_to_short("2,048 bytes", table, full, 3);
+    test_narrow_to_short("an unknown kind", unknown, sizeof unknown, 3);
+    test_narrow_to_short("W1", w1, sizeof w1, 3);
+    test_narrow_to_short("W2", w2, sizeof w2, 3);
+    test_narrow_to_short("W5", w5, sizeof w5, 3);
+    check("narrow", "ties NULL", bavzhrono_narrow(w1, sizeof w1, NULL, 0, sets, 4, answer, 3), 3);
+    tie_none();
+    check("narrow", "sets NULL",
+          bavzhrono_narrow(w1, sizeof w1, actual.ties, BAVZHRONO_SIGNALS, NULL, 0, answer, 3), 3);
+    tie_none();
+    check("narrow", "answer NULL",
+          bavzhrono_narrow(w1, sizeof w1, actual.ties, BAVZHRONO_SIGNALS, sets, 4, NULL, 0), 3);
+    check("narrow", "all NULL", bavzhrono_narrow(NULL, 0, NULL, 0, NULL, 0, NULL, 0), 2);
+}
+
+static void test_narrowed_sets(void)
+{
+    test_narrow_by_hand();
+    test_start_sets_of_none_tied();
+    test_narrow_edges();
+    test_read_then_narrow();
+    test_refused_by_k();
+    test_wrong_ties();
+    test_every_tie();
+    test_narrow_to_short_buffers();
+}
+
 int main(void)
 {
     prepare();
@@ -1612,5 +2026,6 @@ int main(void)
     test_read_then_tick();
     test_short_lists();
     test_blocks();
+    test_narrowed_sets();
     return failures != 0;
 }

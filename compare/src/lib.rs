@@ -1,11 +1,11 @@
 //! Statement tables of pure Esterel, read from documents 01 and 02 alone: all of
 //! document 01, as F-5 and F-7 of document 02 amend it, the programs as text of F-1,
-//! the ticks of F-2, and the blocks of F-4.
+//! the ticks of F-2, the blocks of F-4, and the narrowed sets of F-8.
 //!
 //! The specification is in `table`, `checks`, `sets`, `analysis`, `listing`,
-//! `instant`, `text`, `tick` and `blocks`. What F-6 says of runs is for tests to try:
-//! `reentry` and `account` tell what is entered again in an instant. `support` serves the
-//! tests and the generators.
+//! `instant`, `text`, `tick`, `blocks` and `narrow`. What F-6 says of runs is for tests to
+//! try: `reentry` and `account` tell what is entered again in an instant. `support` serves
+//! the tests and the generators.
 
 pub mod account;
 pub mod analysis;
@@ -13,6 +13,7 @@ pub mod blocks;
 pub mod checks;
 pub mod instant;
 pub mod listing;
+pub mod narrow;
 pub mod reentry;
 pub mod sets;
 pub mod support;
@@ -24,6 +25,7 @@ pub use analysis::{analyse, Sets};
 pub use blocks::{fetch, part, Fetched};
 pub use instant::{resume, resume_with_trail, start, start_with_trail, Closed, Entry, How};
 pub use listing::listing;
+pub use narrow::narrow;
 pub use text::read;
 pub use tick::{find_tick, tick_line, Tick};
 

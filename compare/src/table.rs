@@ -6,7 +6,7 @@ pub const MOST_BYTES: usize = 2048;
 
 /// A statement with the node numbers of its children. The signal of a signal,
 /// present or suspend is left out: tests are answered from a list, so it
-/// decides nothing.
+/// decides nothing. Where F-8 has it decide, it is read from the table.
 #[derive(Clone, Copy, Debug, PartialEq, Eq)]
 pub enum Statement {
     Nothing,

@@ -50,9 +50,19 @@ impl Lent {
         (COMPARE.render)(table, &mut self.text, &mut self.answer)
     }
 
-    /// What analyse, start and resume return.
-    fn judge(&mut self, table: &[u8]) -> [u32; 3] {
-        [self.analyse(table), self.start(table), self.resume(table)]
+    /// With no signal tied.
+    fn narrow(&mut self, table: &[u8]) -> u32 {
+        (COMPARE.narrow)(table, &[0; 256], &mut self.sets[0], &mut self.answer)
+    }
+
+    /// What analyse, start, resume and narrow return.
+    fn judge(&mut self, table: &[u8]) -> [u32; 4] {
+        [
+            self.analyse(table),
+            self.start(table),
+            self.resume(table),
+            self.narrow(table),
+        ]
     }
 }
 
@@ -69,6 +79,11 @@ fn figures_of_an_accepted_table() {
     assert_eq!(lent.answer, [1, 0, 3, 9]);
     assert_eq!(lent.resume(W1), 0);
     assert_eq!(lent.answer, [1, 0, 6, 9]);
+
+    lent.sets[0].fill(u64::from(FILL));
+    assert_eq!(lent.narrow(W1), 0);
+    assert_eq!(lent.answer, [4, 0, 0, 9]);
+    assert_eq!(lent.sets, sets);
 }
 
 #[test]
@@ -80,7 +95,7 @@ fn a_refusal_is_its_number_and_node_and_changes_nothing() {
         let before = Lent::new(&edge.table, 4);
         let mut lent = before.clone();
         let expected = refusal.number + 256 * refusal.node as u32;
-        assert_eq!(lent.judge(&edge.table), [expected; 3], "{}", edge.name);
+        assert_eq!(lent.judge(&edge.table), [expected; 4], "{}", edge.name);
         assert_eq!(lent, before, "{}", edge.name);
     }
 }
@@ -126,7 +141,7 @@ fn a_short_answer_is_refused_by_3_in_its_place() {
         for (table, expected) in cases {
             let before = Lent::new(table, answer_length);
             let mut lent = before.clone();
-            assert_eq!(lent.judge(table), [expected; 3]);
+            assert_eq!(lent.judge(table), [expected; 4]);
             assert_eq!(lent.render(table), 3);
             assert_eq!(lent, before);
         }

@@ -6,6 +6,7 @@
 use std::collections::BTreeSet;
 
 use compare::support::every::{every_table, DECIDING};
+use compare::support::links::Links;
 use compare::Sets;
 
 const MOST_NODES: usize = 7;
@@ -32,35 +33,14 @@ type Codes = BTreeSet<usize>;
 
 struct Program<'a> {
     table: &'a [u8],
-    children: Vec<Vec<usize>>,
-    /// The parent of each node; the program has none.
-    parents: Vec<Option<usize>>,
+    links: Links,
 }
 
 impl Program<'_> {
     /// Reads a table that is known to be accepted.
     fn new(table: &[u8]) -> Program<'_> {
-        let mut children = Vec::new();
-        let mut parents = vec![None; table.len() / 2];
-        let mut unused: Vec<usize> = Vec::new();
-        for (node, bytes) in table.chunks_exact(2).enumerate() {
-            let count = match bytes[0] {
-                1..=4 => 0,
-                6 | 9 | 10 => 2,
-                _ => 1,
-            };
-            let own = unused.split_off(unused.len() - count);
-            for &child in &own {
-                parents[child] = Some(node);
-            }
-            children.push(own);
-            unused.push(node);
-        }
-        Program {
-            table,
-            children,
-            parents,
-        }
+        let links = Links::of(table);
+        Program { table, links }
     }
 
     fn kind(&self, node: usize) -> u8 {
@@ -68,7 +48,7 @@ impl Program<'_> {
     }
 
     fn traps_around(&self, node: usize) -> usize {
-        match self.parents[node] {
+        match self.links.parents[node] {
             None => 0,
             Some(parent) => usize::from(self.kind(parent) == 11) + self.traps_around(parent),
         }
@@ -85,7 +65,7 @@ impl Program<'_> {
     }
 
     fn codes(&self, node: usize, pause: &[usize]) -> Codes {
-        let children: Vec<Codes> = self.children[node]
+        let children: Vec<Codes> = self.links.children[node]
             .iter()
             .map(|&child| self.codes(child, pause))
             .collect();
@@ -106,11 +86,11 @@ impl Program<'_> {
 
     /// S. The program has none; `outer` is P, the parent's.
     fn context(&self, node: usize) -> Codes {
-        let Some(parent) = self.parents[node] else {
+        let Some(parent) = self.links.parents[node] else {
             return Codes::new();
         };
         let outer = self.context(parent);
-        match (self.kind(parent), &self.children[parent][..]) {
+        match (self.kind(parent), &self.links.children[parent][..]) {
             (5..=7, _) => outer,
             (8, _) => &outer | &Codes::from([0]),
             (9, &[first, second]) if node == first => {

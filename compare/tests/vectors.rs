@@ -5,10 +5,10 @@ use std::path::PathBuf;
 use compare::support::cases::Call;
 use compare::support::programs::traps_around;
 use compare::support::vectors::{
-    directory, read_blocks, read_instants, read_listings, read_texts, BlockOutcome,
+    directory, read_blocks, read_instants, read_listings, read_texts, read_ties, BlockOutcome,
 };
 use compare::table::{self, Statement};
-use compare::{fetch, listing, part, read, resume_with_trail, start_with_trail, Refusal};
+use compare::{fetch, listing, narrow, part, read, resume_with_trail, start_with_trail, Refusal};
 
 /// A test without its file fails, so that none passes unseen.
 fn vector_file(name: &str) -> PathBuf {
@@ -233,4 +233,28 @@ fn blocks() {
         }
     }
     println!("{} calls on blocks", vectors.len());
+}
+
+/// With lent sets that suffice exactly, and longer ones; also with none, if there are nodes.
+#[test]
+fn ties() {
+    let vectors = read_ties(&vector_file("tied_open.jsonl"));
+    assert_eq!(vectors.len(), 600);
+    for (line, vector) in vectors.iter().enumerate() {
+        let nodes = vector.table.len() / 2;
+        let before: Vec<u64> = (0..nodes + line % 4).map(|at| !(at as u64)).collect();
+        let mut sets = before.clone();
+        let answer = narrow(&vector.table, &vector.ties, &mut sets);
+        let expected = vector.outcome.as_ref();
+        let count = expected.map(|sets| sets.len()).map_err(|refusal| *refusal);
+        assert_eq!(answer, count, "line {}", line + 1);
+        let written = expected.map_or(&[][..], |sets| sets);
+        let after = [written, &before[written.len()..]].concat();
+        assert_eq!(sets, after, "line {}", line + 1);
+        if ![Err(1), Err(2)].contains(&count.map_err(|refusal| refusal.number)) {
+            let refused = Err(Refusal::whole(3));
+            assert_eq!(narrow(&vector.table, &vector.ties, &mut []), refused);
+        }
+    }
+    println!("{} programs with ties", vectors.len());
 }

@@ -1,7 +1,7 @@
 //! Tables of pure Esterel: the proved checker and the proved runner of single instants, the proved
 //! reader that makes a table from text, the proved finder of the tick in which a refused loop's
-//! body ends at once, and the proved fetcher of tables that are stored in blocks on the service
-//! partition.
+//! body ends at once, the proved fetcher of tables that are stored in blocks on the service
+//! partition, and the proved narrower of start sets by signals that are known for certain.
 //!
 //! A table has two bytes a node, kind then field, children before parents. Nodes are numbered
 //! from 0, and the last is the whole program. Below, n is the number of nodes, half the table's
@@ -21,13 +21,14 @@
 //! | 10 | parallel | 2: left, right | 0 |
 //! | 11 | trap | 1 | 0 |
 //!
-//! [`analyse`], [`start`], [`resume`], [`render`], [`read`], [`tick`] and [`fetch`] write to
-//! buffers that the caller lends, and allocate nothing. A buffer may be longer than needed: what
-//! lies past the needed length is neither looked at nor changed. A refused call changes no buffer.
-//! [`Sets::of`], [`listing`], [`table_of`], [`Fault::of`] and [`table_in`] bring their own buffers.
-//! [`part`] needs none: it hands back a part of the lent file. The calls keep no state, and any
-//! number of threads may make them at once; [`raw`] has the exported functions as they are. How
-//! much stack they need, [`read`] the most, is said in the header for C, `bindings/c/bavzhrono.h`.
+//! [`analyse`], [`start`], [`resume`], [`render`], [`read`], [`tick`], [`fetch`] and [`narrow`]
+//! write to buffers that the caller lends, and allocate nothing. A buffer may be longer than needed:
+//! what lies past the needed length is neither looked at nor changed. A refused call changes no
+//! buffer. [`Sets::of`], [`listing`], [`table_of`], [`Fault::of`], [`table_in`] and
+//! [`narrowed_sets`] bring their own buffers. [`part`] needs none: it hands back a part of the lent
+//! file. The calls keep no state, and any number of threads may make them at once; [`raw`] has the
+//! exported functions as they are. How much stack they need, [`read`] the most, is said in the
+//! header for C, `bindings/c/bavzhrono.h`.
 //!
 //! A loop of pause and emit 7, analysed and run for two instants:
 //!
@@ -107,6 +108,21 @@
 //! assert_eq!(part(&file, 1, 2, 0), table);
 //! # Ok::<(), bavzhrono::Refusal>(())
 //! ```
+//!
+//! A program in the factory mode, in which one of its inputs is tied off:
+//!
+//! ```
+//! use bavzhrono::{narrowed_sets, table_of, Sets, Tie};
+//!
+//! let table = table_of(b"present Jumper then emit Test else pause end")?;
+//! let program = table.len() / 2 - 1;
+//! assert_eq!(Sets::of(&table)?.start_sets[program].to_string(), "{0, 1}");
+//!
+//! // Signal 0, the first in the text, is known to be present: the program ends at once.
+//! let sets = narrowed_sets(&table, &[(0, Tie::Present)])?;
+//! assert_eq!(sets[program].to_string(), "{0}");
+//! # Ok::<(), bavzhrono::Refusal>(())
+//! ```
 
 #![deny(missing_docs)]
 #![deny(unsafe_code)]
@@ -121,6 +137,7 @@ pub mod raw;
 mod refusal;
 mod text;
 mod tick;
+mod ties;
 
 pub use analysis::{analyse, Analysis, Mark, Sets};
 pub use blocks::{fetch, part, table_in, Fetched};
@@ -130,11 +147,12 @@ pub use listing::{listing, render};
 pub use refusal::Refusal;
 pub use text::{read, table_of, Reading};
 pub use tick::{tick, Fault, Tick};
+pub use ties::{narrow, narrowed_sets, Tie};
 
 /// The most nodes of a table, of two bytes each.
 pub const MAX_NODES: usize = 1024;
 
-/// The number of signals, and the length of the emissions.
+/// The number of signals, and the length of the emissions and of the ties.
 pub const SIGNALS: usize = 256;
 
 /// A text of so many bytes holds the listing of any table.

@@ -109,6 +109,17 @@ extern "C" {
         answer: *mut u64,
         answer_length: usize,
     ) -> u32;
+
+    fn bavzhrono_narrow(
+        table: *const u8,
+        table_length: usize,
+        ties: *const u8,
+        ties_length: usize,
+        sets: *mut u64,
+        sets_length: usize,
+        answer: *mut u64,
+        answer_length: usize,
+    ) -> u32;
 }
 
 /// The figures are the nodes, the loop depth and 0.
@@ -236,6 +247,23 @@ pub fn part(file: &[u8], program: u16, edition: u16, part: u8, answer: &mut [u64
             program,
             edition,
             part,
+            answer.as_mut_ptr(),
+            answer.len(),
+        )
+    }
+}
+
+/// The figures are the nodes, 0 and 0.
+pub fn narrow(table: &[u8], ties: &[u8], sets: &mut [u64], answer: &mut [u64]) -> u32 {
+    // SAFETY: each pointer is followed by the length of its own slice.
+    unsafe {
+        bavzhrono_narrow(
+            table.as_ptr(),
+            table.len(),
+            ties.as_ptr(),
+            ties.len(),
+            sets.as_mut_ptr(),
+            sets.len(),
             answer.as_mut_ptr(),
             answer.len(),
         )

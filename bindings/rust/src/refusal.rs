@@ -13,9 +13,9 @@ use std::fmt;
 /// ```
 #[derive(Clone, Copy, Debug, PartialEq, Eq, Hash)]
 pub struct Refusal {
-    /// The number of the check, 1 to 18.
+    /// The number of the check, 1 to 19.
     pub number: u32,
-    /// The lowest node that the check fits; 0 for checks 1, 2, 3, 7 and 12 to 18, which name none.
+    /// The lowest node that the check fits; 0 for checks 1, 2, 3, 7 and 12 to 19, which name none.
     pub node: usize,
 }
 
@@ -41,6 +41,7 @@ impl Refusal {
             16 => "the text has a 257th signal name",
             17 => "the file is not of whole blocks of 512 bytes or has more than 64",
             18 => "the program has no whole edition in the file",
+            19 => "a signal's tie is none of 0, 1 and 2",
             _ => "there is no check of this number",
         }
     }

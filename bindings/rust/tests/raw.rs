@@ -7,7 +7,7 @@ use common::*;
 
 const FILL_NUMBER: u64 = FILL_SET.0;
 
-/// One buffer for each that a function can write to.
+/// One buffer for each that a function can write to, and the ties.
 #[derive(Clone, Debug, PartialEq)]
 struct Lent {
     start_sets: Vec<u64>,
@@ -19,6 +19,7 @@ struct Lent {
     text: Vec<u8>,
     table: Vec<u8>,
     answers: Vec<u8>,
+    ties: Vec<u8>,
     answer: Vec<u64>,
 }
 
@@ -35,6 +36,7 @@ impl Lent {
             text: vec![FILL; MAX_TEXT],
             table: vec![FILL; 2 * MAX_NODES],
             answers: vec![FILL; TICK_ANSWERS],
+            ties: vec![0; SIGNALS],
             answer: vec![FILL_NUMBER; entries],
         }
     }
@@ -81,16 +83,27 @@ impl Lent {
     fn part(&mut self, file: &[u8]) -> u32 {
         raw::part(file, 1, 7, 0, &mut self.answer)
     }
+
+    /// Into the start sets.
+    fn narrow(&mut self, table: &[u8]) -> u32 {
+        raw::narrow(table, &self.ties, &mut self.start_sets, &mut self.answer)
+    }
 }
 
 /// It takes a table, a text if it reads one, or a file.
 type Function = fn(&mut Lent, &[u8]) -> u32;
 
 /// The functions that make the table's checks.
-const CHECKING: [Function; 4] = [Lent::analyse, Lent::start, Lent::resume, Lent::tick];
+const CHECKING: [Function; 5] = [
+    Lent::analyse,
+    Lent::start,
+    Lent::resume,
+    Lent::tick,
+    Lent::narrow,
+];
 
 /// Of these, the ones that return 11.
-const RETURNING_11: [Function; 3] = [Lent::analyse, Lent::start, Lent::resume];
+const RETURNING_11: [Function; 4] = [Lent::analyse, Lent::start, Lent::resume, Lent::narrow];
 
 fn assert_unchanged(before: Lent, function: Function, given: &[u8], expected: u32) {
     let mut lent = before.clone();
@@ -185,10 +198,11 @@ fn a_refused_file_is_a_number_and_leaves_table_and_answer() {
 }
 
 #[test]
-fn refusals_3_12_and_13_name_no_node_and_leave_the_answer() {
+fn refusals_3_12_13_and_19_name_no_node_and_leave_the_answer() {
     let mut short = Lent::with_answer(3);
     (short.marks, short.state, short.text) = (vec![FILL; 3], vec![FILL; 3], vec![FILL; 3]);
     short.answers.truncate(TICK_ANSWERS - 1);
+    short.ties.truncate(SIGNALS - 1);
     for function in CHECKING {
         assert_unchanged(short.clone(), function, W1, 3);
     }
@@ -199,6 +213,12 @@ fn refusals_3_12_and_13_name_no_node_and_leave_the_answer() {
     let present = [3, 5, 2, 0, 6, 1];
     assert_unchanged(Lent::with_answer(3), Lent::resume, &present, 12);
     assert_unchanged(Lent::with_answer(3), Lent::start, &present, 13);
+
+    for signal in [0, 1, 255] {
+        let mut wrong = Lent::with_answer(3);
+        wrong.ties[signal] = 3;
+        assert_unchanged(wrong, Lent::narrow, &present, 19);
+    }
 }
 
 #[test]
@@ -276,6 +296,8 @@ fn three_entries_of_the_answer_are_written_and_no_more() {
         assert_figures(&mut lent, Lent::fetch, &file, [8, 7, 1]);
         assert_figures(&mut lent, Lent::part, &file, [BLOCK as u64 + 8, 8, 0]);
         assert_figures(&mut lent, Lent::part, &[], [0, 0, 0]);
+        assert_figures(&mut lent, Lent::narrow, W1, [4, 0, 0]);
+        assert_figures(&mut lent, Lent::narrow, &full_table(), [1024, 0, 0]);
     }
 }
 

@@ -1,5 +1,5 @@
 //! Each check refuses with its number and node, and says why. Check 3 is in `buffers.rs`, checks of
-//! a text are in `text.rs`, and checks of a file are in `blocks.rs`.
+//! a text are in `text.rs`, checks of a file are in `blocks.rs`, and that of ties is in `ties.rs`.
 
 mod common;
 
@@ -122,10 +122,10 @@ fn check_13_a_suspend_without_an_answer() {
 
 #[test]
 fn each_number_has_an_explanation_of_its_own() {
-    let lines: HashSet<_> = (0..=18)
+    let lines: HashSet<_> = (0..=19)
         .map(|number| Refusal { number, node: 0 }.explanation())
         .collect();
-    assert_eq!(lines.len(), 19);
+    assert_eq!(lines.len(), 20);
     assert!(lines
         .iter()
         .all(|line| !line.is_empty() && !line.contains('\n')));
@@ -134,7 +134,7 @@ fn each_number_has_an_explanation_of_its_own() {
 #[test]
 fn a_node_is_written_only_where_the_check_names_one() {
     let with_node = [4, 5, 6, 8, 9, 10, 11];
-    for number in 1..=18 {
+    for number in 1..=19 {
         let refusal = Refusal { number, node: 0 };
         let error: &dyn std::error::Error = &refusal;
         let node = if with_node.contains(&number) {

@@ -11,7 +11,7 @@ use ours::OURS;
 use two_pass::TWO_PASS;
 
 use crate::programs::{Shape, SHAPES};
-use crate::{blocks, texts, ticks};
+use crate::{blocks, texts, ticks, ties};
 
 /// Who makes a call.
 #[derive(Clone, Copy, PartialEq, Eq)]
@@ -51,10 +51,11 @@ pub enum Call {
     Tick,
     Fetch,
     Part,
+    Narrow,
 }
 
 impl Call {
-    pub const ALL: [Call; 7] = [
+    pub const ALL: [Call; 8] = [
         Call::Analyse,
         Call::Start,
         Call::Resume,
@@ -62,6 +63,7 @@ impl Call {
         Call::Tick,
         Call::Fetch,
         Call::Part,
+        Call::Narrow,
     ];
 
     pub fn name(self) -> &'static str {
@@ -73,6 +75,7 @@ impl Call {
             Call::Tick => "tick",
             Call::Fetch => "fetch",
             Call::Part => "part",
+            Call::Narrow => "narrow",
         }
     }
 
@@ -87,7 +90,7 @@ impl Call {
     /// What the cost of a call is shared among.
     pub fn each(self) -> &'static str {
         match self {
-            Call::Analyse | Call::Tick => "a node",
+            Call::Analyse | Call::Tick | Call::Narrow => "a node",
             Call::Start | Call::Resume => "an entry",
             Call::Read => "a byte",
             Call::Fetch | Call::Part => "a block",
@@ -105,9 +108,9 @@ impl Call {
     /// The column of what the cost is shared among, if it is not the size.
     pub fn units(self) -> Option<&'static str> {
         match self {
-            Call::Analyse | Call::Tick | Call::Fetch | Call::Part => None,
             Call::Start | Call::Resume => Some("entries"),
             Call::Read => Some("bytes"),
+            _ => None,
         }
     }
 }
@@ -124,6 +127,7 @@ pub struct Case {
     wanted: (u16, u8),
     text: Vec<u8>,
     table: Vec<u8>,
+    ties: Vec<u8>,
     answers: Vec<u8>,
     start_sets: Vec<u64>,
     any_sets: Vec<u64>,
@@ -165,6 +169,10 @@ pub fn of(call: Call) -> Box<dyn Iterator<Item = Case>> {
         Call::Part => {
             let of_part = |(name, blocks, wanted)| Case::of_file(Call::Part, name, blocks, wanted);
             Box::new(blocks::parts().into_iter().map(of_part))
+        }
+        Call::Narrow => {
+            let of_shape = |(shape, tie)| SIZES.map(|nodes| Case::of_ties(&shape, tie, nodes));
+            Box::new(ties::SHAPES.into_iter().flat_map(of_shape))
         }
     }
 }
@@ -246,6 +254,23 @@ impl Case {
         case
     }
 
+    /// With all signals tied to this.
+    fn of_ties(shape: &Shape, tie: u8, nodes: usize) -> Case {
+        let mut case = Case {
+            call: Call::Narrow,
+            shape: shape.name,
+            size: nodes,
+            table: shape.program(nodes),
+            ties: vec![tie; SIGNALS],
+            start_sets: vec![0; nodes],
+            answer: vec![0; FIGURES],
+            ..Case::default()
+        };
+        assert_eq!(case.table.len(), 2 * nodes, "{}", case.name());
+        assert_eq!(case.run(&COMPARE), 0, "{} is refused", case.name());
+        case
+    }
+
     pub fn name(&self) -> String {
         format!("{}/{}/{}", self.call.name(), self.shape, self.size)
     }
@@ -262,6 +287,7 @@ impl Case {
                 let (edition, part) = self.wanted;
                 return (calls.part)(file, PROGRAM, edition, part, answer);
             }
+            Call::Narrow => return (calls.narrow)(table, &self.ties, &mut self.start_sets, answer),
             Call::Analyse => {
                 return (calls.analyse)(
                     table,
@@ -297,9 +323,9 @@ impl Case {
         let mut case = self.clone();
         case.run(&COMPARE);
         match self.call {
-            Call::Analyse | Call::Tick | Call::Fetch | Call::Part => case.size,
             Call::Start | Call::Resume => case.answer[2] as usize,
             Call::Read => case.text.len(),
+            _ => case.size,
         }
     }
 }

@@ -25,6 +25,7 @@ mod programs;
 mod report;
 mod texts;
 mod ticks;
+mod ties;
 
 fn main() -> ExitCode {
     match run(std::env::args().skip(1)) {

@@ -8,41 +8,46 @@ use compare::checks::MOST_TRAPS;
 use compare::support::nodes::{EMIT, LOOP, PARALLEL, PAUSE, PRESENT, SEQUENCE, SUSPEND, TRAP};
 use compare::support::programs::balanced;
 
+#[derive(Clone, Copy)]
 pub struct Shape {
     pub name: &'static str,
     /// A program of so many nodes, at least 16.
-    part: fn(usize) -> Vec<u8>,
+    pub part: fn(usize) -> Vec<u8>,
     /// A larger program is made of parts side by side.
-    most_nodes: usize,
+    pub most_nodes: usize,
 }
 
-pub const SHAPES: [Shape; 5] = [
-    Shape {
-        name: "deep",
-        part: deep,
-        most_nodes: 256,
-    },
-    Shape {
-        name: "wide",
-        part: wide,
-        most_nodes: 1024,
-    },
-    Shape {
-        name: "traps",
-        part: traps,
-        most_nodes: 256,
-    },
-    Shape {
-        name: "left",
-        part: left_sequences,
-        most_nodes: 256,
-    },
-    Shape {
-        name: "right",
-        part: right_sequences,
-        most_nodes: 256,
-    },
-];
+pub const SHAPES: [Shape; 5] = [DEEP, WIDE, TRAPS, LEFT, RIGHT];
+
+pub const DEEP: Shape = Shape {
+    name: "deep",
+    part: deep,
+    most_nodes: 256,
+};
+
+pub const WIDE: Shape = Shape {
+    name: "wide",
+    part: wide,
+    most_nodes: 1024,
+};
+
+pub const TRAPS: Shape = Shape {
+    name: "traps",
+    part: traps,
+    most_nodes: 256,
+};
+
+const LEFT: Shape = Shape {
+    name: "left",
+    part: left_sequences,
+    most_nodes: 256,
+};
+
+const RIGHT: Shape = Shape {
+    name: "right",
+    part: right_sequences,
+    most_nodes: 256,
+};
 
 impl Shape {
     pub fn program(&self, nodes: usize) -> Vec<u8> {
@@ -121,7 +126,7 @@ fn leaves(count: usize) -> Vec<&'static [u8]> {
 }
 
 /// With signals around it, up to the number of nodes.
-fn filled_up(mut table: Vec<u8>, nodes: usize) -> Vec<u8> {
+pub fn filled_up(mut table: Vec<u8>, nodes: usize) -> Vec<u8> {
     while table.len() / 2 < nodes {
         table.extend(SIGNAL);
     }

@@ -3,6 +3,7 @@
 use compare::instant::SIGNALS;
 use compare::support::calls::{Calls, FIGURES};
 use compare::support::cases::{Call, Case};
+use compare::support::narrowings;
 use compare::table::MOST_BYTES;
 use compare::tick::TICK_ANSWERS;
 
@@ -378,6 +379,63 @@ impl Trial for Taking {
             ("program", program.to_string()),
             ("edition", edition.to_string()),
             ("part", self.part.to_string()),
+            ("answer", self.answer.hex()),
+        ]
+    }
+}
+
+#[derive(Clone, PartialEq)]
+pub struct Narrowing {
+    pub table: Guarded<u8>,
+    pub ties: Guarded<u8>,
+    pub sets: Guarded<u64>,
+    pub answer: Guarded<u64>,
+}
+
+impl Narrowing {
+    /// With exactly as many sets as are needed.
+    pub fn new(table: &[u8], ties: &[u8]) -> Narrowing {
+        Narrowing::with_sets(table, ties, table.len() / 2)
+    }
+
+    pub fn with_sets(table: &[u8], ties: &[u8], sets: usize) -> Narrowing {
+        Narrowing {
+            table: Guarded::with(table),
+            ties: Guarded::with(ties),
+            sets: Guarded::untouched(sets),
+            answer: Guarded::untouched(FIGURES),
+        }
+    }
+
+    pub fn of(case: &narrowings::Case) -> Narrowing {
+        Narrowing::with_sets(&case.table, &case.ties, case.lent)
+    }
+}
+
+impl Trial for Narrowing {
+    fn name(&self) -> &'static str {
+        "narrow"
+    }
+
+    fn call(&mut self, calls: &Calls) -> u32 {
+        (calls.narrow)(
+            self.table.lent(),
+            self.ties.lent(),
+            self.sets.lent(),
+            self.answer.lent(),
+        )
+    }
+
+    fn with_answer(self, length: usize) -> Narrowing {
+        let answer = Guarded::untouched(length);
+        Narrowing { answer, ..self }
+    }
+
+    fn buffers(&self) -> Vec<(&'static str, String)> {
+        vec![
+            ("table", self.table.hex()),
+            ("ties", self.ties.hex()),
+            ("sets", self.sets.hex()),
             ("answer", self.answer.hex()),
         ]
     }

@@ -1,5 +1,6 @@
 //! Wrong implementations that a comparison must notice.
 
+use compare::instant::SIGNALS;
 use compare::support::blocks::{stored, PROGRAM};
 use compare::support::calls::{Calls, COMPARE};
 use compare::support::cases::Call;
@@ -10,7 +11,7 @@ use compare::{sets, table, Sets};
 use differential::groups::{refusals, texts};
 use differential::tally::{Difference, Tally};
 use differential::trials::{
-    Analysis, Fetching, Finding, Instant, Reading, Rendering, Taking, Trial,
+    Analysis, Fetching, Finding, Instant, Narrowing, Reading, Rendering, Taking, Trial,
 };
 
 fn assert_noticed(wrong: Calls, trial: &impl Trial) {
@@ -21,6 +22,11 @@ fn assert_noticed(wrong: Calls, trial: &impl Trial) {
 /// A file of one block, part 0 of edition 1.
 fn stored_w1() -> Vec<u8> {
     stored(PROGRAM, 1, W1).concat()
+}
+
+/// With no signal tied.
+fn narrowing(table: &[u8]) -> Narrowing {
+    Narrowing::new(table, &[0; SIGNALS])
 }
 
 type Run = fn(&mut Tally, &mut Random) -> Result<(), Difference>;
@@ -143,6 +149,9 @@ fn told_by<T: Telling>() -> Calls {
                 (COMPARE.part)(file, program, edition, part, answer)
             })
         },
+        narrow: |table, ties, sets, answer| {
+            T::tell(answer, |answer| (COMPARE.narrow)(table, ties, sets, answer))
+        },
     }
 }
 
@@ -161,6 +170,7 @@ fn a_fourth_figure() {
     assert_noticed(wrong, &Rendering::new(W2, 13).with_answer(4));
     assert_noticed(wrong, &Reading::new(b"pause").with_answer(4));
     assert_noticed(wrong, &Finding::new(W8).with_answer(4));
+    assert_noticed(wrong, &narrowing(W1).with_answer(4));
     let fetching = Fetching::new(&stored_w1(), PROGRAM);
     assert_noticed(wrong, &fetching.with_answer(4));
     let taking = Taking::new(&stored_w1(), (PROGRAM, 1), 0);
@@ -188,6 +198,7 @@ fn an_answer_written_on_a_refusal() {
     assert_noticed(wrong, &Reading::new(b"exit T"));
     assert_noticed(wrong, &Finding::with_answers(W8, 511));
     assert_noticed(wrong, &Fetching::new(&[], PROGRAM));
+    assert_noticed(wrong, &narrowing(W2));
     assert_noticed_by(refusals::edges, wrong);
 }
 
@@ -203,6 +214,7 @@ fn a_node_that_is_lost() {
     assert_noticed(wrong, &Analysis::new(W8));
     assert_noticed(wrong, &Instant::new(Call::Start, W8, &[], &[9; 8]));
     assert_noticed(wrong, &Instant::new(Call::Resume, W8, &[], &[9; 8]));
+    assert_noticed(wrong, &narrowing(W8));
     assert_noticed_by(refusals::edges, wrong);
     assert_noticed_by(texts::edges, wrong);
 }
@@ -237,6 +249,7 @@ fn a_short_answer_refused_before_1_and_2() {
     assert_noticed(wrong, &Analysis::new(&[2; 2050]).with_answer(0));
     assert_noticed(wrong, &Analysis::new(&[]).with_answer(2));
     assert_noticed(wrong, &Finding::new(&[]).with_answer(2));
+    assert_noticed(wrong, &narrowing(&[]).with_answer(2));
     for call in [Call::Start, Call::Resume] {
         assert_noticed(
             wrong,
@@ -272,6 +285,7 @@ fn a_short_answer_refused_after_all_other_checks() {
     );
     assert_noticed(wrong, &Reading::new(b"end").with_answer(2));
     assert_noticed(wrong, &Finding::new(&[12, 0]).with_answer(2));
+    assert_noticed(wrong, &narrowing(W2).with_answer(2));
     assert_noticed(wrong, &Fetching::new(&[], PROGRAM).with_answer(2));
     assert_noticed_by(refusals::edges, wrong);
 }
@@ -296,6 +310,7 @@ fn a_short_answer_that_is_accepted() {
     assert_noticed(wrong, &Rendering::new(W2, 13).with_answer(1));
     assert_noticed(wrong, &Reading::new(b"pause").with_answer(2));
     assert_noticed(wrong, &Finding::new(W8).with_answer(2));
+    assert_noticed(wrong, &narrowing(W1).with_answer(2));
     let fetching = Fetching::new(&stored_w1(), PROGRAM);
     assert_noticed(wrong, &fetching.with_answer(2));
     let taking = Taking::new(&stored_w1(), (PROGRAM, 1), 0);

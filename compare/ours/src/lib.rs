@@ -1,6 +1,6 @@
 //! The proved code's calls, from its archive, as the bindings for Rust have them.
 
-use bavzhrono::raw::{analyse, fetch, part, read, render, resume, start, tick};
+use bavzhrono::raw::{analyse, fetch, narrow, part, read, render, resume, start, tick};
 use compare::support::calls::Calls;
 
 /// The calls of the proved code.
@@ -13,4 +13,5 @@ pub const OURS: Calls = Calls {
     tick,
     fetch,
     part,
+    narrow,
 };

@@ -19,6 +19,8 @@ pub type Tick = fn(&[u8], &mut [u8], &mut [u64]) -> u32;
 pub type Fetch = fn(&[u8], u16, &mut [u8], &mut [u64]) -> u32;
 /// File, program, edition, part, answer.
 pub type Part = fn(&[u8], u16, u16, u8, &mut [u64]) -> u32;
+/// Table, ties, sets, answer.
+pub type Narrow = fn(&[u8], &[u8], &mut [u64], &mut [u64]) -> u32;
 
 #[derive(Clone, Copy)]
 pub struct Calls {
@@ -30,6 +32,7 @@ pub struct Calls {
     pub tick: Tick,
     pub fetch: Fetch,
     pub part: Part,
+    pub narrow: Narrow,
 }
 
 /// The calls of this implementation.
@@ -42,6 +45,7 @@ pub const COMPARE: Calls = Calls {
     tick,
     fetch,
     part,
+    narrow,
 };
 
 /// The figures of an answer, and the entries that its buffer must have.
@@ -148,6 +152,16 @@ fn part(file: &[u8], program: u16, edition: u16, part: u8, answer: &mut [u64]) -
         let front = front(answer)?;
         let content = crate::part(file, program, edition, part);
         *front = [place(file, content) as u64, content.len() as u64, 0];
+        Ok(())
+    })
+}
+
+/// The figures are the nodes, 0 and 0.
+fn narrow(table: &[u8], ties: &[u8], sets: &mut [u64], answer: &mut [u64]) -> u32 {
+    returned(|| {
+        let front = front_after_length(table, answer)?;
+        let nodes = crate::narrow(table, ties, sets)?;
+        *front = [nodes as u64, 0, 0];
         Ok(())
     })
 }

@@ -1,6 +1,6 @@
 //! What the tests, the generators and the comparisons share: hexadecimal,
-//! random numbers, vector files, tables, instants, runs and files of blocks to
-//! try, and how the generators write them.
+//! random numbers, vector files, tables, instants, runs, files of blocks and ties
+//! to try, and how the generators write them.
 
 pub mod answers;
 pub mod arguments;
@@ -18,6 +18,9 @@ pub mod families;
 pub mod files;
 pub mod frames;
 pub mod hex;
+pub mod links;
+pub mod narrow_edges;
+pub mod narrowings;
 pub mod nodes;
 pub mod numbers;
 pub mod partitions;
@@ -31,9 +34,12 @@ pub mod text_edges;
 pub mod texts;
 pub mod tick_edges;
 pub mod ticks;
+pub mod tied_starts;
+pub mod ties;
 pub mod vectors;
 pub mod wrong_blocks;
 pub mod wrong_marks;
+pub mod wrong_ties;
 
 /// The seed of every generated table and instant.
 pub const SEED: u64 = 0x0104_2004;

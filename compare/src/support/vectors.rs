@@ -66,6 +66,13 @@ pub enum BlockOutcome {
     },
 }
 
+pub struct TiedVector {
+    pub table: Vec<u8>,
+    pub ties: Vec<u8>,
+    /// The narrowed start sets.
+    pub outcome: Result<Vec<u64>, Refusal>,
+}
+
 /// A run from the fresh start.
 pub struct RunVector {
     pub table: Vec<u8>,
@@ -162,6 +169,23 @@ pub fn read_runs(file: &Path) -> Vec<RunVector> {
             twice: list(object, "twice").iter().map(nodes).collect(),
         })
         .collect()
+}
+
+pub fn read_ties(file: &Path) -> Vec<TiedVector> {
+    read_objects(file)
+        .iter()
+        .map(|object| TiedVector {
+            table: bytes(object, "table"),
+            ties: bytes(object, "ties"),
+            outcome: or_refusal(object, sets),
+        })
+        .collect()
+}
+
+fn sets(object: &Object) -> Vec<u64> {
+    let sets = list(object, "sets").iter();
+    let set = |value: &Value| u64::from_str_radix(value.text(), 16).expect("a hexadecimal set");
+    sets.map(set).collect()
 }
 
 fn nodes(list: &Value) -> Vec<usize> {

@@ -2,7 +2,7 @@
 
 #![allow(dead_code)] // each test file uses a part of this
 
-use bavzhrono::{analyse, render, resume, start, tick};
+use bavzhrono::{analyse, narrow, render, resume, start, tick};
 use bavzhrono::{
     Analysis, Closed, CodeSet, Completion, Mark, Refusal, Tick, BLOCK, MAX_NODES, MAX_TEXT,
     SIGNALS, TICK_ANSWERS,
@@ -82,6 +82,11 @@ impl Buffers {
     pub fn tick(&mut self, table: &[u8]) -> Result<Tick<'_>, Refusal> {
         tick(table, &mut self.answers)
     }
+
+    /// Into the start sets.
+    pub fn narrow(&mut self, table: &[u8], ties: &[u8]) -> Result<usize, Refusal> {
+        narrow(table, ties, &mut self.start_sets)
+    }
 }
 
 pub fn refused<T>(number: u32, node: usize) -> Result<T, Refusal> {
@@ -106,6 +111,10 @@ pub fn assert_refused(table: &[u8], number: u32, node: usize) {
     assert_eq!(lent.resume(table, &[]), refused(number, node));
     if number != 11 {
         assert_eq!(lent.tick(table), refused(number, node));
+    }
+    // Wrong ties come last.
+    for tie in [0, FILL] {
+        assert_eq!(lent.narrow(table, &[tie; SIGNALS]), refused(number, node));
     }
     assert_eq!(lent, before);
     assert_eq!(

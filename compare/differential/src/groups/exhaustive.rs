@@ -5,9 +5,11 @@ use compare::support::answers::every_list;
 use compare::support::cases::Call;
 use compare::support::every::{every_table, Letter};
 use compare::support::random::Random;
+use compare::support::ties::{tied, ABSENT};
 
+use super::first_difference;
 use crate::tally::{Difference, Tally};
-use crate::trials::{Analysis, Finding, Instant, Rendering};
+use crate::trials::{Analysis, Finding, Instant, Narrowing, Rendering};
 
 /// All kinds; an emit of the first and of the last signal; exits to the first three
 /// traps.
@@ -49,14 +51,7 @@ pub fn all(tally: &mut Tally, _random: &mut Random) -> Result<(), Difference> {
 }
 
 pub fn whole(tally: &mut Tally, _random: &mut Random) -> Result<(), Difference> {
-    let mut outcome = Ok(());
-    every_whole(|table| {
-        // The first difference is the one that counts.
-        if outcome.is_ok() {
-            outcome = every_call(tally, table);
-        }
-    });
-    outcome
+    first_difference(every_whole, |table| every_call(tally, table))
 }
 
 type Visit<'a> = &'a mut dyn FnMut(&[u8]) -> Result<(), Difference>;
@@ -77,7 +72,7 @@ fn all_from(table: &mut Vec<u8>, visit: Visit) -> Result<(), Difference> {
 }
 
 /// Of this size alone: smaller ones are among those of `all`.
-fn every_whole(mut visit: impl FnMut(&[u8])) {
+fn every_whole(visit: &mut dyn FnMut(&[u8])) {
     every_table(&STATEMENTS, WHOLE_NODES, |table| {
         if table.len() == 2 * WHOLE_NODES {
             visit(table);
@@ -92,6 +87,7 @@ fn every_call(tally: &mut Tally, table: &[u8]) -> Result<(), Difference> {
     for length in LENT {
         tally.compare(&Finding::with_answers(table, length))?;
     }
+    tally.compare(&Narrowing::new(table, &tied(&[(3, ABSENT)])))?;
     every_answer_list(tally, Call::Start, table, &vec![9; size])?;
     // A refused table is refused from any state.
     let states = if is_accepted { 1 << size } else { 1 };
@@ -129,7 +125,7 @@ mod tests {
         assert_eq!(tables, 1_118_481);
 
         let mut tables = 0;
-        every_whole(|table| {
+        every_whole(&mut |table| {
             tables += 1;
             assert!(compare::table::read(table).is_ok());
         });

@@ -10,6 +10,7 @@ pub mod blocks;
 mod exhaustive;
 mod instants;
 mod lengths;
+pub mod narrowings;
 pub mod refusals;
 pub mod runs;
 mod tables;
@@ -24,7 +25,7 @@ pub struct Group {
     pub random: bool,
 }
 
-pub const GROUPS: [Group; 39] = [
+pub const GROUPS: [Group; 47] = [
     Group {
         name: "Table W and the edges",
         run: tables::edges,
@@ -220,7 +221,61 @@ pub const GROUPS: [Group; 39] = [
         run: blocks::lengths,
         random: true,
     },
+    Group {
+        name: "narrowed sets at the edges, with ties, sets and answers of all lengths",
+        run: narrowings::edges,
+        random: false,
+    },
+    Group {
+        name: narrowings::ALL,
+        run: narrowings::all,
+        random: false,
+    },
+    Group {
+        name: narrowings::LONGER,
+        run: narrowings::longer,
+        random: false,
+    },
+    Group {
+        name: narrowings::NESTED,
+        run: narrowings::nested,
+        random: false,
+    },
+    Group {
+        name: "narrowed sets of programs up to 1,024 nodes",
+        run: narrowings::drawn,
+        random: true,
+    },
+    Group {
+        name: "narrowed sets of damaged tables",
+        run: narrowings::damaged,
+        random: true,
+    },
+    Group {
+        name: "ties with every byte at every place",
+        run: narrowings::every_byte,
+        random: false,
+    },
+    Group {
+        name: "ties, narrowed sets and answers of all lengths",
+        run: narrowings::lengths,
+        random: true,
+    },
 ];
+
+/// Compares each table that is visited. The first difference is the one that counts.
+fn first_difference(
+    every: impl FnOnce(&mut dyn FnMut(&[u8])),
+    mut compare: impl FnMut(&[u8]) -> Result<(), Difference>,
+) -> Result<(), Difference> {
+    let mut outcome = Ok(());
+    every(&mut |table| {
+        if outcome.is_ok() {
+            outcome = compare(table);
+        }
+    });
+    outcome
+}
 
 fn compare_all(tally: &mut Tally, cases: &[Case]) -> Result<(), Difference> {
     for case in cases {

@@ -1,16 +1,18 @@
 //! Refusals: what is returned says all, and nothing that is lent changes. Each
 //! call is made with answers too short, exact and longer.
 
+use compare::instant::SIGNALS;
 use compare::support::cases::Call;
 use compare::support::damage::{bad_table, BAD_NUMBERS};
 use compare::support::edges::edges as edge_tables;
 use compare::support::families;
 use compare::support::programs::{accepted, balanced, SHAPES};
 use compare::support::random::Random;
+use compare::support::ties::ABSENT;
 use compare::{checks, listing, Refusal};
 
 use crate::tally::{Difference, Tally};
-use crate::trials::{Analysis, Finding, Instant, Rendering, Trial};
+use crate::trials::{Analysis, Finding, Instant, Narrowing, Rendering, Trial};
 
 /// The entries of an answer.
 const ANSWERS: [usize; 6] = [0, 1, 2, 3, 4, 8];
@@ -76,6 +78,10 @@ fn every_call(tally: &mut Tally, table: &[u8]) -> Result<(), Difference> {
     }
     every_answer(tally, &Finding::new(table))?;
     every_answer(tally, &Finding::with_answers(table, 511))?;
+    every_answer(
+        tally,
+        &Narrowing::with_sets(table, &[ABSENT; SIGNALS], size + 5),
+    )?;
     let text_length = listing(table).len();
     every_answer(tally, &Rendering::new(table, text_length))?;
     every_answer(tally, &Rendering::new(table, text_length - 1))

@@ -12,6 +12,7 @@ use compare::support::runs::{self, every_instant};
 use compare::table::{self, Tree};
 use compare::Sets;
 
+use super::first_difference;
 use crate::tally::{Difference, Tally};
 use crate::trials::{Analysis, Instant};
 
@@ -64,18 +65,15 @@ fn every_dropped(visit: Visit) {
     });
 }
 
-/// The tables that are accepted. The first difference is the one that counts.
+/// The tables that are accepted.
 fn every_program(
     every: fn(Visit),
     mut compare: impl FnMut(&[u8]) -> Result<(), Difference>,
 ) -> Result<(), Difference> {
-    let mut outcome = Ok(());
-    every(&mut |table| {
-        if outcome.is_ok() && Sets::of(table).is_ok() {
-            outcome = compare(table);
-        }
-    });
-    outcome
+    first_difference(every, |table| match Sets::of(table) {
+        Ok(_) => compare(table),
+        Err(_) => Ok(()),
+    })
 }
 
 fn every_run(tally: &mut Tally, table: &[u8]) -> Result<(), Difference> {

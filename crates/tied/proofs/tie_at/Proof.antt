@@ -3,6 +3,8 @@ use borrow.Author.Needs.{needs}
 use native.Mathlib.Omega.{arith}
 use mathlib.Core.Path.{refl}
 use borrow.Author.Tests.{le-leb, lt-leb}
+use denote.Ref.{now}
+use lib.ListN.{getD}
 use Rattle.tied.proofs.tie_at.Statement.{statement}
 use Rattle.tied.proofs.tie_at.Tie as tie
 
@@ -13,13 +15,13 @@ element-copy-out-if1 : tie.Need-element-copy-out-if1
 element-copy-out-if1 c = search needs
 
 returns : tie.Need-returns
-returns c = rw (le-leb _ _ (c .if1 .taken)) refl
+returns c = let a = c .before .before .args in rw (le-leb (getD (now (a .lowest)) (a .signal) 0) (a .node) (omega (arith, c .if1 .taken))) refl
 
 shared-slice-read-result : tie.Need-shared-slice-read-result
 shared-slice-read-result c = search needs
 
 returns-2 : tie.Need-returns-2
-returns-2 c = rw (lt-leb _ _ (c .before .if1 .left)) refl
+returns-2 c = let a = c .before .before .before .args in rw (lt-leb (getD (now (a .lowest)) (a .signal) 0) (a .node) (omega (arith, c .before .if1 .left))) refl
 
 pub tie-at-spec : {M : Type 1} → statement M
 tie-at-spec = tie.close (tie.spec mul-if1 element-copy-out-if1 returns shared-slice-read-result returns-2)
