@@ -134,5 +134,6 @@ run target/bin/instants "cat crates/instants/stdout" crates/instants/stdin
 run target/bin/texts "cat crates/texts/stdout" crates/texts/stdin
 run target/bin/ticks "cat crates/ticks/stdout" crates/ticks/stdin
 run target/bin/partitions "cat crates/partitions/stdout" crates/partitions/stdin
+run target/bin/narrowings "cat crates/narrowings/stdout" crates/narrowings/stdin
 echo "$passed passed, $failed failed"
 [ "$failed" -eq 0 ]

@@ -7,3 +7,4 @@ pub mod Theorems
 pub mod Words
 pub mod Narrows
 pub mod OfNarrow
+pub mod Examples

@@ -3,3 +3,4 @@ pub mod Narrowed
 pub mod Theorems
 pub mod Passes
 pub mod Calls
+pub mod Examples
