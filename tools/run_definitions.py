@@ -289,7 +289,7 @@ use Rattle.blocks.specs.Block.{word as wordOf, firstCheck, secondCheck, checksM
 use Rattle.blocks.specs.Editions.{fileFits, blocksIn, blockAt, isFor, counted, partsOf, completes, whole, tableOf}
 use Rattle.blocks.specs.Fetching.{handed}
 use Rattle.analysis.specs.Analysis.{checked}
-use Rattle.tied.specs.Passes.{wordsOf}
+use Rattle.tied.specs.Narrowed.{wordsOf}
 use Rattle.tied.specs.Calls.{setsAfter}
 """
 UNFOLDING = "unfolding word tokens classOf wordOf firstCheck secondCheck checksMatch lengthFits zeroFilled good fileFits blocksIn blockAt isFor counted partsOf completes whole tableOf handed checked wordsOf setsAfter"

@@ -29,7 +29,7 @@ use Rattle.table.proofs.Sizing.{measured}
 use Rattle.table.proofs.Surveying.{few-nodes}
 use Rattle.analysis.specs.Steps.{setOfStmt}
 use Rattle.analysis.specs.Passes.{Filled, wordsOf, onto, flagsOf, Fillable, contextWord, contextsOf, marksOf, Ready, Accepting, Walkable}
-use Rattle.analysis.specs.Analysis.{checkRoom, checked, CallChecked, SizesChecked, roomFor, answerOf, refusalOf, kOf, aOf, sOf, markOf, column, verdictFor, Analysis}
+use Rattle.analysis.specs.Analysis.{checkRoom, checked, TableChecked, SizesChecked, roomFor, answerOf, refusalOf, kOf, aOf, sOf, markOf, column, verdictFor, Analysis}
 use Rattle.analysis.specs.declared.Acceptance.{Acceptance}
 use Rattle.analysis.specs.declared.Analysed.{Analysed}
 use Rattle.analysis.specs.declared.Analysed.the-variants.{Done, Refused}
@@ -76,30 +76,30 @@ pub verdict-refused : (v : Verdict) (c : Check) (number node : ℕ) → c ≡ ch
 verdict-refused (passed p) c number node e z = let f : RefusedCheck number node ≡ Passed = sym z ∙ e in cc
 verdict-refused (refused x y) c number node e z = let f : RefusedCheck number node ≡ RefusedCheck x y = sym z ∙ e in cc
 
--- ---- the returns of `check_call`
+-- ---- the returns of `check_table`
 
 module _ {t : List ℕ} {room : Bool} where
-  refused-call : {r : Acceptance} (number node : ℕ) → checked room t ≡ refused number node → r .check ≡ RefusedCheck number node → CallChecked room t r
-  refused-call number node v e = record { answer = e ∙ sym (ap checkOf v); loops = λ z. absurd (not-both e z); ready = λ z. absurd (not-both e z) }
+  not-passed : {r : Acceptance} (number node : ℕ) → checked room t ≡ refused number node → r .check ≡ RefusedCheck number node → TableChecked room t r
+  not-passed number node v e = record { answer = e ∙ sym (ap checkOf v); loops = λ z. absurd (not-both e z); ready = λ z. absurd (not-both e z) }
 
   module _ {c : Check} (e : c ≡ lengthCheck t) where
-    pub length-fails : (loops number node : ℕ) → c ≡ RefusedCheck number node → CallChecked room t (record { check = c; loops = loops })
-    length-fails loops number node z = refused-call number node (length-refused t room c number node e z) z
+    pub length-fails : (loops number node : ℕ) → c ≡ RefusedCheck number node → TableChecked room t (record { check = c; loops = loops })
+    length-fails loops number node z = not-passed number node (length-refused t room c number node e z) z
 
     module _ (z : c ≡ Passed) {b : Check} (eb : b ≡ passIf 3 room) where
-      pub room-fails : (loops number node : ℕ) → b ≡ RefusedCheck number node → CallChecked room t (record { check = b; loops = loops })
-      room-fails loops number node f = refused-call number node (room-refused t room c e z b eb number node f) f
+      pub room-fails : (loops number node : ℕ) → b ≡ RefusedCheck number node → TableChecked room t (record { check = b; loops = loops })
+      room-fails loops number node f = not-passed number node (room-refused t room c e z b eb number node f) f
 
-      pub call-checked : {r : Acceptance} → b ≡ Passed → Accepting t r → CallChecked room t r
-      call-checked f o = record { answer = o .answer ∙ ap checkOf (sym (room-passed t room c e z b eb f)); loops = o .loops; ready = o .ready }
+      pub table-checked : {r : Acceptance} → b ≡ Passed → Accepting t r → TableChecked room t r
+      table-checked f o = record { answer = o .answer ∙ ap checkOf (sym (room-passed t room c e z b eb f)); loops = o .loops; ready = o .ready }
 
 -- a call that passed
-module _ {t : List ℕ} {room : Bool} {r : Acceptance} (o : CallChecked room t r) where
-  pub call-refused : (number node : ℕ) → r .check ≡ RefusedCheck number node → checked room t ≡ refused number node
-  call-refused number node z = verdict-refused (checked room t) (r .check) number node (o .answer) z
+module _ {t : List ℕ} {room : Bool} {r : Acceptance} (o : TableChecked room t r) where
+  pub table-refused : (number node : ℕ) → r .check ≡ RefusedCheck number node → checked room t ≡ refused number node
+  table-refused number node z = verdict-refused (checked room t) (r .check) number node (o .answer) z
 
-  pub call-passed : r .check ≡ Passed → (room ≡ true) × (checked room t ≡ passed (programOf t))
-  call-passed z =
+  pub table-passed : r .check ≡ Passed → (room ≡ true) × (checked room t ≡ passed (programOf t))
+  table-passed z =
       let (p, e) = answer-passed (checked room t) (sym z ∙ o .answer) in
       let (suffices, v) = checked-program room t p e in
       (suffices, e ∙ sym v ∙ o .ready z .verdict)
@@ -118,7 +118,7 @@ module _ {t : List ℕ} {room : Bool} {r : Acceptance} (o : CallChecked room t r
     -- they are filled in, in the place of old
     pub sizes-checked : (old sizes : List ℕ) → maxNodes ≤ length sizes → sizes ≡ onto (sizesOf (programOf t)) old → SizesChecked room t sizes Passed
     sizes-checked old sizes long is =
-        let (suffices, verdict) = call-passed z in
+        let (suffices, verdict) = table-passed z in
         let few = few-nodes t fine in
         record {
           answer = sym z ∙ o .answer;

@@ -8,7 +8,7 @@ use native.Mathlib.Omega.{arith}
 use lib.Dec.{ltb, nltb→le}
 use lib.ListN.{getD}
 use Rattle.codes.specs.Codes.{Codes, union, given, withoutEnded, word}
-use Rattle.codes.specs.Words.{_∋_, unionOf, withoutEndedOf}
+use Rattle.codes.specs.Words.{unionOf, withoutEndedOf}
 use Rattle.codes.specs.Theorems.{AtMost}
 use Rattle.codes.proofs.Bools.{cannot-pass, toNot}
 use Rattle.codes.proofs.Members.{only-in}

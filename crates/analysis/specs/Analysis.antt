@@ -6,7 +6,7 @@ use mathlib.Core.List.{List, [], map}
 use lib.Dec.{leb}
 use lib.ListN.{length}
 use Rattle.esterel.specs.Limits.{maxNodes}
-use Rattle.esterel.specs.Statement.{Stmt, size, loopDepth}
+use Rattle.esterel.specs.Statement.{size, loopDepth}
 use Rattle.esterel.specs.Table.{Verdict, passed, refused, scan, checkLength}
 use Rattle.esterel.specs.Checks.{checkProgram, Line, line, listing}
 use Rattle.table.specs.declared.Check
@@ -29,7 +29,7 @@ unfoldable pub checked : Bool → List ℕ → Verdict
 checked room t = checkLength t (checkRoom room (checkProgram (scan t 0 [])))
 
 -- what they answer, where `room` says whether the lent buffers suffice
-pub record CallChecked (room : Bool) (t : List ℕ) (r : Acceptance) : Type 0 where
+pub record TableChecked (room : Bool) (t : List ℕ) (r : Acceptance) : Type 0 where
   pub answer : r .check ≡ checkOf (checked room t)
   pub loops : r .check ≡ Check.Passed → r .loops ≡ loopDepth (programOf t)
   pub ready : r .check ≡ Check.Passed → Ready t

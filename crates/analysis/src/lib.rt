@@ -13,7 +13,7 @@ ghost use Rattle.table.specs.Check.{WellSized, passIf};
 ghost use Rattle.analysis.specs.Steps.{pauseSet, sequenceOf, codesOf, underFirstOf, underSecondOf};
 ghost use Rattle.analysis.specs.Contexts.{TopOf, OnlyOf, SecondOf, Descended};
 ghost use Rattle.analysis.specs.Passes.{Placed, onto, loopsCheck, wordsOf, flagsOf, Fillable, contextsOf, marksOf, Walkable, Accepting};
-ghost use Rattle.analysis.specs.Analysis.{CallChecked, SizesChecked, refusalOf, roomFor, Analysis};
+ghost use Rattle.analysis.specs.Analysis.{TableChecked, SizesChecked, refusalOf, roomFor, Analysis};
 use table::Check;
 use table::Kind;
 
@@ -349,8 +349,8 @@ fn check_room(room: bool) -> Check
 }
 
 // Checks 1, 2, 3 and 4 to 11 of a call; `room` says whether the lent buffers suffice.
-pub fn check_call(table: &[u8], room: bool) -> Acceptance
-    ensures { λ r. ⌜ CallChecked room (now (table .entry)) r ⌝ }
+pub fn check_table(table: &[u8], room: bool) -> Acceptance
+    ensures { λ r. ⌜ TableChecked room (now (table .entry)) r ⌝ }
 {
     let length = table::check_length(table);
     let Check::Passed = length else {
@@ -374,7 +374,7 @@ pub fn check_sized(table: &[u8], room: bool, sizes: &mut [u16]) -> Check
     requires { ⌜ maxNodes ≤ length (now sizes) ⌝ }
     ensures { λ r. ⌜ SizesChecked room (now (table .entry)) (now (sizes .exit)) r ⌝ }
 {
-    let accepted = check_call(table, room);
+    let accepted = check_table(table, room);
     let check = accepted.check;
     let Check::Passed = check else {
         return check;
@@ -425,7 +425,7 @@ pub fn analyse(
         contexts.len(),
         marks.len(),
     );
-    let accepted = check_call(table, room);
+    let accepted = check_table(table, room);
     let check = accepted.check;
     let Check::Passed = check else {
         return refused(check);

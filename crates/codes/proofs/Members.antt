@@ -87,6 +87,30 @@ meets-common a b low = (
   λ (k, e, f). meets-in a b k (low k f) e f,
 )
 
+-- ---- what has more codes gives more
+
+abbrev pub Within : Codes → Codes → Type 0
+Within a b = (k : ℕ) → a k ≡ true → b k ≡ true
+
+pub without-ended-within : {a d : Codes} → Within a d → Within (withoutEnded a) (withoutEnded d)
+without-ended-within f zero e = e
+without-ended-within f (suc k) e = f (suc k) e
+
+pub caught-within : {a d : Codes} → Within a d → Within (caught a) (caught d)
+caught-within {a} {d} f k e = let (j, g, z) = caught-out a k e in rw (← z) (caught-in d j (f j g))
+
+module _ {a b d e : Codes} (f : Within a d) (g : Within b e) where
+  pub union-within : Within (union a b) (union d e)
+  union-within k z = ⊎-elim (λ x. inl-true (d k) (e k) (f k x)) (λ x. inr-true (d k) (e k) (g k x)) (either (a k) (b k) z)
+
+  pub sequence-within : Within (union (withoutEnded a) (given (a 0) b)) (union (withoutEnded d) (given (d 0) e))
+  sequence-within k z =
+      ⊎-elim (λ x. inl-true (withoutEnded d k) (d 0 && e k) (without-ended-within f k x)) (λ x. inr-true (withoutEnded d k) (d 0 && e k) (both (f 0 (left (a 0) (b k) x)) (g k (right (a 0) x))))
+      (either (withoutEnded a k) (a 0 && b k) z)
+
+  pub larger-within : Within (larger a b) (larger d e)
+  larger-within k z = let (i, j, x, y, m) = larger-out a b k z in rw (← m) (larger-in d e i j (f i x) (g j y))
+
 -- ---- the highest code that each can have
 
 pub empty-most : (n : ℕ) → AtMost n empty

@@ -13,7 +13,6 @@ use Rattle.codes.proofs.Bools.{both, left, right}
 use Rattle.esterel.specs.Limits.{maxNodes, signals}
 use Rattle.esterel.specs.Statement.{Stmt, size, nodes}
 use Rattle.esterel.specs.Table.{Verdict, passed, refused}
-use Rattle.esterel.specs.Checks.{verdict}
 use Rattle.esterel.specs.Instant.{Result, closed, starved, stuck, start, resume, admitted}
 use Rattle.esterel.specs.Outcome.{emitted, emissionBytes, outcome}
 use Rattle.esterel.specs.Theorems.{Accepted, Closes, NeedsMore}

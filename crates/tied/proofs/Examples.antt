@@ -1,11 +1,12 @@
 -- The worked examples of specs/Examples.antt, by computing.
 use mathlib.Core.Path.{refl}
 use Rattle.codes.specs.Codes.{word}
-use Rattle.tied.specs.Passes.{wordsOf}
+use Rattle.analysis.specs.Analysis.{checked}
+use Rattle.tied.specs.Narrowed.{wordsOf}
 use Rattle.tied.specs.Examples.{Examples}
 
 pub examples : Examples
-unfolding word wordsOf
+unfolding word wordsOf checked
 examples =
     record {
       choice-unknown = refl;
@@ -20,5 +21,10 @@ examples =
       suspend-untested = refl;
       takes-none = refl;
       takes-one = refl;
+      w6-refused = refl;
+      w6-first = refl;
+      body-refused = refl;
+      body-passed = refl;
+      short-refused = refl;
       inside-takes-one = refl;
     }

@@ -20,7 +20,7 @@ use Rattle.table.specs.declared.Kind.{Kind}
 use Rattle.table.proofs.Bytes.{table-length, kind-byte, field-byte}
 use Rattle.table.proofs.Surveying.{few-nodes}
 use Rattle.table.proofs.Views.{spans}
-use Rattle.tied.specs.Ties.{unknown, tiedPresent, Ties, tieOf}
+use Rattle.tied.specs.Ties.{tiedPresent, Ties, tieOf}
 use Rattle.tied.specs.Narrowed.{tiesAt}
 use Rattle.tied.specs.Theorems.{InBody}
 use Rattle.tied.specs.Passes.{Known}
@@ -57,7 +57,7 @@ pub record Lowest (p : Stmt) (s i low : ℕ) : Type 0 where
   pub all : (node : ℕ) (body : Stmt) → i ≤ node → statementAt (nodes p) node ≡ one (signal s) body → low ≤ node - size body
 
 -- so that it tells whether node i stands in the body of one of them
-pub tie-here : (c : Ties) (p : Stmt) (s i low b : ℕ) → i < size p → Lowest p s (suc i) low → tieOf b ≡ c s → tieOf (cond (leb low i) 0 b) ≡ tiesAt c p i s
+tie-here : (c : Ties) (p : Stmt) (s i low b : ℕ) → i < size p → Lowest p s (suc i) low → tieOf b ≡ c s → tieOf (cond (leb low i) 0 b) ≡ tiesAt c p i s
 tie-here c p s i low b h o e = go (decLe low i)
   where
     go : Dec (low ≤ i) → tieOf (cond (leb low i) 0 b) ≡ tiesAt c p i s
@@ -105,7 +105,7 @@ module _ (p : Stmt) (s i low first : ℕ) (o : Lowest p s (suc i) low) (ends : f
           go (no l) = let x = o .all node body (omega arith) e in omega arith
 
   -- one of any number
-  pub lower : (k : Kind) (f : ℕ) → k ≡ kindOf (kind (statementAt (nodes p) i)) → f ≡ field (statementAt (nodes p) i) → s ≡ f → Lowest p s i (cond (isSignal k && ltb first low) first low)
+  lower : (k : Kind) (f : ℕ) → k ≡ kindOf (kind (statementAt (nodes p) i)) → f ≡ field (statementAt (nodes p) i) → s ≡ f → Lowest p s i (cond (isSignal k && ltb first low) first low)
   lower k f ek ef es = go (isSignal k) refl
     where
       is-one : (q : Stmt) → statementAt (nodes p) i ≡ one (signal s) q → Dec (first < low) → Lowest p s i (cond (ltb first low) first low)
@@ -118,7 +118,7 @@ module _ (p : Stmt) (s i low first : ℕ) (o : Lowest p s (suc i) low) (ends : f
           is-one q (e ∙ ap (λ x. one (signal x) q) (sym (es ∙ ef))) (decLt first low)
       go false z = same-low (λ q e. let x : true ≡ false = sym (is-signal (statementAt (nodes p) i) s q e) ∙ ap isSignal (sym ek) ∙ z in let y : _≡_ {A = ℕ} 0 1 = cc in omega arith)
 
-  pub keep : (f : ℕ) → f ≡ field (statementAt (nodes p) i) → (s ≡ f → ⊥) → Lowest p s i low
+  keep : (f : ℕ) → f ≡ field (statementAt (nodes p) i) → (s ≡ f → ⊥) → Lowest p s i low
   keep f ef d = same-low (λ q e. d (sym (ap field e) ∙ sym ef))
 
 -- from node i on, what is known of each node's own signal is in `known`, and the lowest nodes are in `lowest`

@@ -1,9 +1,10 @@
 pub mod Spots
 pub mod Replaced
+pub mod Answered
 pub mod Fewer
 pub mod Some
-pub mod Known
 pub mod Theorems
+pub mod Known
 pub mod Words
 pub mod Narrows
 pub mod OfNarrow

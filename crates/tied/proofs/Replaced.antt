@@ -1,19 +1,19 @@
 -- A start under ties is a start of the statement whose tied tests are replaced by the branch that they take.
 use mathlib.Core.Path.{_≡_, refl, ap, ap₂, _∙_, fun-ext}
-use mathlib.Core.List.{List, [], _∷_, _++_}
+use mathlib.Core.List.{List, [], _∷_}
 use Prim.Native.Nat.{ℕ, zero, suc, _+_}
 use Rattle.esterel.specs.Codes.{Codes, union, given, withoutEnded, larger, caught}
 use Rattle.esterel.specs.Statement.{nothing, pause, emit, exit, signal, suspend, loop, trap, present, sequence, parallel, Stmt, leaf, one, two, size}
 use Rattle.esterel.specs.Sets.{startSet}
-use Rattle.esterel.specs.Instant.{Mode, started, Entry, entry, Result, closed, starved, stuck, zeros, single, enter, onto, zerosThen, thenZeros, andThen, beside, body, catch, start}
-use Rattle.tied.specs.Ties.{Tie, unknown, tiedAbsent, tiedPresent, Ties, inside, test, startTied}
+use Rattle.esterel.specs.Instant.{started, Entry, entry, Result, zeros, single, enter, onto, zerosThen, thenZeros, andThen, beside, body, catch, start}
+use Rattle.tied.specs.Ties.{Tie, unknown, tiedAbsent, tiedPresent, Ties, inside, test, startTied, byTie}
 use Rattle.tied.specs.Narrowed.{tested, narrowed, tiesUnder}
-use Rattle.tied.specs.Theorems.{branch, replaced, Alike, close, starve, stick}
+use Rattle.tied.specs.Theorems.{replaced, Alike, close, starve, stick}
 use Rattle.tied.proofs.Spots.{under-stays}
 
 -- ---- the sets
 
-tested-as : (t : Tie) (a b : Codes) (w p q : Stmt) → a ≡ startSet p → b ≡ startSet q → union a b ≡ startSet w → tested t a b ≡ startSet (branch t w p q)
+tested-as : (t : Tie) (a b : Codes) (w p q : Stmt) → a ≡ startSet p → b ≡ startSet q → union a b ≡ startSet w → tested t a b ≡ startSet (byTie t w q p)
 tested-as unknown a b w p q ea eb e = e
 tested-as tiedAbsent a b w p q ea eb e = eb
 tested-as tiedPresent a b w p q ea eb e = ea
@@ -37,7 +37,7 @@ pub none-replaced : (c : Ties) → ((s : ℕ) → c s ≡ unknown) → (p : Stmt
 none-replaced c o (leaf l) = refl
 none-replaced c o (one u p) = ap (one u) (none-replaced (tiesUnder u c) (λ s. under-stays u c s (o s)) p)
 none-replaced c o (two (present s) p q) =
-    ap (λ t. branch t (two (present s) (replaced c p) (replaced c q)) (replaced c p) (replaced c q)) (o s) ∙ ap₂ (two (present s)) (none-replaced c o p) (none-replaced c o q)
+    ap (λ t. byTie t (two (present s) (replaced c p) (replaced c q)) (replaced c q) (replaced c p)) (o s) ∙ ap₂ (two (present s)) (none-replaced c o p) (none-replaced c o q)
 none-replaced c o (two sequence p q) = ap₂ (two sequence) (none-replaced c o p) (none-replaced c o q)
 none-replaced c o (two parallel p q) = ap₂ (two parallel) (none-replaced c o p) (none-replaced c o q)
 
@@ -108,7 +108,7 @@ module _ {next next′ : List ℕ → Result} (go : (r : List ℕ) → Alike (ne
 
 -- a test, from its branches, for any answers
 module _ (n m s : ℕ) (p q p′ q′ : Stmt) {then other : List ℕ → Result} (first : (k : ℕ) (r : List ℕ) → Alike (then r) (start k p′ r)) (last : (k : ℕ) (r : List ℕ) → Alike (other r) (start k q′ r)) where
-  test-alike : (t : Tie) (ans : List ℕ) → Alike (test t (λ r. enter (n + (size p + size q)) started (thenZeros (then r) (size q))) (λ r. enter (n + (size p + size q)) started (zerosThen (size p) (other r))) ans) (start m (branch t (two (present s) p′ q′) p′ q′) ans)
+  test-alike : (t : Tie) (ans : List ℕ) → Alike (test t (λ r. enter (n + (size p + size q)) started (thenZeros (then r) (size q))) (λ r. enter (n + (size p + size q)) started (zerosThen (size p) (other r))) ans) (start m (byTie t (two (present s) p′ q′) q′ p′) ans)
   test-alike unknown [] = starve
   test-alike unknown (suc a ∷ ans) = enter-alike _ _ (alike-zeros (size q) (size q′) (first m ans))
   test-alike unknown (zero ∷ ans) = enter-alike _ _ (zeros-alike (size p) (size p′) (last (m + size p′) ans))

@@ -1,10 +1,10 @@
 -- Whatever is tied, each node of an accepted program can finish with some code.
-use mathlib.Core.Path.{_≡_, refl}
+use mathlib.Core.Path.{_≡_}
 use mathlib.Core.Bool.{true}
 use Prim.Native.Nat.{ℕ, zero, suc, _+_, _-_, max}
 use Rattle.codes.proofs.Bools.{inl-true}
 use Rattle.codes.proofs.Members.{only-in, larger-in, sequence-first, sequence-second, caught-in}
-use Rattle.esterel.specs.Codes.{Codes, union, given, withoutEnded, larger, catchCode, caught}
+use Rattle.esterel.specs.Codes.{Codes, union, given, withoutEnded, catchCode}
 use Rattle.esterel.specs.Statement.{nothing, pause, emit, exit, signal, suspend, loop, trap, present, sequence, parallel, Stmt, leaf, one, two, size, nodes}
 use Rattle.esterel.specs.Sets.{startSet}
 use Rattle.esterel.specs.Outcome.{statementAt}

@@ -3,7 +3,7 @@ use mathlib.Core.Path.{_≡_, refl, sym, ap, _∙_}
 use mathlib.Core.Bool.{Bool, true, false, cond}
 use mathlib.Core.Logic.{_⊎_, inl, inr}
 use mathlib.Core.List.{List, [], _∷_, _++_, map, map-append}
-use Prim.Native.Nat.{ℕ, suc, _+_, _-_, _≤_, _<_}
+use Prim.Native.Nat.{ℕ, suc, _+_, _-_, _<_}
 use native.Mathlib.Omega.{arith}
 use lib.Dec.{eqb}
 use lib.ListN.{length, getD, length-map, length-append, List·getD-map, List·getD-append}
@@ -31,7 +31,7 @@ statements c (two b p q) = simp (map-append, statements c p, statements c q)
 pub length-spots : (c : Ties) (p : Stmt) → length (spots c p) ≡ size p
 length-spots c p = sym (length-map (spots c p) stmtIn) ∙ ap length (statements c p) ∙ length-nodes p
 
-pub spot-is : (c : Ties) (p : Stmt) (i : ℕ) → spotAt c p i ≡ at (tiesAt c p i) (statementAt (nodes p) i)
+spot-is : (c : Ties) (p : Stmt) (i : ℕ) → spotAt c p i ≡ at (tiesAt c p i) (statementAt (nodes p) i)
 spot-is c p i = go (spotAt c p i) ∙ ap (at (tiesAt c p i)) (sym (List·getD-map stmtIn (spots c p) i outside) ∙ ap (λ l. getD l i (leaf nothing)) (statements c p))
   where
     go : (x : Spot) → x ≡ at (tiesIn x) (stmtIn x)

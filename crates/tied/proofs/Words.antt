@@ -1,6 +1,6 @@
 -- Each node's narrowed set from its children's, on words.
 use mathlib.Core.Path.{_≡_, refl, sym, ap, ap₂, _∙_}
-use mathlib.Core.Bool.{true, false}
+use mathlib.Core.Bool.{false}
 use mathlib.Core.List.{List}
 use Prim.Native.Nat.{ℕ, _+_, _-_, _*_, _≤_, _<_}
 use native.Mathlib.Omega.{arith}
@@ -19,15 +19,15 @@ use Rattle.table.proofs.Filling.{map-at, Filling, filling-at, filling-next, fil
 use Rattle.table.proofs.Views.{leaf-of, one-of, two-of, has-last}
 use Rattle.analysis.specs.Steps.{codesOf}
 use Rattle.analysis.proofs.Nodes.{leaf-step, one-step, two-step, few, kind-is, field-is}
-use Rattle.tied.specs.Ties.{Tie, unknown, tiedAbsent, tiedPresent, Ties, tieOf}
-use Rattle.tied.specs.Narrowed.{tiesUnder, at, narrowedIn, spots, outside, spotAt, tiesAt, narrowedAt}
-use Rattle.tied.specs.Theorems.{branch, replaced}
-use Rattle.tied.specs.Passes.{testedOf, codesUnder, Sound, Known, NextSet, wordIn, wordsOf, SetsFilled}
+use Rattle.tied.specs.Ties.{Tie, unknown, tiedAbsent, tiedPresent, Ties, tieOf, byTie}
+use Rattle.tied.specs.Narrowed.{tiesUnder, at, narrowedIn, spots, outside, spotAt, tiesAt, narrowedAt, wordIn, wordsOf}
+use Rattle.tied.specs.Theorems.{replaced}
+use Rattle.tied.specs.Passes.{testedOf, codesUnder, Sound, Known, NextSet, SetsFilled}
 use Rattle.tied.proofs.Replaced.{narrowed-as}
 use Rattle.tied.proofs.Spots.{length-spots, narrowed-at, under-one, under-two}
 use Rattle.tied.proofs.Theorems.{fewer}
 
-test-word : (t : Tie) (q r : Stmt) (s : ℕ) → testedOf t (word (startSet q)) (word (startSet r)) ≡ word (startSet (branch t (two (present s) q r) q r))
+test-word : (t : Tie) (q r : Stmt) (s : ℕ) → testedOf t (word (startSet q)) (word (startSet r)) ≡ word (startSet (byTie t (two (present s) q r) r q))
 test-word unknown q r s = union-word (startSet q) (startSet r)
 test-word tiedAbsent q r s = refl
 test-word tiedPresent q r s = refl

@@ -13,7 +13,7 @@ use Rattle.table.specs.declared.Check
 use Rattle.table.specs.declared.Check.{Check}
 use Rattle.analysis.specs.Analysis.{checked}
 use Rattle.tied.specs.Ties.{tiesOf}
-use Rattle.tied.specs.Passes.{wordsOf}
+use Rattle.tied.specs.Narrowed.{wordsOf}
 use Rattle.tied.specs.declared.Narrowed.{Narrowed}
 use Rattle.tied.specs.declared.Narrowed.the-variants.{Done, Refused}
 

@@ -1,16 +1,31 @@
 -- Worked examples, as one statement. They are proved in proofs/Examples.antt.
+use Prim.Native.Nat.{ℕ}
 use mathlib.Core.Path.{_≡_}
-use mathlib.Core.List.{[], _∷_}
+use mathlib.Core.List.{List, [], _∷_, _++_}
 use Rattle.esterel.specs.Statement.{nothing, pause, exit, signal, suspend, loop, trap, present, sequence, Stmt, leaf, one, two}
-use Rattle.esterel.specs.Instant.{started, entry, closed, starved}
-use Rattle.tied.specs.Ties.{Ties, tiedAbsent, tiedPresent, noneTied, tie, startTied}
-use Rattle.tied.specs.Passes.{wordsOf}
+use Rattle.esterel.specs.Table.{passed, refused}
+use Rattle.esterel.specs.Instant.{started, entry, closed, starved, zeros}
+use Rattle.tied.specs.Ties.{Ties, tiesOf, noneTied, startTied}
+use Rattle.tied.specs.Narrowed.{wordsOf}
+use Rattle.tied.specs.Calls.{verdictFor}
 
+-- signal 5 by its byte: 1 is absent, 2 present; no other is tied
 abbrev pub absent5 : Ties
-absent5 = tie 5 tiedAbsent noneTied
+absent5 = tiesOf (0 ∷ 0 ∷ 0 ∷ 0 ∷ 0 ∷ 1 ∷ [])
 
 abbrev pub present5 : Ties
-present5 = tie 5 tiedPresent noneTied
+present5 = tiesOf (0 ∷ 0 ∷ 0 ∷ 0 ∷ 0 ∷ 2 ∷ [])
+
+-- the 256 bytes of a call, with that of signal 5
+abbrev pub bytes5 : ℕ → List ℕ
+bytes5 b = zeros 5 ++ (b ∷ zeros 250)
+
+-- W6, a loop of present 5 then nothing else pause, and its body alone
+abbrev pub w6 : List ℕ
+w6 = 1 ∷ 0 ∷ 2 ∷ 0 ∷ 6 ∷ 5 ∷ 8 ∷ 0 ∷ []
+
+abbrev pub body : List ℕ
+body = 1 ∷ 0 ∷ 2 ∷ 0 ∷ 6 ∷ 5 ∷ []
 
 -- present 5 then nothing else pause
 abbrev pub choice : Stmt
@@ -44,4 +59,10 @@ pub record Examples : Type 0 where
   -- a tied test takes no answer: what is lent is left
   pub takes-none : startTied absent5 0 choice (1 ∷ []) ≡ closed 1 (entry 2 started 1 ∷ entry 1 started 1 ∷ []) (0 ∷ 1 ∷ 0 ∷ []) (1 ∷ [])
   pub takes-one : startTied noneTied 0 choice (1 ∷ []) ≡ closed 0 (entry 2 started 0 ∷ entry 0 started 0 ∷ []) (0 ∷ 0 ∷ 0 ∷ []) []
+  -- K refuses W6, though no body ends with 5 tied absent, and comes before 19; the bytes are measured before the nodes are read
+  pub w6-refused : verdictFor w6 (bytes5 1) (zeros 4) ≡ refused 11 3
+  pub w6-first : verdictFor w6 (bytes5 3) (zeros 4) ≡ refused 11 3
+  pub body-refused : verdictFor body (bytes5 3) (zeros 3) ≡ refused 19 0
+  pub body-passed : verdictFor body (bytes5 2) (zeros 3) ≡ passed choice
+  pub short-refused : verdictFor (12 ∷ 0 ∷ []) (zeros 255) (zeros 1) ≡ refused 3 0
   pub inside-takes-one : startTied absent5 0 (one (signal 5) choice) [] ≡ starved

@@ -1,6 +1,6 @@
 pub mod Ties
 pub mod Narrowed
-pub mod Theorems
-pub mod Passes
 pub mod Calls
+pub mod Theorems
 pub mod Examples
+pub mod Passes

@@ -1,16 +1,14 @@
 -- The narrowed start set (F-8), by rules beside those of K in the crate esterel's Sets: only a test and a signal statement differ.
 use Prim.Native.Nat.{ℕ, _+_}
-use mathlib.Core.List.{List, [], _∷_, _++_}
+use mathlib.Core.List.{List, [], _∷_, _++_, map}
 use lib.ListN.{getD}
-use Rattle.esterel.specs.Codes.{Codes, only, union, given, withoutEnded, larger, caught}
+use Rattle.esterel.specs.Codes.{Codes, only, union, given, withoutEnded, larger, caught, word}
 use Rattle.esterel.specs.Statement.{nothing, pause, emit, exit, Unary, signal, suspend, loop, trap, present, sequence, parallel, Stmt, leaf, one, two}
-use Rattle.tied.specs.Ties.{Tie, unknown, tiedAbsent, tiedPresent, Ties, noneTied, inside}
+use Rattle.tied.specs.Ties.{Tie, Ties, noneTied, inside, byTie}
 
 -- the codes of a test from those of its then branch and its else branch
 abbrev pub tested : Tie → Codes → Codes → Codes
-tested unknown a b = union a b
-tested tiedAbsent a b = b
-tested tiedPresent a b = a
+tested t a b = byTie t (union a b) b a
 
 -- of p, started alone under the ties c
 abbrev pub narrowed : Ties → Stmt → Codes
@@ -63,3 +61,10 @@ tiesAt c p i = tiesIn (spotAt c p i)
 
 abbrev pub narrowedAt : Ties → Stmt → ℕ → Codes
 narrowedAt c p i = narrowedIn (spotAt c p i)
+
+-- the 64-bit numbers of the narrowed sets of all nodes, in postorder
+abbrev pub wordIn : Spot → ℕ
+wordIn x = word (narrowedIn x)
+
+unfoldable pub wordsOf : Ties → Stmt → List ℕ
+wordsOf c p = map wordIn (spots c p)

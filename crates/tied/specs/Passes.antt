@@ -1,26 +1,24 @@
 -- What the passes over an accepted table leave, and one node's set from its children's, on 64-bit words.
-use Prim.Native.Nat.{ℕ, _<_, _≤_}
+use Prim.Native.Nat.{ℕ, _<_}
 use mathlib.Core.Path.{_≡_}
 use mathlib.Core.Bool.{false, cond}
-use mathlib.Core.List.{List, map}
-use lib.ListN.{length, getD}
+use mathlib.Core.List.{List}
+use lib.ListN.{getD}
 use Rattle.codes.specs.Codes.{word}
 use Rattle.codes.specs.Words.{unionOf}
-use Rattle.esterel.specs.Statement.{Stmt, field, size}
+use Rattle.esterel.specs.Statement.{field, size}
 use Rattle.table.specs.Kinds.{isPresent}
 use Rattle.table.specs.Program.{programOf}
 use Rattle.table.specs.Columns.{onto, stmtAt, Measured}
 use Rattle.table.specs.declared.Kind.{Kind}
 use Rattle.analysis.specs.Steps.{codesOf}
 use Rattle.analysis.specs.Passes.{Placed}
-use Rattle.tied.specs.Ties.{Tie, unknown, tiedAbsent, tiedPresent, Ties, tieOf}
-use Rattle.tied.specs.Narrowed.{Spot, narrowedIn, spots, tiesAt, narrowedAt}
+use Rattle.tied.specs.Ties.{Tie, Ties, tieOf, byTie}
+use Rattle.tied.specs.Narrowed.{tiesAt, narrowedAt, wordsOf}
 
 -- a test, by what is known of its signal
 abbrev pub testedOf : Tie → (first second : ℕ) → ℕ
-testedOf unknown x y = unionOf x y
-testedOf tiedAbsent x y = y
-testedOf tiedPresent x y = x
+testedOf t x y = byTie t (unionOf x y) y x
 
 -- a statement of two children; only a test differs from K
 abbrev pub codesUnder : Tie → Kind → (first second : ℕ) → ℕ
@@ -41,12 +39,6 @@ pub record NextSet (t known words : List ℕ) (node r : ℕ) : Type 0 where
       (c : Ties) → Known c t known →
       ((j : ℕ) → j < node → getD words j 0 ≡ word (narrowedAt c (programOf t) j)) → r ≡ word (narrowedAt c (programOf t) node)
 
--- the words of the narrowed sets of all nodes, in postorder
-abbrev pub wordIn : Spot → ℕ
-wordIn x = word (narrowedIn x)
-
-unfoldable pub wordsOf : Ties → Stmt → List ℕ
-wordsOf c p = map wordIn (spots c p)
-
+-- all sets, and the old entries past them
 pub record SetsFilled (t known old new : List ℕ) : Type 0 where
   pub is : (c : Ties) → Known c t known → new ≡ onto (wordsOf c (programOf t)) old

@@ -35,13 +35,21 @@ tie s t c x = cond (eqb x s) t (c x)
 abbrev pub inside : ℕ → Ties → Ties
 inside s c = tie s unknown c
 
--- a test, with its then branch and its else branch: that of a tied signal gets the tied answer, and takes none from the list
+-- of three that which is for the tie
+abbrev pub byTie : {A : Type 0} → Tie → (free absent present : A) → A
+byTie unknown x y z = x
+byTie tiedAbsent x y z = y
+byTie tiedPresent x y z = z
+
+-- a test, with its then branch and its else branch, that is answered from the list
+abbrev pub asked : (then other : List ℕ → Result) → List ℕ → Result
+asked then other [] = starved
+asked then other (suc a ∷ ans) = then ans
+asked then other (zero ∷ ans) = other ans
+
+-- that of a tied signal gets the tied answer, and takes none from the list
 abbrev pub test : Tie → (then other : List ℕ → Result) → List ℕ → Result
-test unknown then other [] = starved
-test unknown then other (suc a ∷ ans) = then ans
-test unknown then other (zero ∷ ans) = other ans
-test tiedAbsent then other ans = other ans
-test tiedPresent then other ans = then ans
+test t then other = byTie t (asked then other) other then
 
 -- p is started under the ties c with these answers, rule by rule as `start`; n is the number of its first node
 abbrev pub startTied : Ties → ℕ → Stmt → List ℕ → Result

@@ -58,7 +58,8 @@ fn check_ties(ties: &[u8]) -> Check
     Check::Passed
 }
 
-// What is known of a signal at a node: nothing from the node on that a signal statement of its number, around this one, begins at.
+// What is known of a signal at a node: nothing, if the node is in a signal statement of its number, that is, not below the lowest node of
+// those that come after it; else its byte.
 fn tie_at(ties: &[u8], lowest: &[usize; esterel::SIGNALS], signal: usize, node: usize) -> u8
     requires { ⌜ (signal < signals) × (signals ≤ length (now ties)) ⌝ }
     ensures { λ r. ⌜ r ≡ cond (leb (getD (now (lowest .entry)) signal 0) node) 0 (getD (now (ties .entry)) signal 0) ⌝ }
@@ -69,7 +70,7 @@ fn tie_at(ties: &[u8], lowest: &[usize; esterel::SIGNALS], signal: usize, node: 
     ties[signal]
 }
 
-// The lowest node of the signal statements of a number, with one node more that may be one; `first` is the first of its subtree.
+// The lowest node of the signal statements of a number, with one statement more, which may be one; `first` is its first node.
 fn reach(kind: Kind, lowest: usize, first: usize) -> usize
     ensures { λ r. ⌜ r ≡ cond (isSignal kind && ltb first lowest) first lowest ⌝ }
 {
@@ -80,8 +81,8 @@ fn reach(kind: Kind, lowest: usize, first: usize) -> usize
 }
 
 // What is known of each node's own signal. From the last node to the first, `lowest` keeps for each signal the lowest node of the
-// signal statements of its number so far: one of them is around a node further down exactly if it is not below that node. So no test
-// looks for the signal statements around it.
+// signal statements of its number so far. A subtree is a run of nodes, so a node still to come is in one of them exactly if its number is
+// at least that one: no test looks for the signal statements around it.
 fn find_known(table: &[u8], sizes: &[u16], ties: &[u8], known: &mut [u8])
     requires { ⌜ Measured (now table) (now sizes) × (signals ≤ length (now ties)) × (size (programOf (now table)) ≤ length (now known)) ⌝ }
     ensures { λ _. ⌜ Known (tiesOf (take signals (now (ties .entry)))) (now (table .entry)) (now (known .exit)) ⌝ }

@@ -1,9 +1,9 @@
 -- One lemma for each return of `goal`, `show` and `find_tick`.
 use mathlib.Core.Path.{_≡_, refl, sym, ap, ap₂, subst, _∙_}
-use mathlib.Core.Bool.{Bool, true, false, cond}
+use mathlib.Core.Bool.{cond}
 use mathlib.Core.Option.{some}
 use mathlib.Core.Option.{none as nowhere}
-use mathlib.Core.List.{List, []}
+use mathlib.Core.List.{List}
 use Prim.Native.Nat.{ℕ, zero, suc, _+_, _-_, _/_, _≤_, _<_}
 use native.Mathlib.Omega.{arith}
 use borrow.Author.Tests.{ne-eqb, leb-true}
@@ -13,8 +13,7 @@ use lib.Seq.{sets, getD-set-other}
 use Rattle.esterel.specs.Limits.{maxNodes}
 use Rattle.esterel.specs.Statement.{loop, Stmt, one, size}
 use Rattle.esterel.specs.Codes.{empty}
-use Rattle.esterel.specs.Table.{refused, scan}
-use Rattle.esterel.specs.Checks.{checkProgram}
+use Rattle.esterel.specs.Table.{refused}
 use Rattle.esterel.specs.Theorems.{WellFormed}
 use Rattle.esterel.proofs.Accepted.{length-places}
 use Rattle.esterel.proofs.LoopCheck.{loop-within}
@@ -24,15 +23,14 @@ use Rattle.esterel.proofs.Subtrees.{only-child}
 use Rattle.esterel.proofs.Theorems.{loopCheck}
 use Rattle.table.specs.Program.{programIn, programOf, Readable}
 use Rattle.table.specs.Columns.{onto, stmtAt, sizesOf}
-use Rattle.table.specs.declared.Check.{Check}
 use Rattle.table.specs.declared.Check.the-variants.{Passed}
 use Rattle.table.specs.declared.Check.the-variants.{Refused as RefusedCheck}
 use Rattle.table.proofs.Buffers.{sets-front}
 use Rattle.table.proofs.Surveying.{few-nodes}
 use Rattle.table.proofs.Sizing.{measured}
-use Rattle.analysis.specs.Analysis.{CallChecked}
+use Rattle.analysis.specs.Analysis.{TableChecked}
 use Rattle.analysis.specs.declared.Acceptance.{Acceptance}
-use Rattle.analysis.proofs.Analyses.{call-refused, call-passed, nodes-are}
+use Rattle.analysis.proofs.Analyses.{table-refused, table-passed, nodes-are}
 use Rattle.analysis.proofs.Theorems.{refused-late}
 use Rattle.starts.specs.Ticks.{tickAnswers, presents}
 use Rattle.starts.specs.Walk.{goal, walk, answersOf, Below}
@@ -152,17 +150,17 @@ module _ {t : List ℕ} {node : ℕ} (o : Faulty t node) where
 
 -- ---- find_tick
 
-module _ (old : List ℕ) {t : List ℕ} {a : Acceptance} (o : CallChecked (leb tickAnswers (length old)) t a) where
+module _ (old : List ℕ) {t : List ℕ} {a : Acceptance} (o : TableChecked (leb tickAnswers (length old)) t a) where
   pub accepted-tells : {n loops : ℕ} → a .check ≡ Passed → n ≡ length t / 2 → loops ≡ a .loops → Tells t old old (Accepted n loops)
-  accepted-tells y en el = Tells.accepts (programOf t) (call-passed o y .1) (ap₂ Accepted (en ∙ nodes-are (o .ready y)) (el ∙ o .loops y)) refl
+  accepted-tells y en el = Tells.accepts (programOf t) (table-passed o y .1) (ap₂ Accepted (en ∙ nodes-are (o .ready y)) (el ∙ o .loops y)) refl
 
   module _ {number node : ℕ} (y : a .check ≡ RefusedCheck number node) where
     pub refused-tells : {r : Tick} → (number ≡ 11 → ⊥) → r ≡ Refused number node → Tells t old old r
-    refused-tells d er = Tells.refuses number node (call-refused o number node y) d er refl
+    refused-tells d er = Tells.refuses number node (table-refused o number node y) d er refl
 
     module _ (x : number ≡ 11) where
       refuses-is : verdictFor t old ≡ refused 11 node
-      refuses-is = call-refused o number node y ∙ ap (λ m. refused m node) x
+      refuses-is = table-refused o number node y ∙ ap (λ m. refused m node) x
 
       pub faulty : Faulty t node × (tickAnswers ≤ length old)
       faulty =

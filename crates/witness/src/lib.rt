@@ -242,7 +242,7 @@ fn show(table: &[u8], node: usize, answers: &mut [u8]) -> usize
 pub fn find_tick(table: &[u8], answers: &mut [u8]) -> Tick
     ensures { λ r. ⌜ Tells (now (table .entry)) (now (answers .entry)) (now (answers .exit)) r ⌝ }
 {
-    let accepted = analysis::check_call(table, TICK_ANSWERS <= answers.len());
+    let accepted = analysis::check_table(table, TICK_ANSWERS <= answers.len());
     let check = accepted.check;
     let Check::Refused { number, node } = check else {
         return Tick::Accepted {

@@ -26,20 +26,20 @@ abbrev μ-loop : tie.MeasureT-loop
 loop-holds : tie.Need-loop-holds Inv-loop μ-loop
 loop-holds c = record { bound = omega arith; is = refl }
 
-abbrev Spot : Type 0
-Spot = tie.At-loop Inv-loop μ-loop
+abbrev Turn : Type 0
+Turn = tie.At-loop Inv-loop μ-loop
 
-abbrev tiesOf : Spot → List ℕ
-tiesOf c = now (c .before .args .ties)
+abbrev bytes : Turn → List ℕ
+bytes c = now (c .before .args .ties)
 
-long : (c : Spot) → length (take signals (tiesOf c)) ≡ signals
-long c = length-take-le signals (tiesOf c) (c .before .pre)
+long : (c : Turn) → length (take signals (bytes c)) ≡ signals
+long c = length-take-le signals (bytes c) (c .before .pre)
 
-inside : (c : tie.In-loop Inv-loop μ-loop) → c .before .loop .s < length (take signals (tiesOf (c .before)))
+inside : (c : tie.In-loop Inv-loop μ-loop) → c .before .loop .s < length (take signals (bytes (c .before)))
 inside c = omega (arith, long (c .before))
 
-byte-at : (c : tie.In-loop Inv-loop μ-loop) → leb (getD (take signals (tiesOf (c .before))) (c .before .loop .s) 0) 2 ≡ leb (getD (tiesOf (c .before)) (c .before .loop .s) 0) 2
-byte-at c = ap (λ b. leb b 2) (getD-take signals (tiesOf (c .before)) (c .before .loop .s) 0 (omega arith))
+byte-at : (c : tie.In-loop Inv-loop μ-loop) → leb (getD (take signals (bytes (c .before))) (c .before .loop .s) 0) 2 ≡ leb (getD (bytes (c .before)) (c .before .loop .s) 0) 2
+byte-at c = ap (λ b. leb b 2) (getD-take signals (bytes (c .before)) (c .before .loop .s) 0 (omega arith))
 
 shared-slice-read-if1 : tie.Need-shared-slice-read-if1 Inv-loop μ-loop
 shared-slice-read-if1 c = search needs

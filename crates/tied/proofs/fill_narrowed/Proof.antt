@@ -1,5 +1,4 @@
 -- `tied::fill_narrowed` meets its contract: the entries before `i` are the sets of the nodes before it.
-use borrow.Author.Needs.{needs}
 use native.Mathlib.Omega.{arith}
 use Prim.Native.Nat.{ℕ, _-_, _*_, _≤_, _<_}
 use mathlib.Core.Path.{_≡_}
@@ -24,19 +23,19 @@ abbrev μ-loop : tie.MeasureT-loop
 loop-holds : tie.Need-loop-holds Inv-loop μ-loop
 loop-holds c = none-yet _ _ _
 
-abbrev Spot : Type 0
-Spot = tie.At-loop Inv-loop μ-loop
+abbrev Turn : Type 0
+Turn = tie.At-loop Inv-loop μ-loop
 
-abbrev start : Spot → tie.Start Inv-loop μ-loop
+abbrev start : Turn → tie.Start Inv-loop μ-loop
 start s = s .before .before .before .before
 
-abbrev tableOf : Spot → List ℕ
+abbrev tableOf : Turn → List ℕ
 tableOf s = now (start s .args .table)
 
-nodes : (s : Spot) → length (tableOf s) ≡ 2 * size (programOf (tableOf s))
+nodes : (s : Turn) → length (tableOf s) ≡ 2 * size (programOf (tableOf s))
 nodes s = table-length (tableOf s) (start s .pre .0 .measured .readable)
 
-few : (s : Spot) → size (programOf (tableOf s)) ≤ maxNodes
+few : (s : Turn) → size (programOf (tableOf s)) ≤ maxNodes
 few s = few-nodes (tableOf s) (start s .pre .0 .measured .readable)
 
 inside : (c : tie.In-loop Inv-loop μ-loop) → c .before .loop .i < size (programOf (tableOf (c .before)))

@@ -1,15 +1,12 @@
 -- `tied::find_known` meets its contract: from node `i` on, what is known of each node's own signal is found.
 use borrow.Author.Needs.{needs}
 use native.Mathlib.Omega.{arith}
-use Prim.Native.Nat.{ℕ, _-_, _<_, _≤_}
-use mathlib.Core.Path.{_≡_, subst, _∙_, sym, ap}
-use mathlib.Core.List.{List}
+use Prim.Native.Nat.{_≤_}
+use mathlib.Core.Path.{sym, ap}
 use denote.Ref.{now}
-use lib.ListN.{length, getD, take}
+use lib.ListN.{take}
 use lib.Seq.{getD-take}
 use Rattle.esterel.specs.Limits.{maxNodes, signals}
-use Rattle.esterel.specs.Statement.{size}
-use Rattle.table.specs.Program.{programOf}
 use Rattle.table.proofs.Surveying.{few-nodes}
 use Rattle.tied.specs.Ties.{tieOf, tiesOf}
 use Rattle.tied.proofs.Known.{Finding, begin, in-reach, fits, finding-next, finding-end}
@@ -25,13 +22,13 @@ abbrev μ-loop : tie.MeasureT-loop
 loop-holds : tie.Need-loop-holds Inv-loop μ-loop
 loop-holds c = begin _ _ (c .before .before .before .before .pre .0 .readable)
 
-abbrev Spot : Type 0
-Spot = tie.At-loop Inv-loop μ-loop
+abbrev Turn : Type 0
+Turn = tie.At-loop Inv-loop μ-loop
 
-abbrev start : Spot → tie.Start Inv-loop μ-loop
+abbrev start : Turn → tie.Start Inv-loop μ-loop
 start s = s .before .before .before .before .before
 
-few : (s : Spot) → s .loop .i ≤ maxNodes
+few : (s : Turn) → s .loop .i ≤ maxNodes
 few s = omega (arith, s .loop .inv .bound, few-nodes (now (start s .args .table)) (start s .pre .0 .readable))
 
 sub-i : tie.Need-sub-i Inv-loop μ-loop

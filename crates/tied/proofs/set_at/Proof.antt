@@ -3,7 +3,6 @@ use borrow.Author.Needs.{needs}
 use native.Mathlib.Omega.{arith}
 use Prim.Native.Nat.{_-_, _<_, _≤_}
 use mathlib.Core.Path.{_≡_}
-use denote.Ref.{now}
 use Rattle.esterel.specs.Limits.{maxTraps}
 use Rattle.table.specs.declared.Kind.the-variants.{Exit}
 use Rattle.table.proofs.Views.{in-table, in-place, has-last, first-le}

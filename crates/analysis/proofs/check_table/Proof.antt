@@ -1,11 +1,11 @@
--- `analysis::check_call` meets its contract: one law for each return.
+-- `analysis::check_table` meets its contract: one law for each return.
 use borrow.Author.Needs.{needs}
 use mathlib.Core.Path.{sym, _∙_}
 use denote.Ref.{now}
 use Rattle.analysis.proofs.Accepts.{well-sized}
-use Rattle.analysis.proofs.Analyses.{length-fails, room-fails, call-checked}
-use Rattle.analysis.proofs.check_call.Statement.{statement}
-use Rattle.analysis.proofs.check_call.Tie as tie
+use Rattle.analysis.proofs.Analyses.{length-fails, room-fails, table-checked}
+use Rattle.analysis.proofs.check_table.Statement.{statement}
+use Rattle.analysis.proofs.check_table.Tie as tie
 
 check-length-requires : tie.Need-check-length-requires
 check-length-requires c κs = search needs
@@ -35,9 +35,9 @@ accept-requires : tie.Need-accept-requires
 accept-requires c κs = well-sized (now (c .before .before .before .before .before .before .before .args .table)) (sym (c .before .before .before .before .before .check-length .ensures) ∙ c .before .before .before .enum-told .given .1)
 
 returns-3 : tie.Need-returns-3
-returns-3 c = call-checked (c .before .before .before .before .before .before .check-length .ensures) (c .before .before .before .before .enum-told .given .1) (c .before .before .before .check-room .ensures) (c .before .enum-told3 .given .1) (c .accept .ensures)
+returns-3 c = table-checked (c .before .before .before .before .before .before .check-length .ensures) (c .before .before .before .before .enum-told .given .1) (c .before .before .before .check-room .ensures) (c .before .enum-told3 .given .1) (c .accept .ensures)
 
-pub check-call-spec : {M : Type 1} → statement M
-check-call-spec =
+pub check-table-spec : {M : Type 1} → statement M
+check-table-spec =
     tie.close
     (tie.spec check-length-requires enum-told enum-told-2 returns check-room-requires enum-told-3 enum-told-4 returns-2 accept-requires returns-3)
