@@ -1,4 +1,4 @@
--- A start under ties is a start by document 01's rules, with the tied answers put in.
+-- A start under ties is a start by document 01's rules, for some answers: the tied ones are put in.
 use mathlib.Core.Path.{_≡_, refl, ap, _∙_}
 use mathlib.Core.List.{List, [], _∷_}
 use Prim.Native.Nat.{ℕ, zero, suc, _+_, max}

@@ -1,4 +1,4 @@
--- What is proved of the narrowed sets: the statements alone. The proofs are in proofs/Theorems.antt.
+-- What is proved of the narrowed sets: the statements alone. The proofs are in proofs/Theorems.antt, Answered.antt and OfNarrow.antt.
 use Prim.Native.Nat.{ℕ, _+_, _-_, _/_, _≤_, _<_}
 use mathlib.Core.Path.{_≡_}
 use mathlib.Core.Logic.{_↔_, _⊎_}
@@ -63,7 +63,7 @@ NeverEmpty = (c : Ties) (p : Stmt) → Accepted p → (i : ℕ) → (k : ℕ) ×
 abbrev pub NoneLost : Type 0
 NoneLost = (c : Ties) (p : Stmt) → Accepted p → (i : ℕ) → i < size p → Represents (word (narrowedAt c p i)) (narrowedAt c p i)
 
--- The rules by node numbers, where each child has the set of its own place: a signal statement's is its body's, in which the signal is unknown
+-- The rules by node numbers, where each child has the set of its own place: a signal statement has its body's, in which the signal is unknown
 abbrev pub ofChild : Unary → Codes → Codes
 ofChild (signal s) a = a
 ofChild (suspend s) a = a
@@ -83,14 +83,14 @@ pub record ByNodes : Type 0 where
       (c : Ties) (p : Stmt) (i : ℕ) (b : Binary) (q r : Stmt) → statementAt (nodes p) i ≡ two b q r →
       (k : ℕ) → narrowedAt c p i k ≡ ofChildren (tiesAt c p i (field (two b q r))) b (narrowedAt c p (i - 1 - size r)) (narrowedAt c p (i - 1)) k
 
--- In document 01's own terms. A start under ties is a start by its rules, with the tied answers put in among those of the list: the same code,
--- entries and held pauses
+-- In document 01's own terms: what a start under ties closes with, some answers make a start by its rules close with, the entries and the held
+-- pauses too.
 abbrev pub Answered : Type 0
 Answered =
     (c : Ties) (p : Stmt) (first : ℕ) (answers : List ℕ) (k : ℕ) (trail : List Entry) (held rest : List ℕ) →
     startTied c first p answers ≡ closed k trail held rest → (all : List ℕ) × (start first p all ≡ closed k trail held rest)
 
--- and p with each tied test replaced by the branch that it takes
+-- Without ties: p with each tied test replaced by the branch that it takes
 abbrev pub replaced : Ties → Stmt → Stmt
 replaced c (leaf l) = leaf l
 replaced c (one u p) = one u (replaced (tiesUnder u c) p)
@@ -104,7 +104,7 @@ pub data Alike : Result → Result → Type 0 where
   starve : Alike starved starved
   stick : Alike stuck stuck
 
--- has the narrowed set for its K, and its start gives the code, and leaves the answers, that the start under ties does
+-- K of that statement is the narrowed set of p, and its start gives the code and leaves the answers that the start of p under ties does
 pub record Replacing : Type 0 where
   pub sets : (c : Ties) (p : Stmt) (k : ℕ) → narrowed c p k ≡ startSet (replaced c p) k
   pub starts : (c : Ties) (p : Stmt) (first other : ℕ) (answers : List ℕ) → Alike (startTied c first p answers) (start other (replaced c p) answers)
