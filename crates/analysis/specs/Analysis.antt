@@ -19,7 +19,7 @@ use Rattle.analysis.specs.declared.Acceptance.{Acceptance}
 use Rattle.analysis.specs.declared.Analysed.{Analysed}
 use Rattle.analysis.specs.declared.Analysed.the-variants.{Done, Refused}
 
--- check 3, between 2 and 4: the lent buffers have an entry for each node
+-- check 3, between 2 and 4: whether the lent buffers suffice
 abbrev pub checkRoom : Bool → Verdict → Verdict
 checkRoom true next = next
 checkRoom false next = refused 3 0
