@@ -212,17 +212,7 @@ fn the_deepest_and_the_longest_do_not_exhaust_the_stack() {
 
 #[test]
 fn check_3_comes_after_1_and_2_and_before_the_kinds() {
-    let too_long = [12; 2050];
-    for (table, number) in [
-        (&too_long[..], 1),
-        (&[], 2),
-        (&W1[..7], 2),
-        (&[12, 0], 3),
-        (W1, 3),
-        (W2, 3),
-        (W5, 3),
-        (W8, 3),
-    ] {
+    for (table, number) in WITH_SHORT_BUFFERS {
         for length in [0, 1, 2, TICK_ANSWERS - 1] {
             let mut lent = vec![FILL; length];
             assert_eq!(tick(table, &mut lent), refused(number, 0));

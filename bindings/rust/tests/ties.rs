@@ -419,15 +419,7 @@ fn check_19_does_not_look_past_the_signals() {
 
 #[test]
 fn check_3_comes_after_1_and_2_and_before_the_kinds() {
-    for (table, number) in [
-        (&[12; 2050][..], 1),
-        (&[], 2),
-        (&W1[..7], 2),
-        (&[12, 0], 3),
-        (W1, 3),
-        (W2, 3),
-        (W5, 3),
-    ] {
+    for (table, number) in WITH_SHORT_BUFFERS {
         let nodes = table.len() / 2;
         for byte in [0, FILL] {
             for length in [0, 1, 5, SIGNALS - 1] {

@@ -34,8 +34,8 @@ use Rattle.analysis.proofs.Analyses.{map-lines, line-k, line-a, line-s,
 
 -- ---- the call's verdict and the table's
 
-pub nodes-are : (t : List ℕ) (p : Stmt) → verdict t ≡ passed p → length t / 2 ≡ size p
-nodes-are t p e = omega (arith, ap length (acceptance t p e .0), length-postfix p)
+pub verdict-nodes : (t : List ℕ) (p : Stmt) → verdict t ≡ passed p → length t / 2 ≡ size p
+verdict-nodes t p e = omega (arith, ap length (acceptance t p e .0), length-postfix p)
 
 pub checked-room : (t : List ℕ) → checked true t ≡ verdict t
 unfolding checked

@@ -3,6 +3,7 @@ pub mod Lock
 pub mod Sizes
 pub mod Held
 pub mod Parts
+pub mod Postorder
 pub mod Nodes
 pub mod Run
 pub mod Start

@@ -1,14 +1,12 @@
 -- Where a statement's nodes stand in the postorder list.
-use mathlib.Core.Path.{_≡_, refl, sym, _∙_}
-use mathlib.Core.List.{List, [], _∷_, _++_, append-assoc, append-nil}
+use mathlib.Core.Path.{_≡_, refl}
+use mathlib.Core.List.{List}
 use Prim.Native.Nat.{ℕ, suc, _+_, _≤_}
 use native.Mathlib.Omega.{arith}
-use lib.ListN.{length, getD, length-append}
-use lib.Seq.{getD-at}
-use Rattle.esterel.specs.Statement.{nothing, Unary, Binary, Stmt, leaf, one, two, size, nodes}
+use Rattle.esterel.specs.Statement.{nothing, Stmt, leaf, one, two, size, nodes}
 use Rattle.esterel.specs.Outcome.{statementAt}
-use Rattle.esterel.proofs.Sizes.{length-nodes}
 use Rattle.esterel.proofs.Ranges.{Over, over-join, over-last}
+use Rattle.esterel.proofs.Postorder.{Part, part-whole, Postorder, part-child, part-first, part-second, part-own}
 
 -- p's nodes stand in ps from n on
 abbrev pub Sits : List Stmt → ℕ → Stmt → Type 0
@@ -16,47 +14,16 @@ Sits ps n (leaf l) = statementAt ps n ≡ leaf l
 Sits ps n (one u p) = Sits ps n p × (statementAt ps (n + size p) ≡ one u p)
 Sits ps n (two b p q) = Sits ps n p × Sits ps (n + size p) q × (statementAt ps (n + (size p + size q)) ≡ two b p q)
 
-module _ {A : Type 0} (xs : List A) where
-  -- xs holds l from n on
-  pub record Part (n : ℕ) (l : List A) : Type 0 where
-    pub pre : List A
-    pub post : List A
-    pub is : xs ≡ pre ++ (l ++ post)
-    pub at : length pre ≡ n
-
-  pub part-left : {n : ℕ} (l m : List A) → Part n (l ++ m) → Part n l
-  part-left l m c = record { pre = c .pre; post = m ++ c .post; is = c .is ∙ simp append-assoc; at = c .at }
-
-  pub part-right : {n : ℕ} (l m : List A) (k : ℕ) → length l ≡ k → Part n (l ++ m) → Part (n + k) m
-  part-right l m k e c =
-      record { pre = c .pre ++ l; post = c .post; is = c .is ∙ simp append-assoc; at = simp length-append (omega (arith, c .at)) }
-
-  part-one : {n : ℕ} (x d : A) → Part n (x ∷ []) → getD xs n d ≡ x
-  part-one x d c = rw (c .is) (getD-at (c .pre) x (c .post) d _ (c .at))
-
-  pub part-last : {n : ℕ} (l : List A) (x d : A) (k : ℕ) → length l ≡ k → Part n (l ++ (x ∷ [])) → getD xs (n + k) d ≡ x
-  part-last l x d k e c = part-one x d (part-right l (x ∷ []) k e c)
-
--- a list in itself, from 0 on
-pub part-whole : {A : Type 0} (xs : List A) → Part xs 0 xs
-part-whole xs = record { pre = []; post = []; is = sym (append-nil xs); at = refl }
+-- the statements themselves have nothing from their parents
+pub in-nodes : Postorder {D = Unit {0}} (λ u d. d) (λ d p. p) (λ d p. nodes p)
+in-nodes = record { none = λ d l. refl; single = λ d u p. refl; pair = λ d b p q. refl }
 
 module _ (ps : List Stmt) where
-  pub part-child : {n : ℕ} (u : Unary) (p : Stmt) → Part ps n (nodes (one u p)) → Part ps n (nodes p)
-  part-child u p c = part-left ps (nodes p) (one u p ∷ []) c
-
-  module _ (b : Binary) (p q : Stmt) {n : ℕ} (c : Part ps n (nodes (two b p q))) where
-    pub part-first : Part ps n (nodes p)
-    part-first = part-left ps (nodes p) (nodes q) (part-left ps (nodes p ++ nodes q) (two b p q ∷ []) c)
-
-    pub part-second : Part ps (n + size p) (nodes q)
-    part-second = part-right ps (nodes p) (nodes q) (size p) (length-nodes p) (part-left ps (nodes p ++ nodes q) (two b p q ∷ []) c)
-
   pub sits : (p : Stmt) (n : ℕ) → Part ps n (nodes p) → Sits ps n p
-  sits (leaf l) n c = part-one ps (leaf l) (leaf nothing) c
-  sits (one u p) n c = (sits p n (part-child u p c), part-last ps (nodes p) (one u p) (leaf nothing) (size p) (length-nodes p) c)
+  sits (leaf l) n c = part-own in-nodes ps (leaf nothing) tt (leaf l) n (omega arith) c
+  sits (one u p) n c = (sits p n (part-child in-nodes ps tt u p c), part-own in-nodes ps (leaf nothing) tt (one u p) (n + size p) (omega arith) c)
   sits (two b p q) n c =
-      (sits p n (part-first b p q c), sits q (n + size p) (part-second b p q c), part-last ps (nodes p ++ nodes q) (two b p q) (leaf nothing) (size p + size q) (simp (length-append, length-nodes)) c)
+      (sits p n (part-first in-nodes ps tt b p q c), sits q (n + size p) (part-second in-nodes ps tt b p q c), part-own in-nodes ps (leaf nothing) tt (two b p q) (n + (size p + size q)) (omega arith) c)
 
   -- a statement is its last node's
   pub root : (p : Stmt) (n : ℕ) → Sits ps n p → (j : ℕ) → n + size p ≡ suc j → statementAt ps j ≡ p
@@ -73,8 +40,5 @@ module _ (ps : List Stmt) where
       (over-join _ n (size p) (size q) (within p n (w .0)) (λ i lo hi. let z = within q (n + size p) (w .1) i lo hi in omega arith)) (rw (w .2) (omega arith))
 
 -- a program's nodes stand in its own list from 0 on
-pub part-own : (p : Stmt) → Part (nodes p) 0 (nodes p)
-part-own p = part-whole (nodes p)
-
 pub sits-own : (p : Stmt) → Sits (nodes p) 0 p
-sits-own p = sits (nodes p) p 0 (part-own p)
+sits-own p = sits (nodes p) p 0 (part-whole (nodes p))

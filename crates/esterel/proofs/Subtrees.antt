@@ -17,31 +17,21 @@ use Rattle.esterel.specs.Outcome.{statementAt, allIn, allGoOn}
 use Rattle.esterel.specs.Theorems.{Subtrees}
 use Rattle.esterel.proofs.Sizes.{length-nodes, size-pos}
 use Rattle.esterel.proofs.Accepted.{place-statement}
-use Rattle.esterel.proofs.Ranges.{Over, over-join, over-last}
-use Rattle.esterel.proofs.Nodes.{Part, part-child, part-first, part-second, part-own, sits, root}
+use Rattle.esterel.proofs.Postorder.{Part, part-whole, part-child, part-first, part-second, part-own, pieces}
+use Rattle.esterel.proofs.Nodes.{in-nodes}
 
-module _ (ps : List Stmt) where
-  record Piece (i : ℕ) : Type 0 where
-    first : ℕ
-    part : Part ps first (nodes (statementAt ps i))
-    ends : first + size (statementAt ps i) ≡ suc i
-
-  -- a statement's own node, after those of its children
-  last : (w : Stmt) (n k : ℕ) → size w ≡ suc k → Part ps n (nodes w) → Over Piece n k → Over Piece n (suc k)
-  last w n k z c ih =
-      let own : statementAt ps (n + k) ≡ w = root ps w n (sits ps w n c) (n + k) (omega arith) in
-      over-last Piece n k ih record { first = n; part = rw own c; ends = rw own (omega arith) }
-
-  pieces : (p : Stmt) (n : ℕ) → Part ps n (nodes p) → Over Piece n (size p)
-  pieces (leaf l) n c = last (leaf l) n 0 refl c (λ i lo hi. absurd (omega arith))
-  pieces (one u p) n c = last (one u p) n (size p) refl c (pieces p n (part-child ps u p c))
-  pieces (two b p q) n c =
-      last (two b p q) n (size p + size q) refl c
-      (over-join Piece n (size p) (size q) (pieces p n (part-first ps b p q c)) (pieces q (n + size p) (part-second ps b p q c)))
+-- the statement at node i
+record PieceAt (ps : List Stmt) (i : ℕ) : Type 0 where
+  first : ℕ
+  part : Part ps first (nodes (statementAt ps i))
+  ends : first + size (statementAt ps i) ≡ suc i
 
 module _ (p : Stmt) (i : ℕ) where
-  piece-at : i < size p → Piece (nodes p) i
-  piece-at h = pieces (nodes p) p 0 (part-own p) i (omega arith) (omega arith)
+  piece-at : i < size p → PieceAt (nodes p) i
+  piece-at h =
+      let x = pieces in-nodes (nodes p) tt p 0 (part-whole (nodes p)) i (omega arith) (omega arith) in
+      let own : statementAt (nodes p) i ≡ x .stmt = part-own in-nodes (nodes p) (leaf nothing) tt (x .stmt) i (x .ends) (x .part) in
+      record { first = x .first; part = rw own (x .part); ends = rw own (x .ends) }
 
   -- a node past the program is `nothing`, so one with children is a node of it
   pub inside : (w : Stmt) → statementAt (nodes p) i ≡ w → (leaf nothing ≡ w → ⊥) → i < size p
@@ -57,7 +47,7 @@ module _ (p : Stmt) (i : ℕ) where
       let ends : c .first + suc (size q) ≡ suc i = rw e at (c .ends) in
       let part = rw e at (c .part) in
       let pos = size-pos q in
-      (omega arith, root (nodes p) q (c .first) (sits (nodes p) q (c .first) (part-child (nodes p) u q part)) (i - 1) (omega arith))
+      (omega arith, part-own in-nodes (nodes p) (leaf nothing) tt q (i - 1) (omega arith) (part-child in-nodes (nodes p) tt u q part))
 
   pub two-children : (b : Binary) (q r : Stmt) → statementAt (nodes p) i ≡ two b q r → (size q + size r ≤ i) × (statementAt (nodes p) (i - 1) ≡ r) × (statementAt (nodes p) (i - 1 - size r) ≡ q)
   two-children b q r e =
@@ -66,9 +56,9 @@ module _ (p : Stmt) (i : ℕ) where
       let part = rw e at (c .part) in
       let pos = size-pos q in
       let pos′ = size-pos r in
-      let second = sits (nodes p) r (c .first + size q) (part-second (nodes p) b q r part) in
-      let first = sits (nodes p) q (c .first) (part-first (nodes p) b q r part) in
-      (omega arith, root (nodes p) r (c .first + size q) second (i - 1) (omega arith), root (nodes p) q (c .first) first (i - 1 - size r) (omega arith))
+      let first = part-own in-nodes (nodes p) (leaf nothing) tt q (i - 1 - size r) (omega arith) (part-first in-nodes (nodes p) tt b q r part) in
+      let second = part-own in-nodes (nodes p) (leaf nothing) tt r (i - 1) (omega arith) (part-second in-nodes (nodes p) tt b q r part) in
+      (omega arith, second, first)
 
 kind-at : (ps : List Stmt) (i : ℕ) → i < length ps → getD (bytesOf ps) (2 * i) 0 ≡ kind (statementAt ps i)
 kind-at [] i h = absurd (omega arith)

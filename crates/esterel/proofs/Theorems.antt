@@ -15,7 +15,8 @@ use Rattle.esterel.specs.Outcome.{taken}
 use Rattle.esterel.specs.Theorems.{Reading, Exactness, EndedInK, EndsAtOnce, LoopCheck, Decides, LeftOver, Accepted, Closes, Demand3, NeedsMore, Starving}
 use Rattle.esterel.proofs.Sizes.{load, size-load, load-planned, load-bound}
 use Rattle.esterel.proofs.Held.{Fits, fits-length, none-zeros}
-use Rattle.esterel.proofs.Nodes.{Part, sits, sits-own}
+use Rattle.esterel.proofs.Postorder.{Part}
+use Rattle.esterel.proofs.Nodes.{sits, sits-own}
 use Rattle.esterel.proofs.Run.{Run, ran, asked, noRule, weaken}
 use Rattle.esterel.proofs.Start.{In, start-run}
 use Rattle.esterel.proofs.Low.{Low, start-low}

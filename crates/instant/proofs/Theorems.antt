@@ -22,7 +22,7 @@ use Rattle.esterel.proofs.Refusals.{Numbered, Told, told-numbered}
 use Rattle.esterel.proofs.Theorems.{demand3, starving}
 use Rattle.analysis.specs.Analysis.{checked}
 use Rattle.analysis.proofs.Analyses.{checked-program}
-use Rattle.analysis.proofs.Theorems.{nodes-are, checked-room, checked-passed, checked-told}
+use Rattle.analysis.proofs.Theorems.{verdict-nodes, checked-room, checked-passed, checked-told}
 use Rattle.instant.specs.declared.Reaction.{Reaction}
 use Rattle.instant.specs.declared.Reaction.the-variants.{Closed, Refused}
 use Rattle.instant.specs.Calls.{roomFor, verdictFor, Call, closing, refuses, answerOf, stateAfter, emissionsAfter, startCall, resumeCall, Reacts, Starting, Resuming}
@@ -34,7 +34,7 @@ use Rattle.instant.proofs.Closing.{held-length, reacts-as}
 module _ {t state emissions : List ℕ} {p : Stmt} (l : Lent t p state emissions) where
   passes : verdictFor t (length state) (length emissions) ≡ passed p
   passes =
-      let enough : roomFor (length t / 2) (length state) (length emissions) ≡ true = both (le-leb (length t / 2) (length state) (omega (arith, nodes-are t p (l .accepted), l .places))) (le-leb signals (length emissions) (l .marks)) in
+      let enough : roomFor (length t / 2) (length state) (length emissions) ≡ true = both (le-leb (length t / 2) (length state) (omega (arith, verdict-nodes t p (l .accepted), l .places))) (le-leb signals (length emissions) (l .marks)) in
       ap (λ b. checked b t) enough ∙ checked-room t ∙ l .accepted
 
   sound : Accepted p
@@ -47,7 +47,7 @@ lent-of t state emissions p e =
     let (room, program) = checked-program _ t p e in
     record {
       accepted = accepted;
-      places = omega (arith, nodes-are t p accepted, leb-true (length t / 2) (length state) (left (leb (length t / 2) (length state)) (leb signals (length emissions)) room));
+      places = omega (arith, verdict-nodes t p accepted, leb-true (length t / 2) (length state) (left (leb (length t / 2) (length state)) (leb signals (length emissions)) room));
       marks = leb-true signals (length emissions) (right (leb (length t / 2) (length state)) room);
     }
 

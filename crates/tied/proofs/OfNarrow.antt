@@ -26,7 +26,7 @@ use Rattle.esterel.proofs.Refusals.{Told, told-numbered}
 use Rattle.esterel.proofs.Scanning.{each, fails-at}
 use Rattle.table.specs.Columns.{onto}
 use Rattle.analysis.specs.Analysis.{checked}
-use Rattle.analysis.proofs.Theorems.{nodes-are, checked-room, checked-passed, checked-told}
+use Rattle.analysis.proofs.Theorems.{verdict-nodes, checked-room, checked-passed, checked-told}
 use Rattle.analysis.proofs.Analyses.{checked-program}
 use Rattle.tied.specs.Ties.{unknown, Ties, tieOf, tiesOf, noneTied}
 use Rattle.tied.specs.Narrowed.{narrowedAt, wordsOf}
@@ -185,7 +185,7 @@ module _ {t ties old new : List ℕ} {n : ℕ} (o : Narrowing t ties old new (Do
       let (p, v, en) = done-of (verdictFor t ties old) n (o .answer) in
       let (z, x) = tied-passed ties (checked (roomFor (length t / 2) (length old) (length ties)) t) p v in
       let (accepted, lent) = lent-of t ties old p z in
-      (p, accepted, en, narrowed-sets p (acceptance t p accepted .1) (tiesOf (take signals ties)) old (omega (arith, nodes-are t p accepted, lent .setsRoom)) (o .setsAre ∙ ap (λ w. setsAfter w ties old) v))
+      (p, accepted, en, narrowed-sets p (acceptance t p accepted .1) (tiesOf (take signals ties)) old (omega (arith, verdict-nodes t p accepted, lent .setsRoom)) (o .setsAre ∙ ap (λ w. setsAfter w ties old) v))
 
   -- the set of a node, where the program is known
   done-set : (p : Stmt) → verdict t ≡ passed p → (i : ℕ) → i < n → Represents (getD new i 0) (narrowedAt (tiesOf (take signals ties)) p i)

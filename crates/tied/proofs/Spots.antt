@@ -2,19 +2,19 @@
 use mathlib.Core.Path.{_≡_, refl, sym, ap, _∙_}
 use mathlib.Core.Bool.{Bool, true, false, cond}
 use mathlib.Core.Logic.{_⊎_, inl, inr}
-use mathlib.Core.List.{List, [], _∷_, _++_, map, map-append}
+use mathlib.Core.List.{List, _++_, map, map-append}
 use Prim.Native.Nat.{ℕ, suc, _+_, _-_, _<_}
 use native.Mathlib.Omega.{arith}
 use lib.Dec.{eqb}
-use lib.ListN.{length, getD, length-map, length-append, List·getD-map, List·getD-append}
+use lib.ListN.{length, getD, List·getD-map, List·getD-append}
 use lib.Seq.{getD-append-add}
 use Rattle.codes.proofs.Members.{only-in, only-out}
 use Rattle.esterel.specs.Statement.{nothing, Unary, signal, suspend, loop, trap, Binary, Stmt, leaf, one, two, size, nodes}
 use Rattle.esterel.specs.Outcome.{statementAt}
 use Rattle.esterel.proofs.Every.{Every, none, also, every-join, every-at}
-use Rattle.esterel.proofs.Nodes.{Part, part-left, part-right, part-last, part-whole}
+use Rattle.esterel.proofs.Postorder.{Part, part-whole, Postorder, length-listed, part-child, part-first, part-second, part-own, Piece, pieces}
 use Rattle.esterel.proofs.Ranges.{Over, over-join, over-last}
-use Rattle.esterel.proofs.Sizes.{length-nodes, size-pos}
+use Rattle.esterel.proofs.Sizes.{size-pos}
 use Rattle.esterel.proofs.Subtrees.{inside}
 use Rattle.tied.specs.Ties.{unknown, Ties}
 use Rattle.tied.specs.Narrowed.{tiesUnder, Spot, at, tiesIn, narrowedIn, narrowed, spots, outside, spotAt, tiesAt, narrowedAt}
@@ -28,9 +28,6 @@ statements c (leaf l) = refl
 statements c (one u p) = simp (map-append, statements (tiesUnder u c) p)
 statements c (two b p q) = simp (map-append, statements c p, statements c q)
 
-pub length-spots : (c : Ties) (p : Stmt) → length (spots c p) ≡ size p
-length-spots c p = sym (length-map (spots c p) stmtIn) ∙ ap length (statements c p) ∙ length-nodes p
-
 spot-is : (c : Ties) (p : Stmt) (i : ℕ) → spotAt c p i ≡ at (tiesAt c p i) (statementAt (nodes p) i)
 spot-is c p i = go (spotAt c p i) ∙ ap (at (tiesAt c p i)) (sym (List·getD-map stmtIn (spots c p) i outside) ∙ ap (λ l. getD l i (leaf nothing)) (statements c p))
   where
@@ -43,54 +40,24 @@ narrowed-at c p i = ap narrowedIn (spot-is c p i)
 
 -- ---- where the places of a statement's nodes stand in the list of all
 
-module _ (xs : List Spot) {n : ℕ} where
-  part-child : (d : Ties) (u : Unary) (q : Stmt) → Part xs n (spots d (one u q)) → Part xs n (spots (tiesUnder u d) q)
-  part-child d u q c = part-left xs (spots (tiesUnder u d) q) (at d (one u q) ∷ []) c
+in-spots : Postorder tiesUnder at spots
+in-spots = record { none = λ d l. refl; single = λ d u p. refl; pair = λ d b p q. refl }
 
-  module _ (d : Ties) (b : Binary) (q r : Stmt) (c : Part xs n (spots d (two b q r))) where
-    part-first : Part xs n (spots d q)
-    part-first = part-left xs (spots d q) (spots d r) (part-left xs (spots d q ++ spots d r) (at d (two b q r) ∷ []) c)
-
-    part-second : Part xs (n + size q) (spots d r)
-    part-second = part-right xs (spots d q) (spots d r) (size q) (length-spots d q) (part-left xs (spots d q ++ spots d r) (at d (two b q r) ∷ []) c)
-
-  -- the last of them is the statement's own
-  root : (d : Ties) (q : Stmt) (i : ℕ) → n + size q ≡ suc i → Part xs n (spots d q) → getD xs i outside ≡ at d q
-  root d (leaf l) i e c = let z : i ≡ n + 0 = omega arith in rw z (part-last xs [] (at d (leaf l)) outside 0 refl c)
-  root d (one u q) i e c = let z : i ≡ n + size q = omega arith in rw z (part-last xs (spots (tiesUnder u d) q) (at d (one u q)) outside (size q) (length-spots (tiesUnder u d) q) c)
-  root d (two b q r) i e c =
-      let z : i ≡ n + (size q + size r) = omega arith in
-      rw z (part-last xs (spots d q ++ spots d r) (at d (two b q r)) outside (size q + size r) (simp (length-append, length-spots)) c)
-
--- what stands at node i
-record Piece (xs : List Spot) (i : ℕ) : Type 0 where
-  ties : Ties
-  stmt : Stmt
-  first : ℕ
-  part : Part xs first (spots ties stmt)
-  ends : first + size stmt ≡ suc i
-
-pieces : (xs : List Spot) (d : Ties) (q : Stmt) (n : ℕ) → Part xs n (spots d q) → Over (Piece xs) n (size q)
-pieces xs d (leaf l) n c = over-last (Piece xs) n 0 (λ i lo hi. absurd (omega arith)) record { ties = d; stmt = leaf l; first = n; part = c; ends = omega arith }
-pieces xs d (one u q) n c =
-    over-last (Piece xs) n (size q) (pieces xs (tiesUnder u d) q n (part-child xs d u q c)) record { ties = d; stmt = one u q; first = n; part = c; ends = omega arith }
-pieces xs d (two b q r) n c =
-    over-last (Piece xs) n (size q + size r)
-    (over-join (Piece xs) n (size q) (size r) (pieces xs d q n (part-first xs d b q r c)) (pieces xs d r (n + size q) (part-second xs d b q r c)))
-    record { ties = d; stmt = two b q r; first = n; part = c; ends = omega arith }
+pub length-spots : (c : Ties) (p : Stmt) → length (spots c p) ≡ size p
+length-spots = length-listed in-spots
 
 module _ (c : Ties) (p : Stmt) (i : ℕ) (h : i < size p) where
-  piece : Piece (spots c p) i
-  piece = pieces (spots c p) c p 0 (part-whole (spots c p)) i (omega arith) (omega arith)
+  piece : Piece spots (spots c p) i
+  piece = pieces in-spots (spots c p) c p 0 (part-whole (spots c p)) i (omega arith) (omega arith)
 
-  here : at (tiesAt c p i) (statementAt (nodes p) i) ≡ at (piece .ties) (piece .stmt)
-  here = sym (spot-is c p i) ∙ root (spots c p) (piece .ties) (piece .stmt) i (piece .ends) (piece .part)
+  here : at (tiesAt c p i) (statementAt (nodes p) i) ≡ at (piece .inherited) (piece .stmt)
+  here = sym (spot-is c p i) ∙ part-own in-spots (spots c p) outside (piece .inherited) (piece .stmt) i (piece .ends) (piece .part)
 
   -- the same, by the node's own ties and statement
   own : {q : Stmt} → statementAt (nodes p) i ≡ q → (first : ℕ) × Part (spots c p) first (spots (tiesAt c p i) q) × (first + size q ≡ suc i)
   own {q} e =
       let x = piece in
-      let z : tiesAt c p i ≡ x .ties = cc here in
+      let z : tiesAt c p i ≡ x .inherited = cc here in
       let y : q ≡ x .stmt = cc (here, e) in
       (x .first, rw (z, y) (x .part), rw y (x .ends))
 
@@ -99,14 +66,14 @@ module _ (c : Ties) (p : Stmt) (i : ℕ) (h : i < size p) where
   under-one u q e =
       let (first, x, z) = own e in
       let pos = size-pos q in
-      root (spots c p) (tiesUnder u (tiesAt c p i)) q (i - 1) (omega arith) (part-child (spots c p) (tiesAt c p i) u q x)
+      part-own in-spots (spots c p) outside (tiesUnder u (tiesAt c p i)) q (i - 1) (omega arith) (part-child in-spots (spots c p) (tiesAt c p i) u q x)
 
   pub under-two : (b : Binary) (q r : Stmt) → statementAt (nodes p) i ≡ two b q r → (spotAt c p (i - 1 - size r) ≡ at (tiesAt c p i) q) × (spotAt c p (i - 1) ≡ at (tiesAt c p i) r)
   under-two b q r e =
       let (first, x, z) = own e in
       let pos = size-pos q in
       let pos′ = size-pos r in
-      (root (spots c p) (tiesAt c p i) q (i - 1 - size r) (omega arith) (part-first (spots c p) (tiesAt c p i) b q r x), root (spots c p) (tiesAt c p i) r (i - 1) (omega arith) (part-second (spots c p) (tiesAt c p i) b q r x))
+      (part-own in-spots (spots c p) outside (tiesAt c p i) q (i - 1 - size r) (omega arith) (part-first in-spots (spots c p) (tiesAt c p i) b q r x), part-own in-spots (spots c p) outside (tiesAt c p i) r (i - 1) (omega arith) (part-second in-spots (spots c p) (tiesAt c p i) b q r x))
 
 -- ---- in a body it is unknown
 
@@ -142,7 +109,7 @@ in-body p c s i b =
     let long = length-spots d (b .body) in
     let e : i ≡ first + (i - first) = omega (arith, b .after) in
     let there : getD (spots c p) (first + (i - first)) outside ≡ spotAt d (b .body) (i - first) =
-    part-at (spots c p) (spots d (b .body)) first (i - first) (part-child (spots c p) (tiesAt c p (b .node)) (signal s) (b .body) x) (omega (arith, b .before, b .after)) in
+    part-at (spots c p) (spots d (b .body)) first (i - first) (part-child in-spots (spots c p) (tiesAt c p (b .node)) (signal s) (b .body) x) (omega (arith, b .before, b .after)) in
     ap (λ j. tiesIn (getD (spots c p) j outside) s) e ∙ ap (λ y. tiesIn y s) there ∙ unknown-in s d (b .body) (i - first) (ap (λ t. cond t unknown (tiesAt c p (b .node) s)) (only-in s))
 
 -- ---- in a body, or as it was tied
@@ -164,20 +131,20 @@ module _ (c : Ties) (p : Stmt) (s : ℕ) where
 
   -- a statement's own node, after those of its children
   last : (d : Ties) (q : Stmt) (n k : ℕ) → size q ≡ suc k → d s ≡ c s → Part (spots c p) n (spots d q) → Over Settled n k → Over Settled n (suc k)
-  last d q n k z e o ih = over-last Settled n k ih (inr (ap (λ x. tiesIn x s) (root (spots c p) d q (n + k) (omega arith) o) ∙ e))
+  last d q n k z e o ih = over-last Settled n k ih (inr (ap (λ x. tiesIn x s) (part-own in-spots (spots c p) outside d q (n + k) (omega arith) o) ∙ e))
 
   settled : (d : Ties) (q : Stmt) (n : ℕ) → d s ≡ c s → Part (spots c p) n (spots d q) → Over Settled n (size q)
   settled d (leaf l) n e o = last d (leaf l) n 0 refl e o (λ i lo hi. absurd (omega arith))
-  settled d (one u q) n e o = last d (one u q) n (size q) refl e o (go (λ f. settled (tiesUnder u d) q n (f ∙ e) (part-child (spots c p) d u q o)) (under-free u s d))
+  settled d (one u q) n e o = last d (one u q) n (size q) refl e o (go (λ f. settled (tiesUnder u d) q n (f ∙ e) (part-child in-spots (spots c p) d u q o)) (under-free u s d))
     where
       go : (tiesUnder u d s ≡ d s → Over Settled n (size q)) → (u ≡ signal s) ⊎ (tiesUnder u d s ≡ d s) → Over Settled n (size q)
       go ih (inl f) i lo hi =
-          let own : at (tiesAt c p (n + size q)) (statementAt (nodes p) (n + size q)) ≡ at d (one u q) = sym (spot-is c p (n + size q)) ∙ root (spots c p) d (one u q) (n + size q) (omega arith) o in
+          let own : at (tiesAt c p (n + size q)) (statementAt (nodes p) (n + size q)) ≡ at d (one u q) = sym (spot-is c p (n + size q)) ∙ part-own in-spots (spots c p) outside d (one u q) (n + size q) (omega arith) o in
           inl record { node = n + size q; body = q; isSignal = cc (own, f); after = omega arith; before = hi }
       go ih (inr f) i lo hi = ih f i lo hi
   settled d (two b q r) n e o =
       last d (two b q r) n (size q + size r) refl e o
-      (over-join Settled n (size q) (size r) (settled d q n e (part-first (spots c p) d b q r o)) (settled d r (n + size q) e (part-second (spots c p) d b q r o)))
+      (over-join Settled n (size q) (size r) (settled d q n e (part-first in-spots (spots c p) d b q r o)) (settled d r (n + size q) e (part-second in-spots (spots c p) d b q r o)))
 
   pub in-body-or-tied : (i : ℕ) → i < size p → InBody p s i ⊎ (tiesAt c p i s ≡ c s)
   in-body-or-tied i h = settled c p 0 refl (part-whole (spots c p)) i (omega arith) (omega arith)

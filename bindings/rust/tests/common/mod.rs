@@ -21,6 +21,19 @@ pub const W8: &[u8] = &[2, 0, 1, 0, 6, 5, 1, 0, 2, 0, 6, 5, 9, 0, 8, 0];
 /// The lock program of F-5.
 pub const LOCK: &[u8] = &[2, 0, 8, 0, 2, 0, 4, 0, 9, 0, 10, 0, 11, 0, 8, 0];
 
+/// Tables, and what each is refused with where a lent buffer is too short: 3 comes after 1 and 2 and
+/// before the kinds are read.
+pub const WITH_SHORT_BUFFERS: [(&[u8], u32); 8] = [
+    (&[12; 2050], 1),
+    (&[], 2),
+    (W1.split_at(7).0, 2),
+    (&[12, 0], 3),
+    (W1, 3),
+    (W2, 3),
+    (W5, 3),
+    (W8, 3),
+];
+
 pub const W1_LISTING: &str =
     "ok 4 1 8\n0 2 0 2 3 1 1\n1 3 7 1 1 0 0\n2 9 0 2 3 1 1\n3 8 0 2 2 0 0\n";
 
