@@ -1,15 +1,17 @@
 #!/usr/bin/env python3
 """Runs the theory's definitions on outside vectors and on edges of documents 01 and 02, and reports each difference.
 
-    python3 tools/run_definitions.py [--vectors DIR] [--listings N] [--instants N] [--texts N] [--ticks N] [--runs N] [--blocks N]
-                                     [--ties N] [--seed S]
+    python3 tools/run_definitions.py [--vectors DIR] [--listings N] [--instants N] [--texts N] [--dialect N] [--ticks N] [--runs N]
+                                     [--blocks N] [--ties N] [--seed S]
 
 Each vector becomes a theorem `what the definitions give ≡ what is expected`, proved by refl, so that the checker has to
 compute the definitions. All is written to a temporary repository, which has copies of crates/codes, crates/esterel,
 crates/grammar, crates/starts, crates/blocks and crates/tied, and of what it stands on. The theorem listing17 is the vector in line 17 of the listings; edges are numbered as
 they stand below.
 A text's derivation cannot be computed: its tree is the one that the machine of crates/grammar finds, of which it is proved
-that it finds exactly the derivations. Of a tick that is shown, the rules are run with its list (tick17); where table and list are
+that it finds exactly the derivations, and that it is stuck at the first token with which the text can't go on; where an exit has no
+trap, its name is found by the search of crates/grammar, which is proved to find the one that the derivation names. Texts of F-1 that
+use a word of F-9 as a name, or have a count, are passed over: the files of F-9 have such. Of a tick that is shown, the rules are run with its list (tick17); where table and list are
 small, all lists that come before it are run too, in their order, until one leads there (first17). Whether a list leads there is
 asked by a test here, which is proved to say what `Leads` does; so is the test whether a node stands at two places of a trail, which tells
 of each instant of a run (run17) what is entered twice. Of the 65,536 editions of a file of blocks (block17) only those that its blocks name
@@ -37,6 +39,7 @@ use mathlib.Core.List.{List, [], _∷_, _++_, map}
 use mathlib.Core.Option.{Option, none, some}
 use lib.ListN.{length, take, drop}
 use lib.Dec.{T, eqb, ltb, eqb→eq, eqb-refl}
+use Rattle.esterel.specs.Limits.{signals as maxSignals}
 use Rattle.esterel.specs.Statement.{Stmt, size, nodes, loopDepth}
 use Rattle.esterel.specs.Table.{Verdict, passed, refused, read, checkLength, postfix}
 use Rattle.esterel.specs.Checks.{verdict, listing, Line, planned}
@@ -45,8 +48,11 @@ use Rattle.esterel.specs.Instant.{Mode, started, resumed, Entry, entry, Result,
 use Rattle.esterel.specs.Outcome.{Outcome, done, needsAnswer, noRule, outcome, statementAt}
 use Rattle.esterel.specs.Reentry.{Twice, Entered}
 use Rattle.grammar.specs.Limits.{maxSource}
-use Rattle.grammar.specs.Tokens.{tokens}
-use Rattle.grammar.specs.Meaning.{verdictOfTree}
+use Rattle.grammar.specs.Tokens.{tokens, byteOf}
+use Rattle.grammar.specs.Kernel.{expand}
+use Rattle.grammar.specs.Faults.{numberOfFault, crowdedFrom}
+use Rattle.grammar.specs.Search.{no-name, look}
+use Rattle.grammar.specs.Meaning.{signals, untrapped, verdictOfTree}
 use Rattle.grammar.specs.Machine as M
 use Rattle.starts.specs.Ticks.{Leads}
 use Rattle.blocks.specs.Editions as B
@@ -60,6 +66,7 @@ pub data Shown : Type 0 where
   tick : (node : ℕ) (answers : List ℕ) → Shown
   went : (marks : List ℕ) (twice : List (List ℕ)) → Shown
   refusal : (number node : ℕ) → Shown
+  refusedAt : (number place : ℕ) → Shown
   withoutRule : Shown
   noList : Shown
 
@@ -91,7 +98,7 @@ call mode bytes state answers =
 
 abbrev pub told : M.Outcome → Verdict
 told (M.accepted t) = verdictOfTree t
-told (M.stuck rest) = refused 14 0
+told (M.stuck us) = refused (numberOfFault us) 0
 
 abbrev pub table : Verdict → Shown
 table (passed p) = written (postfix p)
@@ -99,6 +106,16 @@ table (refused number node) = refusal number node
 
 abbrev pub readText : List ℕ → Shown
 readText text = table (cond (ltb maxSource (length text)) (refused 14 0) (told (M.parse (tokens text))))
+
+-- F-9: the number of a refusal of a text, and its place
+abbrev pub placed : List ℕ → M.Outcome → Shown
+placed text (M.accepted t) =
+    cond (untrapped [] (expand t)) (refusedAt 15 (byteOf text (look no-name [] (tokens text))))
+    (cond (ltb maxSignals (length (signals t))) (refusedAt 16 (byteOf text (crowdedFrom [] false (tokens text)))) (shown (verdictOfTree t)))
+placed text (M.stuck us) = refusedAt (numberOfFault us) (byteOf text us)
+
+abbrev pub readPlace : List ℕ → Shown
+readPlace text = placed text (M.parse (tokens text))
 
 -- F-2: whether a run took all answers and gave code 0. Where it says so, the list is one that `Leads` (crates/starts), and the other way
 -- round.
@@ -283,8 +300,8 @@ use mathlib.Core.List.{List, [], _∷_}
 use Rattle.esterel.specs.Codes.{word}
 use Rattle.esterel.specs.Checks.{verdict, line}
 use Rattle.esterel.specs.Instant.{started, resumed}
-use Rattle.grammar.specs.Tokens.{tokens, classOf}
-use Rattle.CRATE.proofs.Calls.{shown, figures, call, readText, tickWith, firstTick, runOf, fetchOf, partOf, narrowOf, ok, ran, written, tick, went, refusal}
+use Rattle.grammar.specs.Tokens.{tokens, classOf, beginnings, byteOf}
+use Rattle.CRATE.proofs.Calls.{shown, figures, call, readText, readPlace, tickWith, firstTick, runOf, fetchOf, partOf, narrowOf, ok, ran, written, tick, went, refusal, refusedAt}
 use Rattle.blocks.specs.Block.{word as wordOf, firstCheck, secondCheck, checksMatch, lengthFits, zeroFilled, good}
 use Rattle.blocks.specs.Editions.{fileFits, blocksIn, blockAt, isFor, counted, partsOf, completes, whole, tableOf}
 use Rattle.blocks.specs.Fetching.{handed}
@@ -292,7 +309,7 @@ use Rattle.analysis.specs.Analysis.{checked}
 use Rattle.tied.specs.Narrowed.{wordsOf}
 use Rattle.tied.specs.Calls.{setsAfter}
 """
-UNFOLDING = "unfolding word tokens classOf wordOf firstCheck secondCheck checksMatch lengthFits zeroFilled good fileFits blocksIn blockAt isFor counted partsOf completes whole tableOf handed checked wordsOf setsAfter"
+UNFOLDING = "unfolding word tokens classOf beginnings byteOf wordOf firstCheck secondCheck checksMatch lengthFits zeroFilled good fileFits blocksIn blockAt isFor counted partsOf completes whole tableOf handed checked wordsOf setsAfter"
 Theorem = collections.namedtuple("Theorem", "name left right")  # left: a call of the definitions; right: what is expected
 
 refused = "refusal {} {}".format  # number, node
@@ -334,9 +351,16 @@ def instant_theorem(at, vector):
     mode = {"start": "started", "resume": "resumed"}[vector["call"]]
     return Theorem(f"instant{at}", call(mode, table, state, answers), right)
 
-def text_theorem(at, vector):
+# the words of F-9, which F-1 took for names
+NEW_WORDS = set(b"halt sustain await abort weak immediate every case".split())
+
+def is_of_f1(line):
+    words = re.findall(rb"[A-Za-z0-9_]+", bytes.fromhex(json.loads(line)["text"]))
+    return not any(word in NEW_WORDS or word.isdigit() for word in words)
+
+def text_theorem(at, vector, name="text"):
     right = refused(vector["refused"], vector["node"]) if "refused" in vector else "written " + a_list(bytes.fromhex(vector["table"]))
-    return Theorem(f"text{at}", f"readText {a_list(bytes.fromhex(vector['text']))}", right)
+    return Theorem(f"{name}{at}", f"readText {a_list(bytes.fromhex(vector['text']))}", right)
 
 # the lists of a body so small, and up to so long, are all tried
 SMALL, SHORT = 40, 6
@@ -385,8 +409,8 @@ def tied_theorem(at, vector):
     right = refused(vector["refused"], vector["node"]) if "refused" in vector else "written " + a_list([int(x, 16) for x in vector["sets"]] + [7])
     return Theorem(f"tied{at}", narrow_of(table, bytes.fromhex(vector["ties"]), [7] * (len(table) // 2 + 1)), right)
 
-def vectors(file, wanted, chance, theorem):
-    numbered = list(enumerate(file.read_text().splitlines(), 1))
+def vectors(file, wanted, chance, theorem, taken=lambda line: True):
+    numbered = [(at, line) for at, line in enumerate(file.read_text().splitlines(), 1) if taken(line)]
     if wanted is not None and wanted < len(numbered):
         numbered = sorted(chance.sample(numbered, wanted))
     return [theorem(at, json.loads(line)) for at, line in numbered]
@@ -574,7 +598,29 @@ TEXTS = [  # what is expected was worked out by hand from F-1 of document 02
     (";".join(f"emit s{i}" for i in range(257)), 16), ("exit T;" + ";".join(f"emit s{i}" for i in range(257)), 15),
 ]
 
+AWAIT = [2, 0, 4, 0, 1, 0, 6, 0, 9, 0, 8, 0]  # the await loop of signal 0
+DIALECT = [  # likewise from F-9
+    ("halt", [2, 0, 8, 0]), ("sustain S", [3, 0, 2, 0, 9, 0, 8, 0]), ("await S", AWAIT + [11, 0]),
+    ("abort pause when S end", [2, 0, 7, 0, 4, 0, 9, 0] + AWAIT + [10, 0, 11, 0]),
+    ("weak abort pause when S end", [2, 0, 4, 0, 9, 0] + AWAIT + [10, 0, 11, 0]),
+    ("trap T in abort exit T when S end end", [4, 1, 7, 0, 4, 0, 9, 0] + AWAIT + [10, 0, 11, 0, 11, 0]),
+    ("weak abort trap T in exit T end when S end", [4, 0, 11, 0, 4, 0, 9, 0] + AWAIT + [10, 0, 11, 0]),
+    ("trap T in weak abort weak abort exit T when S end when S end end",
+     [4, 2, 4, 0, 9, 0] + AWAIT + [10, 0, 11, 0, 4, 0, 9, 0] + AWAIT + [10, 0, 11, 0, 11, 0]),
+]
+PLACES = [  # a caret stands before the byte where the text is at fault
+    ("emit ^case", 20), ("emit ^3", 20), ("emit ^3.5", 20), ("emit ^3a", 14), ("emit ^halt", 14), ("[pause ^| every", 14), ("await ^immediate S", 20),
+    ("abort pause when S^", 14), ("pause; \n^", 14), ("^", 14), ("[pause||^|pause]", 14), ("weak ^loop", 14), ("^every", 20),
+    ("abort suspend pause when S ^end", 14), ("present S ^007 end", 20), ("^?case", 14), ("exit ^T", 15), ("trap T in exit T end;\nexit ^U; exit V", 15),
+    ("abort exit ^A when S end; exit B", 15), ("loop " * 300 + "^case", 20), (";".join(f"emit s{i}" for i in range(256)) + "; await ^last; emit more", 16),
+]
+
 def text_edges():
+    for text, right in PLACES:
+        before, after = text.split("^")
+        yield f"readPlace {a_list((before + after).encode())}", f"refusedAt {right} {len(before)}"
+    for text, right in DIALECT:
+        yield f"readText {a_list(text.encode())}", "written " + a_list(right)
     for text, right in TEXTS:
         yield f"readText {a_list(text.encode())}", refused(right, 0) if isinstance(right, int) else "written " + a_list(right)
     flat = ";".join(["nothing"] * 257)  # the first statement is the deepest
@@ -588,6 +634,7 @@ def control_theorems():
     rights = [ran(1, 0, 5, [1, 0, 0, 0], [7]), ran(1, 0, 6, [1, 0, 0, 0], [8]), ran(1, 0, 6, [0] * 4, [7])]
     edges += [(call("resumed", W1, [1, 0, 0, 0], []), right) for right in rights]
     edges += [(f"readText {a_list(b'emit A;pause')}", "written " + a_list(right)) for right in ([3, 0, 2, 0, 9, 0, 9, 0], [3, 1, 2, 0, 9, 0])]
+    edges += [(f"readPlace {a_list(b'emit case')}", f"refusedAt {right}") for right in ("20 4", "14 5")]
     edges += [("firstTick (1 ∷ 0 ∷ 2 ∷ 0 ∷ 6 ∷ 5 ∷ 8 ∷ 0 ∷ []) 2", f"tick {right}") for right in ("3 []", "3 (0 ∷ [])", "2 (1 ∷ [])")]
     edges += [(ran_through(LOCK, [[], []]), entered_twice(marks, twice)) for marks, twice in
               (([1, 0, 1, 0, 1, 1, 1, 0], [[], [0, 1, 2, 4, 5, 6]]), ([1, 1, 1, 0, 1, 1, 1, 0], [[], [0, 2, 4, 5, 6]]), ([1, 1, 1, 0, 1, 1, 1, 0], [[]]))]
@@ -652,18 +699,19 @@ def run(repo, args):
     chance = random.Random(args.seed)
     listings = vectors(args.vectors / "listing7_open.jsonl", args.listings, chance, listing_theorem)
     instants = vectors(args.vectors / "instants7_open.jsonl", args.instants, chance, instant_theorem)
-    texts = vectors(args.vectors / "text_open.jsonl", args.texts, chance, text_theorem)
+    texts = vectors(args.vectors / "text_open.jsonl", args.texts, chance, text_theorem, is_of_f1)
+    dialect = vectors(args.vectors / "dialect_open.jsonl", args.dialect, chance, lambda *vector: text_theorem(*vector, "dialect"))
     ticks = sum(vectors(args.vectors / "tick_open.jsonl", args.ticks, chance, lambda *vector: list(tick_theorems(*vector))), [])
     runs = vectors(args.vectors / "reentry_open.jsonl", args.runs, chance, run_theorem)
     blocks = vectors(args.vectors / "blocks_open.jsonl", args.blocks, chance, block_theorem)
     ties = vectors(args.vectors / "tied_open.jsonl", args.ties, chance, tied_theorem)
     edges, controls = edge_theorems(), control_theorems()
-    theorems = {x.name: x for x in edges + listings + instants + texts + ticks + runs + blocks + ties}
+    theorems = {x.name: x for x in edges + listings + instants + texts + dialect + ticks + runs + blocks + ties}
     copy_crates(repo, args.whole)
     write_crate(repo, "control", controls, 1)
     write_crate(repo, "vectors", list(theorems.values()), 250)
     (repo / "crates.txt").write_text(CRATES_TXT)
-    for what, some in (("listings", listings), ("instants", instants), ("texts", texts), ("ticks", ticks), ("runs", runs), ("blocks", blocks), ("ties", ties), ("edges", edges)):
+    for what, some in (("listings", listings), ("instants", instants), ("texts", texts), ("dialect", dialect), ("ticks", ticks), ("runs", runs), ("blocks", blocks), ("ties", ties), ("edges", edges)):
         tally(what, some)
 
     proved, refusals, said = check(repo, "control")
@@ -686,6 +734,7 @@ def main():
     parser.add_argument("--listings", type=int, metavar="N", help="how many, drawn by the seed (default: all)")
     parser.add_argument("--instants", type=int, metavar="N", help="likewise")
     parser.add_argument("--texts", type=int, metavar="N", help="likewise")
+    parser.add_argument("--dialect", type=int, metavar="N", help="likewise")
     parser.add_argument("--ticks", type=int, metavar="N", help="likewise")
     parser.add_argument("--runs", type=int, metavar="N", help="likewise")
     parser.add_argument("--blocks", type=int, metavar="N", help="likewise")

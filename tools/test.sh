@@ -45,6 +45,8 @@ run_examples() {
         written "$text" "$text.listing" tools/run_text.sh list "$text"
         written "$text" "$text.tick" tools/run_text.sh tick "$text"
     done
+    # with await for the kernel statements that it stands for, the listing is the same
+    written examples/lock_await.strl examples/lock.strl.listing tools/run_text.sh list examples/lock_await.strl
     echo "$right passed, $wrong failed"
 }
 

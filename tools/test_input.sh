@@ -101,7 +101,7 @@ make_tables() {
 }
 
 # The lengths around the longest text, whose blanks stand before its only statement: one byte less, and one more, which is refused; and texts
-# that are refused for what they say.
+# that are refused for what they say, and where.
 make_texts() {
     : > "$out/0.text"
     { head -c 16378 /dev/zero | tr '\0' ' ' && printf pause; } > "$out/16383.text"
@@ -111,6 +111,8 @@ make_texts() {
     head -c 16384 /dev/zero | tr '\0' '[' > "$out/brackets.text"
     printf 'exit T' > "$out/untrapped.text"
     printf '[pause]' > "$out/bracket.text"
+    printf 'loop\n\tpause;\n\temit case\nend\n' > "$out/foreign.text"
+    printf 'abort\n  halt\nwhen S\n' > "$out/stops.text"
 }
 
 # told PROGRAM NAME: a script NAME that writes what the program writes to standard output and, after a line of dashes, to standard error.

@@ -1,9 +1,9 @@
 /*
  * Bavzhrono: the checker and the runner of single instants for tables of pure Esterel, the reader
- * that makes such a table from text, the finder of the tick in which a refused loop's body ends at
- * once, the fetcher of tables that are stored in blocks on the service partition, and the narrower
- * of start sets by signals that are known for certain, for C (C99) and C++. Link with libabi.a
- * (x86-64), which needs nothing but the C library.
+ * that makes such a table from text and finds where a refused text is at fault, the finder of the
+ * tick in which a refused loop's body ends at once, the fetcher of tables that are stored in blocks
+ * on the service partition, and the narrower of start sets by signals that are known for certain,
+ * for C (C99) and C++. Link with libabi.a (x86-64), which needs nothing but the C library.
  *
  * The table
  *
@@ -25,7 +25,8 @@
  *
  * The text
  *
- * A program as text, for bavzhrono_read, is in kernel Esterel:
+ * A program as text, for bavzhrono_read and bavzhrono_read_place, is in kernel Esterel and the
+ * everyday dialect:
  *
  *     program   = sequence
  *     sequence  = statement { ";" statement }                         groups to the left
@@ -35,19 +36,36 @@
  *               | present NAME then sequence [ else sequence ] end
  *               | present NAME else sequence end
  *               | suspend sequence when NAME
+ *               | halt | sustain NAME | await NAME
+ *               | abort sequence when NAME end | weak abort sequence when NAME end
  *
- * A present's missing branch is nothing. A suspend has no end of its own.
+ * A present's missing branch is nothing. A suspend has no end of its own. The last two lines are
+ * the dialect, whose forms stand for statements of the kernel:
+ *
+ *     halt                     loop pause end
+ *     sustain S                loop emit S; pause end
+ *     await S                  trap T in WAIT end
+ *     abort p when S end       trap T in [suspend p when S; exit T || WAIT] end
+ *     weak abort p when S end  trap T in [p; exit T || WAIT] end
+ *
+ * WAIT is `loop pause; present S then exit T end end`, and T stands for a trap without a name: no
+ * exit in p means it, and one that leaves the form counts it as a level.
  *
  * A word is an unbroken run of ASCII letters, digits and underscores. A NAME is a word of at most
  * 32 characters whose first is a letter, and none of the language's words: nothing, pause, signal,
- * in, end, emit, present, then, else, suspend, when, loop, trap, exit. Case matters. Blanks, tabs
- * and line feeds separate, and may stand around any word or sign. Any other byte is outside the
- * grammar, a carriage return too, and there are no comments.
+ * in, end, emit, present, then, else, suspend, when, loop, trap, exit, halt, sustain, await, abort,
+ * weak, immediate, every, case. The last three belong to the full language, as does a count, which
+ * is a word of digits alone: no text of the grammar has them. Case matters. Blanks, tabs and line
+ * feeds separate, and may stand around any word or sign. Any other byte is outside the grammar, a
+ * carriage return too, and there are no comments.
  *
- * Signals are numbered from 0 in the order in which their names first appear in the text, be it in
- * signal, emit, present or suspend: `suspend emit A when S` has A = 0 and S = 1. A name that is
- * declared again keeps its number. An exit means the nearest trap of its name around it. A trap
- * and a signal may have the same name.
+ * Before the dialect was read, the eight words from halt on could be names. A text in which one of
+ * them is a name is refused now.
+ *
+ * Signals are numbered from 0 in the order in which their names first appear in the text, whatever
+ * the statement: `suspend emit A when S` has A = 0 and S = 1. A name that is declared again keeps
+ * its number. An exit means the nearest trap of its name around it. A trap and a signal may have
+ * the same name.
  *
  * The service partition
  *
@@ -88,9 +106,9 @@
  *
  * After 0 the function's three values are in the first three entries of `answer`. After a refusal
  * no buffer has changed, `answer` among them. An `answer` of fewer than 3 entries is a buffer that
- * is too short, like any other: number 3, once checks 1 and 2 are passed, which bavzhrono_render
- * and bavzhrono_part do not make. bavzhrono_read and bavzhrono_fetch make check 3 ahead of all
- * others.
+ * is too short, like any other: number 3, once checks 1 and 2 are passed, which bavzhrono_render,
+ * bavzhrono_read_place and bavzhrono_part do not make. bavzhrono_read and bavzhrono_fetch make
+ * check 3 ahead of all others.
  *
  *     number  refused if                                                        names a node
  *          1  the table has more than 2,048 bytes (1,024 nodes)                 no
@@ -112,13 +130,17 @@
  *         17  the file is not of whole blocks of 512 bytes or has more than 64  no
  *         18  the program has no whole edition in the file                      no
  *         19  a signal's tie is none of 0, 1 and 2                              no
+ *         20  the text leaves the grammar at immediate, every, case or a count  no
  *
  * 4 to 6 are decided node by node: the first faulty node counts, with its lowest number. Each of
  * 8 to 11 covers the whole table before the next begins. 11 is not returned by bavzhrono_tick,
  * which shows the fault in its place. 12 is for bavzhrono_resume, 13 for it and bavzhrono_start,
- * and 14 to 16 are for bavzhrono_read: each covers the whole text before the next begins. 17 and 18
- * are for bavzhrono_fetch, whose check 1 is of the parts, joined. 19 is for bavzhrono_narrow, after
- * 11.
+ * and 14, 20, 15 and 16 are for bavzhrono_read: each covers the whole text before the next begins.
+ * 20 is in the place of 14: the text has at most 16,384 bytes, and the first word, sign or other
+ * byte with which it can't go on to a text of the grammar is one of the three words or a count.
+ * bavzhrono_read_place has the refusals of bavzhrono_read in its figures and returns only 3. 17 and
+ * 18 are for bavzhrono_fetch, whose check 1 is of the parts, joined. 19 is for bavzhrono_narrow,
+ * after 11.
  *
  * Buffers
  *
@@ -135,7 +157,7 @@
  * The functions keep no state of their own and allocate nothing: any number of threads may call
  * them at once, each with buffers of its own to be written.
  * stack: up to about 110 KiB
- * bavzhrono_read: up to about 940 KiB
+ * bavzhrono_read, bavzhrono_read_place: up to about 940 KiB
  * bavzhrono_tick: up to about 490 KiB
  */
 #ifndef BAVZHRONO_H
@@ -245,7 +267,8 @@ uint32_t bavzhrono_render(const uint8_t *table, size_t table_length,
                           uint64_t *answer, size_t answer_length);
 
 /*
- * The table of a program that is written as text; checks 3, 14, 15, 16, 1, 8 and 9, in this order.
+ * The table of a program that is written as text; checks 3, 14 or 20, 15, 16, 1, 8 and 9, in this
+ * order.
  *
  * In:  the text, at most BAVZHRONO_MAX_SOURCE bytes, without the zero byte that ends a string.
  * Out: table   2 * BAVZHRONO_MAX_NODES bytes needed, for a short text too: the table, 2 bytes a
@@ -259,6 +282,26 @@ uint32_t bavzhrono_render(const uint8_t *table, size_t table_length,
 uint32_t bavzhrono_read(const uint8_t *text, size_t text_length,
                         uint8_t *table, size_t table_length,
                         uint64_t *answer, size_t answer_length);
+
+/*
+ * Where a text is at fault, and why.
+ *
+ * In:  the text, as for bavzhrono_read.
+ * Out: answer  (number, node, place): the number and the node with which bavzhrono_read refuses
+ *              the text, where its buffers suffice, and the byte of the text, from 0, that is at
+ *              fault. (0, 0, 0) if the text is read. For the numbers the place is
+ *              14, 20   the first byte of the first word, sign or other byte with which the text
+ *                       can't go on to a text of the grammar; the text's length if it merely
+ *                       stops, blanks, tabs and line feeds at its end included; 16,384 if the text
+ *                       has more than 16,384 bytes
+ *              15       the first byte of the name of the first exit without its trap
+ *              16       the first byte of the 257th signal name, where it first appears
+ *              1, 8, 9  0, since the fault is one of the table
+ *
+ * Returns 0 in all these cases. The only refusal is 3, whatever the text: the answer is too short.
+ */
+uint32_t bavzhrono_read_place(const uint8_t *text, size_t text_length,
+                              uint64_t *answer, size_t answer_length);
 
 /*
  * The tick in which the body of a refused loop ends at once; checks 1 to 11.

@@ -3,8 +3,9 @@
  *
  * The expected values are those that document 01 prints (Table W and its edges) or that its rules,
  * as F-5 and F-7 amend them, give by hand; the sets of W3 are those of the implementation in
- * compare/. The tables of texts, the lists of ticks, what files of blocks give and what ties leave
- * of start sets are by hand, from F-1, F-2, F-4 and F-8 of document 02 and their readings.
+ * compare/. The tables of texts and the places of their faults, the lists of ticks, what files of
+ * blocks give and what ties leave of start sets are by hand, from F-1, F-2, F-4, F-8 and F-9 of
+ * document 02 and their readings.
  */
 #include "bavzhrono.h"
 #include "bavzhrono.h" /* twice, for the include guard */
@@ -139,6 +140,11 @@ static uint32_t read_text(const char *text, size_t length, lengths lent)
 {
     return bavzhrono_read((const uint8_t *)text, length, actual.table, lent.table, actual.answer,
                           lent.answer);
+}
+
+static uint32_t read_place(const char *text, size_t length, lengths lent)
+{
+    return bavzhrono_read_place((const uint8_t *)text, length, actual.answer, lent.answer);
 }
 
 static uint32_t tick(const uint8_t *table, size_t length, lengths lent)
@@ -513,6 +519,18 @@ static void run_instant(const instant_test *test, lengths lent, const char *how)
 static const uint8_t emit_255[] = {3, 255};
 static const uint8_t suspend[] = {2, 0, 7, 1};      /* suspend pause when 1 */
 static const uint8_t pauses[] = {2, 0, 2, 0, 9, 0}; /* pause; pause */
+/* await 0 */
+static const uint8_t awaited[] = {2, 0, 4, 0, 1, 0, 6, 0, 9, 0, 8, 0, 11, 0};
+/* abort sustain 0 when 1 end */
+static const uint8_t aborted[] = {3, 0, 2, 0, 9, 0, 8, 0, 7, 1, 4, 0, 9, 0, 2,
+                                  0, 4, 0, 1, 0, 6, 1, 9, 0, 8, 0, 10, 0, 11, 0};
+/* weak abort sustain 0 when 1 end */
+static const uint8_t weakly_aborted[] = {3, 0, 2, 0, 9, 0, 8, 0, 4, 0, 9, 0, 2, 0,
+                                         4, 0, 1, 0, 6, 1, 9, 0, 8, 0, 10, 0, 11, 0};
+#define ABORT_HELD "010000010000000"
+#define ABORT_OVER "000000000000000"
+#define WEAK_HELD "01000010000000"
+#define WEAK_OVER "00000000000000"
 
 static const instant_test instant_tests[] = {
     {"W9, W1 started", STARTED, w1, 4, "", "", 0, 1, 0, 3, "1000", NONE},
@@ -528,6 +546,18 @@ static const instant_test instant_tests[] = {
     {"a suspend when absent", RESUMED, suspend, 2, "10", "0", 0, 0, 1, 2, "00", NONE},
     {"no answer for a suspend", RESUMED, suspend, 2, "10", "", 13, 0, 0, 0, "", NONE},
     {"the second pause", RESUMED, pauses, 3, "100", "", 0, 1, 0, 3, "010", NONE},
+    {"an await takes no answer", STARTED, awaited, 7, "", "", 0, 1, 0, 4, "1000000", NONE},
+    {"an await when present", RESUMED, awaited, 7, "1000000", "1", 0, 0, 1, 6, "0000000", NONE},
+    {"an await when absent", RESUMED, awaited, 7, "1000000", "0", 0, 1, 1, 8, "1000000", NONE},
+    {"an abort takes no answer", STARTED, aborted, 15, "", "", 0, 1, 0, 11, ABORT_HELD, 0},
+    {"an abort when present", RESUMED, aborted, 15, ABORT_HELD, "11", 0, 0, 2, 9, ABORT_OVER, NONE},
+    {"an abort when absent", RESUMED, aborted, 15, ABORT_HELD, "00", 0, 1, 2, 17, ABORT_HELD, 0},
+    {"a weak abort takes no answer", STARTED, weakly_aborted, 14, "", "", 0, 1, 0, 10,
+     WEAK_HELD, 0},
+    {"a weak abort when present", RESUMED, weakly_aborted, 14, WEAK_HELD, "1", 0, 0, 1, 14,
+     WEAK_OVER, 0},
+    {"a weak abort when absent", RESUMED, weakly_aborted, 14, WEAK_HELD, "0", 0, 1, 1, 16,
+     WEAK_HELD, 0},
     {"nothing held", RESUMED, w1, 4, "0000", "", 12, 0, 0, 0, "", NONE},
     {"an emit held", RESUMED, w1, 4, "1100", "", 12, 0, 0, 0, "", NONE},
     {"a byte above 1", RESUMED, w1, 4, "2000", "", 12, 0, 0, 0, "", NONE},
@@ -563,7 +593,7 @@ static void test_short_text(void)
           bavzhrono_render(w1, sizeof w1, NULL, 0, actual.answer, BAVZHRONO_ANSWER), 3);
 }
 
-/* Texts that are read: the table of each, by hand. */
+/* Texts that are read: the table of each, by hand. They have no place of a fault. */
 
 static void test_read(const char *name, const char *text, size_t length, const uint8_t *table,
                       size_t nodes, uint64_t signals)
@@ -573,6 +603,9 @@ static void test_read(const char *name, const char *text, size_t length, const u
         memcpy(expected.table, table, 2 * nodes);
         expect_answer(nodes, signals, 0);
         check(more ? "read, more lent" : "read", name, read_text(text, length, lent[more]), 0);
+        expect_answer(0, 0, 0);
+        check(more ? "read_place, more lent" : "read_place", name,
+              read_place(text, length, lent[more]), 0);
     }
 }
 
@@ -580,7 +613,7 @@ typedef struct {
     const char *name, *text;
     size_t nodes;
     uint64_t signals;
-    uint8_t table[24];
+    uint8_t table[48];
 } read_test;
 
 #define NAME_OF_32 "a23456789_123456789_123456789_12"
@@ -614,6 +647,42 @@ static const read_test read_tests[] = {
     {"names with a word at the front", "emit pauses;emit emit3", 3, 2, {3, 0, 3, 1, 9, 0}},
     {"case matters", "emit s;emit S;emit Exit", 5, 3, {3, 0, 3, 1, 9, 0, 3, 2, 9, 0}},
     {"a name of 32 characters", "emit " NAME_OF_32, 1, 1, {3, 0}},
+    {"halt", "halt", 2, 0, {2, 0, 8, 0}},
+    {"sustain", "sustain S", 4, 1, {3, 0, 2, 0, 9, 0, 8, 0}},
+    {"await", "await S", 7, 1, {2, 0, 4, 0, 1, 0, 6, 0, 9, 0, 8, 0, 11, 0}},
+    {"abort", "abort pause when S end", 12, 1,
+     {2, 0, 7, 0, 4, 0, 9, 0, 2, 0, 4, 0, 1, 0, 6, 0, 9, 0, 8, 0, 10, 0, 11, 0}},
+    {"weak abort", "weak abort pause when S end", 11, 1,
+     {2, 0, 4, 0, 9, 0, 2, 0, 4, 0, 1, 0, 6, 0, 9, 0, 8, 0, 10, 0, 11, 0}},
+    {"a sequence in an abort", "abort pause;nothing when S end", 14, 1,
+     {2, 0, 1, 0, 9, 0, 7, 0, 4, 0, 9, 0, 2, 0, 4, 0, 1, 0, 6, 0, 9, 0, 8, 0, 10, 0, 11, 0}},
+    {"a bracket in a weak abort", "weak\tabort[halt||halt]when S end", 15, 1,
+     {2, 0, 8, 0, 2, 0, 8, 0, 10, 0, 4, 0, 9, 0, 2, 0, 4, 0, 1, 0, 6, 0, 9, 0, 8, 0, 10, 0, 11, 0}},
+    {"an abort in an abort", "abort abort pause when A end when B end", 23, 2,
+     {2, 0, 7, 0, 4, 0, 9, 0, 2, 0, 4, 0, 1, 0, 6, 0, 9, 0, 8, 0, 10, 0, 11, 0,
+      7, 1, 4, 0, 9, 0, 2, 0, 4, 0, 1, 0, 6, 1, 9, 0, 8, 0, 10, 0, 11, 0}},
+    {"a suspend in an abort", "abort suspend pause when A when B end", 13, 2,
+     {2, 0, 7, 0, 7, 1, 4, 0, 9, 0, 2, 0, 4, 0, 1, 0, 6, 1, 9, 0, 8, 0, 10, 0, 11, 0}},
+    {"an exit that leaves an abort", "trap T in abort exit T when S end end", 13, 1,
+     {4, 1, 7, 0, 4, 0, 9, 0, 2, 0, 4, 0, 1, 0, 6, 0, 9, 0, 8, 0, 10, 0, 11, 0, 11, 0}},
+    {"an exit that leaves a weak abort", "trap T in weak abort exit T when S end end", 12, 1,
+     {4, 1, 4, 0, 9, 0, 2, 0, 4, 0, 1, 0, 6, 0, 9, 0, 8, 0, 10, 0, 11, 0, 11, 0}},
+    {"an exit that leaves two aborts",
+     "trap T in abort weak abort exit T when A end when B end end", 23, 2,
+     {4, 2, 4, 0, 9, 0, 2, 0, 4, 0, 1, 0, 6, 0, 9, 0, 8, 0, 10, 0, 11, 0,
+      7, 1, 4, 0, 9, 0, 2, 0, 4, 0, 1, 0, 6, 1, 9, 0, 8, 0, 10, 0, 11, 0, 11, 0}},
+    {"an exit that stays in an abort", "trap T in abort trap T in exit T end when S end end", 14, 1,
+     {4, 0, 11, 0, 7, 0, 4, 0, 9, 0, 2, 0, 4, 0, 1, 0, 6, 0, 9, 0, 8, 0, 10, 0, 11, 0, 11, 0}},
+    {"an exit beside an await", "trap T in [await S||exit T] end", 10, 1,
+     {2, 0, 4, 0, 1, 0, 6, 0, 9, 0, 8, 0, 11, 0, 4, 0, 10, 0, 11, 0}},
+    {"an abort's signal comes last", "abort emit A when S end;emit S", 14, 2,
+     {3, 0, 7, 1, 4, 0, 9, 0, 2, 0, 4, 0, 1, 0, 6, 1, 9, 0, 8, 0, 10, 0, 11, 0, 3, 1, 9, 0}},
+    {"sustain and await number signals", "sustain B;await A", 12, 2,
+     {3, 0, 2, 0, 9, 0, 8, 0, 2, 0, 4, 0, 1, 0, 6, 1, 9, 0, 8, 0, 11, 0, 9, 0}},
+    {"a trap of the awaited name", "trap S in await S end", 8, 1,
+     {2, 0, 4, 0, 1, 0, 6, 0, 9, 0, 8, 0, 11, 0, 11, 0}},
+    {"names close to the new words", "emit halts;emit Await;emit weak_;emit abort3;emit Case", 9, 5,
+     {3, 0, 3, 1, 9, 0, 3, 2, 9, 0, 3, 3, 9, 0, 3, 4, 9, 0}},
 };
 
 static void test_read_by_hand(void)
@@ -623,6 +692,17 @@ static void test_read_by_hand(void)
         test_read(test->name, test->text, strlen(test->text), test->table, test->nodes,
                   test->signals);
     }
+}
+
+/* The tables of the forms that are run. */
+static void test_read_aborts(void)
+{
+    static const char strong[] = "abort sustain A when S end";
+    static const char weak[] = "weak abort sustain A when S end";
+
+    test_read("an abort that is run", strong, strlen(strong), aborted, sizeof aborted / 2, 2);
+    test_read("a weak abort that is run", weak, strlen(weak), weakly_aborted,
+              sizeof weakly_aborted / 2, 2);
 }
 
 /* Table W and the lock program, as text. What check 11 refuses is read all the same. */
@@ -732,6 +812,19 @@ static void test_read_edges(void)
     text_length += put_words(source + text_length, " end", 1);
     test_read("1,024 nodes", source, text_length, table, BAVZHRONO_MAX_NODES, 0);
 
+    length = 0;
+    for (int statement = 0; statement < 128; statement++) {
+        memcpy(table + length, awaited, sizeof awaited);
+        length += sizeof awaited;
+        if (statement > 0)
+            length += put(table + length, 9, 0);
+    }
+    put(table + length, 8, 0);
+    text_length = put_words(source, "loop ", 1);
+    text_length += nested(source + text_length, "await S;", "await S", "", 127);
+    text_length += put_words(source + text_length, " end", 1);
+    test_read("1,024 nodes of awaits", source, text_length, table, BAVZHRONO_MAX_NODES, 1);
+
     open_levels(source, " ", BAVZHRONO_MAX_SOURCE);
     put_words(source, "pause", 1);
     put(table, 2, 0);
@@ -756,91 +849,197 @@ static void test_read_then_render(void)
           render(actual.table, 2 * (size_t)actual.answer[0], spare()), 0);
 }
 
-/* Texts that are refused. */
+/* Texts that are refused, and the place of the fault in each. */
 
 static void test_not_read(const char *name, const char *text, size_t length, uint32_t number,
-                          uint32_t node)
+                          uint32_t node, size_t place)
 {
+    lengths lent[2] = {needed(0, 0), spare()};
+
     check("read", name, read_text(text, length, spare()), number + 256 * node);
+    for (int more = 0; more < 2; more++) {
+        expect_answer(number, node, place);
+        check(more ? "read_place, more lent" : "read_place", name,
+              read_place(text, length, lent[more]), 0);
+    }
+}
+
+/* Refused where the caret stands, which is not of the text. So many bytes of the source come before
+   the text. */
+static void test_refused_at(const char *name, size_t before, const char *marked, uint32_t number)
+{
+    size_t caret = strcspn(marked, "^"), length = strlen(marked) - 1;
+
+    memcpy(source + before, marked, caret);
+    memcpy(source + before + caret, marked + caret + 1, length - caret);
+    test_not_read(name, source, before + length, number, 0, before + caret);
 }
 
 typedef struct {
-    const char *name, *text;
+    const char *name, *marked;
     uint32_t number;
 } refused_text;
 
 static const refused_text refused_texts[] = {
-    {"14, blanks alone", " \t\n", 14},
-    {"14, a bracket of one", "[pause]", 14},
-    {"14, a bracket of none", "[]", 14},
-    {"14, an empty branch", "[pause||]", 14},
-    {"14, a double bar outside a bracket", "pause||pause", 14},
-    {"14, a single bar", "[pause|pause]", 14},
-    {"14, two single bars", "[pause| |pause]", 14},
-    {"14, three bars", "[pause|||pause]", 14},
-    {"14, a bracket that stays open", "[pause||pause", 14},
-    {"14, a bracket that was not open", "pause]", 14},
-    {"14, a semicolon at the end", "pause;", 14},
-    {"14, two statements without a semicolon", "pause pause", 14},
-    {"14, a loop without a body", "loop end", 14},
-    {"14, a loop without an end", "loop pause", 14},
-    {"14, a suspend with an end", "suspend pause when S end", 14},
-    {"14, a suspend without its signal", "suspend pause", 14},
-    {"14, a present without a branch", "present S end", 14},
-    {"14, else before then", "present S else pause then pause end", 14},
-    {"14, a word for a name", "emit end", 14},
-    {"14, no name", "emit", 14},
-    {"14, a digit first", "emit 3a", 14},
-    {"14, an underscore first", "emit _a", 14},
-    {"14, a name of 33 characters", "emit " NAME_OF_32 "3", 14},
-    {"14, one word", "emit3", 14},
-    {"14, a word of the full language", "halt", 14},
-    {"14, a capital letter", "Pause", 14},
-    {"14, a carriage return", "pause;\r\npause", 14},
-    {"14, a comment", "pause % wait", 14},
-    {"14, a letter that is not ASCII", "emit \xc3\xa9", 14},
-    {"15, no trap", "exit T", 15},
-    {"15, beside its trap", "trap T in pause end; exit T", 15},
-    {"15, a trap of the name in capitals", "trap T in exit t end", 15},
-    {"15, a signal of its name", "signal T in exit T end", 15},
-    {"14 before 15", "exit T; end", 14},
+    {"14, blanks alone", " \t\n^", 14},
+    {"14, a bracket of one", "[pause^]", 14},
+    {"14, a bracket of none", "[^]", 14},
+    {"14, an empty branch", "[pause||^]", 14},
+    {"14, a double bar outside a bracket", "pause^||pause", 14},
+    {"14, a single bar", "[pause^|pause]", 14},
+    {"14, two single bars", "[pause^| |pause]", 14},
+    {"14, three bars", "[pause||^|pause]", 14},
+    {"14, a bracket that stays open", "[pause||pause^", 14},
+    {"14, a bracket that was not open", "pause^]", 14},
+    {"14, a semicolon at the end", "pause;^", 14},
+    {"14, a semicolon and blanks at the end", "pause; \t\n\n^", 14},
+    {"14, two statements without a semicolon", "pause ^pause", 14},
+    {"14, a loop without a body", "loop ^end", 14},
+    {"14, a loop without an end", "loop pause^", 14},
+    {"14, a suspend with an end", "suspend pause when S ^end", 14},
+    {"14, a suspend without its signal", "suspend pause^", 14},
+    {"14, a present without a branch", "present S ^end", 14},
+    {"14, else before then", "present S else pause ^then pause end", 14},
+    {"14, a word for a name", "emit ^end", 14},
+    {"14, no name", "emit^", 14},
+    {"14, a digit first", "emit ^3a", 14},
+    {"14, an underscore first", "emit ^_a", 14},
+    {"14, a name of 33 characters", "emit ^" NAME_OF_32 "3", 14},
+    {"14, one word", "^emit3", 14},
+    {"14, a capital letter", "^Pause", 14},
+    {"14, a carriage return", "pause;^\r\npause", 14},
+    {"14, a comment", "pause ^% wait", 14},
+    {"14, a letter that is not ASCII", "emit ^\xc3\xa9", 14},
+    {"15, no trap", "exit ^T", 15},
+    {"15, beside its trap", "trap T in pause end; exit ^T", 15},
+    {"15, a trap of the name in capitals", "trap T in exit ^t end", 15},
+    {"15, a signal of its name", "signal T in exit ^T end", 15},
+    {"15, the first of two", "exit ^B; exit A", 15},
+    {"15, after one that has its trap", "trap T in exit T;\n\texit ^U; exit V end", 15},
+    {"15, before a trap of its name", "exit ^T; trap T in exit T end", 15},
+    {"15, in an abort", "abort exit ^T when S end", 15},
+    {"15, the signal of an abort", "weak abort exit ^S when S end", 15},
+    {"14 before 15", "exit T; ^end", 14},
+    {"14, weak alone", "halt;\nweak\n^", 14},
+    {"14, weak without an abort", "weak ^pause", 14},
+    {"14, a weak suspend", "weak ^suspend pause when S", 14},
+    {"14, an abort without an end", "abort pause when S^", 14},
+    {"14, an abort that goes on for its end", "abort pause when S^;pause", 14},
+    {"14, an abort with two ends", "abort pause when S end ^end", 14},
+    {"14, an abort without when", "abort pause ^end", 14},
+    {"14, an abort without a body", "abort ^when S end", 14},
+    {"14, the when of a suspend in an abort", "abort suspend pause when S ^end", 14},
+    {"14, halt with a name", "halt ^S", 14},
+    {"14, an await without a name", "await^;pause", 14},
+    {"14, emit halt", "emit ^halt", 14},
+    {"14, trap sustain", "trap ^sustain in pause end", 14},
+    {"14, exit await", "trap T in exit ^await end", 14},
+    {"14, signal abort", "signal ^abort in pause end", 14},
+    {"14, present weak", "present ^weak then pause end", 14},
+    {"14, when abort", "abort pause when ^abort end", 14},
+    {"20, case", "^case", 20},
+    {"20, emit case", "emit ^case", 20},
+    {"20, trap every", "trap ^every in pause end", 20},
+    {"20, every after a semicolon", "pause;\n^every S do pause end", 20},
+    {"20, case after a statement", "pause ^case", 20},
+    {"20, every in a bracket", "[pause || ^every", 20},
+    {"20, an immediate await", "await ^immediate S", 20},
+    {"20, an abort with cases", "abort pause when ^case S do pause end", 20},
+    {"20, case after weak", "weak ^case", 20},
+    {"20, a count", "await ^3 S", 20},
+    {"20, a count alone", "^0", 20},
+    {"20, a fraction", "emit ^3.5", 20},
+    {"20, zeros in front", "pause; ^007", 20},
+    {"20, a count of 40 digits", "emit ^1234567890123456789012345678901234567890", 20},
+    {"20, two at fault", "pause; ^3 case", 20},
+    {"20 before 15", "exit T; ^case", 20},
+    {"20 before a byte that no text has", "pause; ^every\r", 20},
+    {"14, a count with an underscore", "await ^3_", 14},
+    {"14, a count below zero", "await ^-3", 14},
+    {"14, a single bar before every", "[pause ^| every", 14},
+    {"14, end before case", "^end case", 14},
+    {"14, halt before case", "emit ^halt case", 14},
+    {"14, a byte that no text has before case", "pause^\r case", 14},
 };
 
 static void test_not_read_by_hand(void)
 {
     for (size_t i = 0; i < sizeof refused_texts / sizeof refused_texts[0]; i++) {
         const refused_text *test = &refused_texts[i];
-        test_not_read(test->name, test->text, strlen(test->text), test->number, 0);
+        test_refused_at(test->name, 0, test->marked, test->number);
     }
-    test_not_read("14, a zero byte at the end", "pause", sizeof "pause", 14, 0);
-    test_not_read("14, no byte", "pause", 0, 14, 0);
-    test_not_read("14, NULL", NULL, 0, 14, 0);
+    test_not_read("14, a zero byte at the end", "pause", sizeof "pause", 14, 0, 5);
+    test_not_read("14, no byte", "pause", 0, 14, 0, 0);
+    test_not_read("14, NULL", NULL, 0, 14, 0, 0);
+}
+
+/* What follows emits of as many signals as there can be. */
+static const refused_text refused_after_emits[] = {
+    {"16, sustain", ";sustain ^X", 16},
+    {"16, await", ";await ^X;emit X;emit Y", 16},
+    {"16, signal", ";signal ^X in emit X end", 16},
+    {"16, present", ";present ^X then emit Y end", 16},
+    {"16, suspend", ";suspend emit S0 when\n^X", 16},
+    {"16, in a suspend", ";suspend emit ^Y when X", 16},
+    {"16, abort", ";abort halt when ^X end", 16},
+    {"16, in an abort", ";weak abort emit ^Y when X end", 16},
+    {"16, a signal of a trap's name", ";trap X in emit ^X end", 16},
+    {"14 before 16", ";emit X;^", 14},
+    {"20 before 16", ";emit X;^3", 20},
+    {"15 before 16", ";emit X;exit ^T", 15},
+};
+
+static void test_not_read_for_a_signal(void)
+{
+    size_t length = emits_text(source, 257), place = length - strlen("S256]");
+
+    test_not_read("16, 257 emits", source, length, 16, 0, place);
+    length += put_words(source + length, ";pause", 500);
+    test_not_read("16 before 1", source, length, 16, 0, place);
+
+    length = emits_text(source, 256);
+    for (size_t i = 0; i < sizeof refused_after_emits / sizeof refused_after_emits[0]; i++) {
+        const refused_text *test = &refused_after_emits[i];
+        test_refused_at(test->name, length, test->marked, test->number);
+    }
 }
 
 static void test_not_read_edges(void)
 {
     size_t length;
 
-    test_not_read("16, 257 signals", source, emits_text(source, 257), 16, 0);
-    length = emits_text(source, 257);
-    test_not_read("14 before 16", source, length + put_words(source + length, ";", 1), 14, 0);
-    length += put_words(source + length, "; exit T", 1);
-    test_not_read("15 before 16", source, length, 15, 0);
-    length = emits_text(source, 257);
-    length += put_words(source + length, ";pause", 500);
-    test_not_read("16 before 1", source, length, 16, 0);
-    test_not_read("1, 1,025 nodes", source, nested(source, "pause;", "pause", "", 512), 1, 0);
-    test_not_read("8, 1,023 nodes", source, nested(source, "pause;", "pause", "", 511), 8, 0);
-    test_not_read("8, 257 statements", source, nested(source, "pause;", "pause", "", 256), 8, 0);
-    test_not_read("8, 256 loops", source, nested(source, "loop ", "pause", " end", 256), 8, 0);
+    test_not_read("1, 1,025 nodes", source, nested(source, "pause;", "pause", "", 512), 1, 0, 0);
+    length = nested(source, "await S;", "await S", "", 128);
+    test_not_read("1, 129 awaits", source, length, 1, 0, 0);
+    test_not_read("8, 1,023 nodes", source, nested(source, "pause;", "pause", "", 511), 8, 0, 0);
+    test_not_read("8, 257 statements", source, nested(source, "pause;", "pause", "", 256), 8, 0, 0);
+    test_not_read("8, 256 loops", source, nested(source, "loop ", "pause", " end", 256), 8, 0, 0);
     /* The pauses come first. The last but one and the last of 257 are in the innermost bracket. */
-    test_not_read("8, 256 brackets", source, nested(source, "[pause||", "pause", "]", 256), 8, 255);
+    length = nested(source, "[pause||", "pause", "]", 256);
+    test_not_read("8, 256 brackets", source, length, 8, 255, 0);
     length = nested(source, "trap T in ", "exit T", " end", 63);
-    test_not_read("9, 63 traps", source, length, 9, 1);
+    test_not_read("9, 63 traps", source, length, 9, 1, 0);
     length = put_words(source, "pause;", 1);
     length += nested(source + length, "trap T in ", "exit T", " end", 63);
-    test_not_read("9, 63 traps after a pause", source, length, 9, 2);
-    test_not_read("8 before 9", source, nested(source, "trap T in ", "pause", " end", 256), 8, 0);
+    test_not_read("9, 63 traps after a pause", source, length, 9, 2, 0);
+    /* The innermost abort has twelve nodes, its trap the last; an await has seven. */
+    length = nested(source, "abort ", "pause", " when S end", 63);
+    test_not_read("9, 63 aborts", source, length, 9, 11, 0);
+    length = nested(source, "trap T in ", "await S", " end", 62);
+    test_not_read("9, an await in 62 traps", source, length, 9, 6, 0);
+    length = nested(source, "trap T in ", "pause", " end", 256);
+    test_not_read("8 before 9", source, length, 8, 0, 0);
+}
+
+/* As many levels as a text can have, none of which is closed, and `case` behind them: they could go
+   on if the length had no limit. */
+static void test_not_read_behind_levels(const char *name, const char *words)
+{
+    size_t most = BAVZHRONO_MAX_SOURCE - strlen("case");
+    size_t place = put_words(source, words, most / strlen(words));
+    size_t length = place + put_words(source + place, "case", 1);
+
+    test_not_read(name, source, length, 20, 0, place);
 }
 
 /* Long texts, in and outside the grammar. */
@@ -850,23 +1049,105 @@ static void test_not_read_length(void)
 
     open_levels(source, " ", most + 1);
     put_words(source, "pause", 1);
-    test_not_read("14, 16,385 bytes", source, most + 1, 14, 0);
+    test_not_read("14, 16,385 bytes", source, most + 1, 14, 0, most);
     put_words(source, "exit T", 1);
-    test_not_read("15, 16,384 bytes", source, most, 15, 0);
-    test_not_read("14 before 15, 16,385 bytes", source, most + 1, 14, 0);
-    test_not_read("14, 16,384 brackets", source, open_levels(source, "[", most), 14, 0);
-    test_not_read("14, loops never closed", source, open_levels(source, "loop ", most), 14, 0);
+    test_not_read("15, 16,384 bytes", source, most, 15, 0, 5);
+    test_not_read("14 before 15, 16,385 bytes", source, most + 1, 14, 0, most);
+    put_words(source, "case  ", 1);
+    test_not_read("20, 16,384 bytes", source, most, 20, 0, 0);
+    test_not_read("14 before 20, 16,385 bytes", source, most + 1, 14, 0, most);
+    put_words(source, "pause;", 1);
+    test_not_read("14, it stops after 16,384 bytes", source, most, 14, 0, most);
+    test_not_read("14, 16,384 brackets", source, open_levels(source, "[", most), 14, 0, most);
+    length = open_levels(source, "loop ", most);
+    test_not_read("14, loops never closed", source, length, 14, 0, most);
     length = open_levels(source, "[pause||", most);
-    test_not_read("14, branches never closed", source, length, 14, 0);
+    test_not_read("14, branches never closed", source, length, 14, 0, most);
+    test_not_read_behind_levels("20, 16,380 brackets and case", "[");
+    test_not_read_behind_levels("20, 3,276 loops and case", "loop ");
+    test_not_read_behind_levels("20, 2,730 aborts and case", "abort ");
+    test_not_read_behind_levels("20, 1,489 weak aborts and case", "weak abort ");
+    test_not_read_behind_levels("20, 6,552 loops and brackets and case", "loop[");
+    test_not_read_behind_levels("20, 2,340 second branches and case", "[halt||");
 
     /* Whole texts of as many levels as there can be have too many nodes. */
-    test_not_read("1, 1,819 loops", source, nested(source, "loop ", "nothing", " end", 1819), 1, 0);
+    length = nested(source, "loop ", "nothing", " end", 1819);
+    test_not_read("1, 1,819 loops", source, length, 1, 0, 0);
     length = nested(source, "[", "pause", "||pause]", 1819);
-    test_not_read("1, 1,819 brackets", source, length, 1, 0);
-    length = put_words(source, "loop ", 1);
-    length += nested(source + length, "loop[", "pause", "||pause]end", 1023);
-    length += put_words(source + length, " end", 1);
-    test_not_read("1, 1,024 loops and 1,023 brackets", source, length, 1, 0);
+    test_not_read("1, 1,819 brackets", source, length, 1, 0, 0);
+    length = nested(source, "abort ", "halt", " when S end", 963);
+    test_not_read("1, 963 aborts", source, length, 1, 0, 0);
+    length = nested(source, "loop[", "halt", "||halt]end", 1092);
+    test_not_read("1, 1,092 loops and 1,092 brackets", source, length, 1, 0, 0);
+}
+
+/* Many texts, most of them refused. */
+
+static const char program[] = "loop\n"
+                              "\ttrap Relock in\n"
+                              "\t\t[\n"
+                              "\t\t\tabort sustain Serving when LockRequest end;\n"
+                              "\t\t\tweak abort\n"
+                              "\t\t\t\tawait Tick;\n"
+                              "\t\t\t\tpresent PowerWarning then exit Relock else emit Good_2 end\n"
+                              "\t\t\twhen PowerWarning end\n"
+                              "\t\t||\n"
+                              "\t\t\tsignal Inner in\n"
+                              "\t\t\t\tsuspend emit Inner; halt when Busy\n"
+                              "\t\t\tend;\n"
+                              "\t\t\tpresent Busy else nothing end\n"
+                              "\t\t]\n"
+                              "\tend;\n"
+                              "\tpause\n"
+                              "end\n";
+
+/* Whether both functions refuse the text alike, or none does, with a place within it. */
+static int agrees(const char *text, size_t length)
+{
+    uint32_t refused = read_text(text, length, spare());
+    return read_place(text, length, spare()) == 0 &&
+           actual.answer[0] == BAVZHRONO_NUMBER(refused) &&
+           actual.answer[1] == BAVZHRONO_NODE(refused) && actual.answer[2] <= length;
+}
+
+/* The loop has no end before the last word is whole, so each part from the front is refused: where
+   it stops, or where the word or sign begins that is cut off. */
+static void test_parts_from_the_front(void)
+{
+    static const char whole[] = "\n\t ;[]";
+    int passed = 1;
+
+    for (size_t length = 0, cut = 0; length < strlen(program) - strlen("\n"); length++) {
+        int stays = agrees(program, length) && actual.answer[0] == 14;
+        passed = passed && stays && (actual.answer[2] == length || actual.answer[2] == cut);
+        if (strchr(whole, program[length]) != NULL)
+            cut = length + 1;
+    }
+    report(passed, "read and read_place", "each part from the front of a program");
+    prepare();
+}
+
+/* A byte of the program is left out, replaced by another, or has another before it. */
+static void test_changes_of_a_text(void)
+{
+    static const char others[] = " ;|[]de3_\r\xff";
+    size_t length = strlen(program);
+    int passed = agrees(program, length) && actual.answer[0] == 0;
+
+    for (size_t at = 0; at < length; at++) {
+        memcpy(source, program, at);
+        memcpy(source + at, program + at + 1, length - at - 1);
+        passed = passed && agrees(source, length - 1);
+        for (const char *other = others; *other != '\0'; other++) {
+            source[at] = *other;
+            memcpy(source + at + 1, program + at + 1, length - at - 1);
+            passed = passed && agrees(source, length);
+            memcpy(source + at + 1, program + at, length - at);
+            passed = passed && agrees(source, length + 1);
+        }
+    }
+    report(passed, "read and read_place", "each change of one byte of a program");
+    prepare();
 }
 
 /* Check 3 comes first, whatever the text. */
@@ -886,6 +1167,7 @@ static void test_read_to_short(const char *text_name, const char *text, size_t l
         lent.answer = entries;
         sprintf(name, "answer of %u, %s", (unsigned)entries, text_name);
         check("read", name, read_text(text, length, lent), 3);
+        check("read_place", name, read_place(text, length, lent), 3);
     }
 }
 
@@ -894,6 +1176,7 @@ static void test_read_to_short_buffers(void)
     test_read_to_short("a good text", "pause", 5);
     test_read_to_short("no byte", NULL, 0);
     test_read_to_short("16,385 bytes", source, open_levels(source, " ", BAVZHRONO_MAX_SOURCE + 1));
+    test_read_to_short("a word of the full language", "emit case", 9);
     test_read_to_short("an exit without its trap", "exit T", 6);
     test_read_to_short("257 signals", source, emits_text(source, 257));
     test_read_to_short("1,025 nodes", source, nested(source, "pause;", "pause", "", 512));
@@ -902,6 +1185,8 @@ static void test_read_to_short_buffers(void)
           bavzhrono_read(w1, sizeof w1, NULL, 0, actual.answer, BAVZHRONO_ANSWER), 3);
     check("read", "answer NULL",
           bavzhrono_read(w1, sizeof w1, actual.table, sizeof actual.table, NULL, 0), 3);
+    check("read_place", "answer NULL", bavzhrono_read_place(w1, sizeof w1, NULL, 0), 3);
+    check("read_place", "all NULL", bavzhrono_read_place(NULL, 0, NULL, 0), 3);
 }
 
 /* Ticks: the loop whose body can end at once and the answers with which it does, as digits. */
@@ -2012,12 +2297,16 @@ int main(void)
     test_render();
     test_short_text();
     test_read_by_hand();
+    test_read_aborts();
     test_read_table_w();
     test_read_edges();
     test_read_then_render();
     test_not_read_by_hand();
+    test_not_read_for_a_signal();
     test_not_read_edges();
     test_not_read_length();
+    test_parts_from_the_front();
+    test_changes_of_a_text();
     test_read_to_short_buffers();
     test_ticks_of_table_w();
     test_no_ticks();

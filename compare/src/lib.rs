@@ -1,6 +1,6 @@
 //! Statement tables of pure Esterel, read from documents 01 and 02 alone: all of
-//! document 01, as F-5 and F-7 of document 02 amend it, the programs as text of F-1,
-//! the ticks of F-2, the blocks of F-4, and the narrowed sets of F-8.
+//! document 01, as F-5 and F-7 of document 02 amend it, the programs as text of F-1 in the
+//! dialect of F-9, the ticks of F-2, the blocks of F-4, and the narrowed sets of F-8.
 //!
 //! The specification is in `table`, `checks`, `sets`, `analysis`, `listing`,
 //! `instant`, `text`, `tick`, `blocks` and `narrow`. What F-6 says of runs is for tests to
@@ -26,7 +26,8 @@ pub use blocks::{fetch, part, Fetched};
 pub use instant::{resume, resume_with_trail, start, start_with_trail, Closed, Entry, How};
 pub use listing::listing;
 pub use narrow::narrow;
-pub use text::read;
+pub use text::place::Placed;
+pub use text::{read, read_place};
 pub use tick::{find_tick, tick_line, Tick};
 
 /// The number of a failed check and the lowest node that it fits.

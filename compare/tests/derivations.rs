@@ -1,66 +1,14 @@
 //! The shift-reduce parser beside a chart that counts derivations, straight from the
 //! productions: what it accepts has one derivation, and what it refuses has none.
 
+use compare::support::derivations::Sides;
 use compare::support::random::Random;
-use compare::support::texts::{damage_tokens, printed};
+use compare::support::texts::{damage_tokens, printed, DIALECT, NUMBERS};
 use compare::support::SEED;
 use compare::text::automaton::Automaton;
-use compare::text::grammar::{Grammar, Symbol, OTHER};
+use compare::text::grammar::{Symbol, FOREIGN, OTHER};
 use compare::text::parser::parse;
 use compare::text::tokens::{tokens, Token};
-
-/// The right sides by left side; a terminal has none.
-type Sides = Vec<Vec<Vec<Symbol>>>;
-
-fn right_sides(grammar: &Grammar) -> Sides {
-    let of = |symbol| {
-        let rules = grammar.rules.iter().filter(move |rule| rule.left == symbol);
-        rules.map(|rule| rule.right.clone()).collect()
-    };
-    (0..grammar.symbols.len()).map(of).collect()
-}
-
-/// How many derivations each symbol has for each part of a list of symbols.
-struct Chart<'a> {
-    sides: &'a Sides,
-    list: &'a [Symbol],
-    /// By symbol, begin and end; none where it has not been asked for.
-    counts: Vec<Option<u64>>,
-}
-
-impl Chart<'_> {
-    /// No right side is empty, and no symbol derives itself: what is asked for next is a
-    /// smaller part, or the same part for another symbol.
-    fn count(&mut self, symbol: Symbol, begin: usize, end: usize) -> u64 {
-        let sides = &self.sides[symbol];
-        if sides.is_empty() {
-            return u64::from(end == begin + 1 && self.list[begin] == symbol);
-        }
-        let places = self.list.len() + 1;
-        let at = (symbol * places + begin) * places + end;
-        if let Some(count) = self.counts[at] {
-            return count;
-        }
-        let count = sides.iter().map(|side| self.ways(side, begin, end)).sum();
-        self.counts[at] = Some(count);
-        count
-    }
-
-    /// The ways to share the part among the symbols of a right side.
-    fn ways(&mut self, right: &[Symbol], begin: usize, end: usize) -> u64 {
-        let [symbol, rest @ ..] = right else {
-            return u64::from(begin == end);
-        };
-        let mut ways = 0;
-        for middle in begin + 1..=end.saturating_sub(rest.len()) {
-            let before = self.count(*symbol, begin, middle);
-            if before > 0 {
-                ways += before * self.ways(rest, middle, end);
-            }
-        }
-        ways
-    }
-}
 
 /// A parser and the right sides that it was made from.
 struct Compared {
@@ -71,21 +19,15 @@ struct Compared {
 impl Compared {
     fn new() -> Compared {
         let automaton = Automaton::shared();
-        let sides = right_sides(&automaton.grammar);
+        let sides = Sides::new(&automaton.grammar);
         Compared { automaton, sides }
     }
 
     /// Whether there is a derivation, by parser and chart alike.
     fn is_derived(&self, list: &[Symbol]) -> bool {
         let is_accepted = parse(self.automaton, &unnamed(list)).is_ok();
-        let places = list.len() + 1;
-        let mut chart = Chart {
-            sides: &self.sides,
-            list,
-            counts: vec![None; self.sides.len() * places * places],
-        };
         let program = self.automaton.grammar.rules[0].left;
-        let count = chart.count(program, 0, list.len());
+        let count = self.sides.count(program, list);
         assert_eq!(count, u64::from(is_accepted), "{list:?}");
         is_accepted
     }
@@ -120,10 +62,11 @@ fn all_lists_of_four_tokens() {
     let all = 0..grammar.symbols.len();
     let mut alphabet: Vec<Symbol> = all.filter(|&symbol| grammar.is_terminal(symbol)).collect();
     alphabet.retain(|&symbol| grammar.symbols[symbol] != "FINISH");
-    assert!(alphabet.contains(&OTHER));
-    assert_eq!(alphabet.len(), 20);
-    // Nothing and pause; emit and exit; two in a sequence; a loop or a suspend.
-    let (leaves, named) = (2, 2);
+    assert!(alphabet.contains(&OTHER) && alphabet.contains(&FOREIGN));
+    assert_eq!(alphabet.len(), 26);
+    // Nothing, pause and halt; emit, exit, sustain and await; two in a sequence; a loop or
+    // a suspend.
+    let (leaves, named) = (3, 4);
     let sequences = leaves * leaves + 2 * leaves * named;
     let around = 2 * leaves + named;
     let derived = Compared::new().all_lists(&alphabet, 4);
@@ -139,6 +82,8 @@ fn all_lists_of_few_words() {
         ("suspend pause when NAME ;", 7),
         ("loop trap NAME in pause end", 6),
         ("loop [ pause || ] end", 6),
+        ("abort pause when NAME end", 7),
+        ("weak abort halt when NAME end", 6),
     ] {
         let derived = Compared::new().all_lists(&symbols(words), longest);
         println!("{words}, up to {longest}: {derived} texts");
@@ -152,8 +97,9 @@ fn printed_programs_and_spoilt_ones() {
     let random = &mut Random::new(SEED);
     let compared = Compared::new();
     let mut refused = 0;
-    for _ in 0..600 {
-        let mut words = printed(random, 35).tokens;
+    for round in 0..900 {
+        let number = [DIALECT - 1, NUMBERS - 1][round % 2];
+        let mut words = printed(random, number).tokens;
         if words.len() > 40 {
             continue;
         }
@@ -169,8 +115,8 @@ fn printed_programs_and_spoilt_ones() {
 #[test]
 fn the_first_wrong_token() {
     let random = &mut Random::new(SEED);
-    for number in 0..300 {
-        let mut words = printed(random, 18 + number % 18).tokens;
+    for number in 0..400 {
+        let mut words = printed(random, 18 + number % (NUMBERS - 18)).tokens;
         words.truncate(60);
         let list = listed(&words);
         assert_eq!(first_wrong(&list), list.len());
@@ -191,7 +137,11 @@ fn first_wrong(list: &[Symbol]) -> usize {
 
 /// Tokens for the parser, which does not look at their bytes.
 fn unnamed(list: &[Symbol]) -> Vec<Token<'static>> {
-    let token = |&symbol| Token { symbol, bytes: b"" };
+    let token = |&symbol| Token {
+        symbol,
+        bytes: b"",
+        place: 0,
+    };
     list.iter().map(token).collect()
 }
 

@@ -7,14 +7,15 @@ use compare::support::random::Random;
 use compare::support::text_edges::edges;
 use compare::support::texts::{damage_bytes, damage_tokens, printed, text, NUMBERS};
 use compare::support::SEED;
+use compare::text::place::line_and_column;
 use compare::text::translate;
-use compare::{read, Refusal};
+use compare::{read, read_place, Placed, Refusal};
 
 /// What stands in every lent entry before a call.
 const FILL: u8 = 200;
 
 fn number(text: &[u8]) -> u32 {
-    translate(text).map_or_else(|refusal| refusal.number, |_| 0)
+    translate(text).map_or_else(|placed| placed.refusal.number, |_| 0)
 }
 
 #[test]
@@ -29,14 +30,13 @@ fn edges_have_their_tables_and_refusals() {
 #[test]
 fn printed_programs_are_read_back() {
     let random = &mut Random::new(SEED);
-    let mut met = [0; 17];
-    for number in 0..60 * NUMBERS {
-        let printed = printed(random, number % NUMBERS);
+    let mut met = [0; 21];
+    for program in 0..60 * NUMBERS {
+        let printed = printed(random, program % NUMBERS);
         let text = text(random, &printed.tokens);
-        let answer = translate(&text);
-        let is_expected = answer == printed.outcome_of(&text);
+        let is_expected = translate(&text) == printed.outcome_of(&text);
         assert!(is_expected, "{}", String::from_utf8_lossy(&text));
-        met[answer.map_or_else(|refusal| refusal.number as usize, |_| 0)] += 1;
+        met[number(&text) as usize] += 1;
     }
     println!("refused by number, and 0 for read: {met:?}");
     for number in [0, 1, 8, 9, 14, 15, 16] {
@@ -47,7 +47,7 @@ fn printed_programs_are_read_back() {
 #[test]
 fn spoilt_texts_are_mostly_refused() {
     let random = &mut Random::new(SEED);
-    let mut met = [0; 17];
+    let mut met = [0; 21];
     for at in 0..60 * NUMBERS {
         let in_token = (at / NUMBERS).is_multiple_of(2);
         let mut tokens = printed(random, at % NUMBERS).tokens;
@@ -62,13 +62,14 @@ fn spoilt_texts_are_mostly_refused() {
     }
     println!("refused by number, and 0 for read: {met:?}");
     assert!(met[14] > met[0] && met[0] > 100, "{met:?}");
-    assert!(met[15] > 20, "{met:?}");
+    assert!(met[15] > 20 && met[20] > 20, "{met:?}");
 }
 
 /// In a text that is cut off, changed or lengthened nothing is out of reach.
 #[test]
 fn every_cut_and_every_byte() {
-    let text = b"trap T in [present S then exit T end||suspend emit A when S];loop pause end end";
+    let text = b"trap T in[present S then exit T end||suspend emit A when S];\
+        loop weak abort await A when S end end end";
     assert_eq!(number(text), 0);
     for cut in 0..text.len() {
         assert_eq!(number(&text[..cut]), 14, "{cut}");
@@ -81,7 +82,13 @@ fn every_cut_and_every_byte() {
         }
     }
     for byte in (0..=255).filter(|byte| !b" \t\n".contains(byte)) {
-        assert_eq!(number(&[&text[..], &[b' ', byte]].concat()), 14, "{byte}");
+        let refused = Err(match byte {
+            b'0'..=b'9' => Placed::at(20, text.len() + 1),
+            // A statement would have to follow.
+            b';' => Placed::at(14, text.len() + 2),
+            _ => Placed::at(14, text.len() + 1),
+        });
+        assert_eq!(translate(&[&text[..], &[b' ', byte]].concat()), refused);
     }
 }
 
@@ -147,6 +154,64 @@ fn the_call_in_the_archives_form() {
     let returned = (COMPARE.read)(right.as_bytes(), &mut table, &mut answer);
     assert_eq!(returned, 8 + 256 * 255);
     assert_eq!((answer, table), ([9; 3], [FILL; 2048]));
+}
+
+#[test]
+fn the_place_in_the_archives_form() {
+    let mut answer = [9; 4];
+    for (text, figures) in [
+        (&b"halt"[..], [0, 0, 0]),
+        (b"halt;\nexit T", [15, 0, 11]),
+        (b"halt; 3", [20, 0, 6]),
+        (b"halt;\n", [14, 0, 6]),
+    ] {
+        assert_eq!((COMPARE.read_place)(text, &mut answer), 0);
+        assert_eq!(answer[..3], figures);
+    }
+    let right = [&"[pause||".repeat(256)[..], "pause", &"]".repeat(256)].concat();
+    assert_eq!((COMPARE.read_place)(right.as_bytes(), &mut answer), 0);
+    assert_eq!(answer, [8, 255, 0, 9]);
+    for length in 0..3 {
+        let mut answer = vec![9; length];
+        assert_eq!((COMPARE.read_place)(b"exit T", &mut answer), 3);
+        assert_eq!(answer, vec![9; length]);
+    }
+}
+
+/// A refusal of the table has no place in the text, and a text that is read has none.
+#[test]
+fn places_are_those_of_the_reading() {
+    for edge in edges() {
+        let refusal = read(&edge.text, &mut [0; 2048]).err();
+        let placed = read_place(&edge.text);
+        assert_eq!(placed.map(|placed| placed.refusal), refusal);
+        if let Some(placed) = placed {
+            assert!(placed.is_in_text() || placed.place == 0, "{}", edge.name);
+        }
+    }
+}
+
+#[test]
+fn lines_and_columns_count_from_1() {
+    let text = b"pause;\n\n emit \xc3\xa9\tA\n";
+    let expected = [
+        (0, (1, 1)),
+        (5, (1, 6)),
+        (6, (1, 7)),
+        (7, (2, 1)),
+        (8, (3, 1)),
+        (9, (3, 2)),
+        (14, (3, 7)),
+        (16, (3, 9)),
+        (17, (3, 10)),
+        (18, (3, 11)),
+        (19, (4, 1)),
+    ];
+    assert_eq!(text.len(), 19);
+    for (place, line_column) in expected {
+        assert_eq!(line_and_column(text, place), line_column, "{place}");
+    }
+    assert_eq!(line_and_column(b"", 0), (1, 1));
 }
 
 /// However deep a text is nested, a small stack suffices for it.

@@ -2,13 +2,19 @@
 
 use std::path::PathBuf;
 
+use compare::support::calls::place;
 use compare::support::cases::Call;
+use compare::support::older_texts::outcome_before_f9;
 use compare::support::programs::traps_around;
 use compare::support::vectors::{
     directory, read_blocks, read_instants, read_listings, read_texts, read_ties, BlockOutcome,
+    TextVector,
 };
 use compare::table::{self, Statement};
-use compare::{fetch, listing, narrow, part, read, resume_with_trail, start_with_trail, Refusal};
+use compare::{
+    fetch, listing, narrow, part, read, read_place, resume_with_trail, start_with_trail, Placed,
+    Refusal,
+};
 
 /// A test without its file fails, so that none passes unseen.
 fn vector_file(name: &str) -> PathBuf {
@@ -167,25 +173,72 @@ fn check_instants(name: &str) {
     println!("{} instants", vectors.len());
 }
 
-/// In a lent table of the least length and in longer ones, each byte of it.
 #[test]
-fn texts() {
-    let vectors = read_texts(&vector_file("text_open.jsonl"));
-    assert!(!vectors.is_empty());
+fn texts_of_the_dialect() {
+    let vectors = read_texts(&vector_file("dialect_open.jsonl"));
+    assert_eq!(vectors.len(), 600);
     for (line, vector) in vectors.iter().enumerate() {
-        let mut lent = lent_table(line);
-        let answer = read(&vector.text, &mut lent);
-        let expected = vector.outcome.as_ref();
-        let sizes = expected.map(|(table, signals)| (table.len() / 2, *signals));
-        assert_eq!(
-            answer,
-            sizes.map_err(|refusal| *refusal),
-            "line {}",
-            line + 1
-        );
-        check_lent(line, &lent, expected.map(|(table, _)| table));
+        check_text(line, vector);
     }
     println!("{} texts", vectors.len());
+}
+
+/// In a lent table of the least length and in longer ones, each byte of it.
+fn check_text(line: usize, vector: &TextVector) {
+    let mut lent = lent_table(line);
+    let answer = read(&vector.text, &mut lent);
+    let expected = vector.outcome.as_ref();
+    let sizes = expected.map(|(table, signals)| (table.len() / 2, *signals));
+    let sizes = sizes.map_err(|refusal| *refusal);
+    assert_eq!(answer, sizes, "line {}", line + 1);
+    check_lent(line, &lent, expected.map(|(table, _)| table));
+}
+
+/// These are by F-1, for which the words of F-9 are names. What has none of them and no
+/// count must be equal.
+#[test]
+fn texts_from_before_f9() {
+    let vectors = read_texts(&vector_file("text_open.jsonl"));
+    let (mut named, mut refused) = (0, Vec::new());
+    for (line, vector) in vectors.iter().enumerate() {
+        let before = outcome_before_f9(&vector.text);
+        assert_eq!(before, vector.outcome, "line {}", line + 1);
+        match (read_place(&vector.text), &vector.outcome) {
+            (Some(placed), Ok(_)) => {
+                assert_eq!(Some(placed), first_taken(&vector.text), "line {}", line + 1);
+                named += 1;
+            }
+            (Some(placed), Err(refusal)) if placed.refusal != *refusal => {
+                assert_eq!((refusal.number, placed.refusal.number), (14, 20));
+                refused.push(String::from_utf8_lossy(&vector.text));
+            }
+            _ => check_text(line, vector),
+        }
+    }
+    println!("{} texts, {named} with words for names", vectors.len());
+    assert_eq!(named, 45);
+    let expected = [
+        "case",
+        "every",
+        "immediate",
+        "7",
+        "nothing ; pause ; 9 nothing",
+    ];
+    assert_eq!(refused, expected);
+}
+
+/// The refusal of a text whose only fault are names that F-9 has taken.
+fn first_taken(text: &[u8]) -> Option<Placed> {
+    let is_of_word = |byte: &u8| byte.is_ascii_alphanumeric() || *byte == b'_';
+    let mut words = text.split(|byte| !is_of_word(byte));
+    words.find_map(|word| {
+        let number = match word {
+            b"halt" | b"sustain" | b"await" | b"abort" | b"weak" => 14,
+            b"immediate" | b"every" | b"case" => 20,
+            _ => return None,
+        };
+        Some(Placed::at(number, place(text, word)))
+    })
 }
 
 fn lent_table(line: usize) -> Vec<u8> {

@@ -1,7 +1,8 @@
 //! Tables of pure Esterel: the proved checker and the proved runner of single instants, the proved
-//! reader that makes a table from text, the proved finder of the tick in which a refused loop's
-//! body ends at once, the proved fetcher of tables that are stored in blocks on the service
-//! partition, and the proved narrower of start sets by signals that are known for certain.
+//! reader that makes a table from text and finds where a refused text is at fault, the proved finder
+//! of the tick in which a refused loop's body ends at once, the proved fetcher of tables that are
+//! stored in blocks on the service partition, and the proved narrower of start sets by signals that
+//! are known for certain.
 //!
 //! A table has two bytes a node, kind then field, children before parents. Nodes are numbered
 //! from 0, and the last is the whole program. Below, n is the number of nodes, half the table's
@@ -25,10 +26,11 @@
 //! write to buffers that the caller lends, and allocate nothing. A buffer may be longer than needed:
 //! what lies past the needed length is neither looked at nor changed. A refused call changes no
 //! buffer. [`Sets::of`], [`listing`], [`table_of`], [`Fault::of`], [`table_in`] and
-//! [`narrowed_sets`] bring their own buffers. [`part`] needs none: it hands back a part of the lent
-//! file. The calls keep no state, and any number of threads may make them at once; [`raw`] has the
-//! exported functions as they are. How much stack they need, [`read`] the most, is said in the
-//! header for C, `bindings/c/bavzhrono.h`.
+//! [`narrowed_sets`] bring their own buffers. [`read_place`] and [`part`] need none: the one hands
+//! back a place of the lent text, the other a part of the lent file. The calls keep no state, and any
+//! number of threads may make them at once; [`raw`] has the exported functions as they are. How much
+//! stack they need, [`read`] and [`read_place`] the most, is said in the header for C,
+//! `bindings/c/bavzhrono.h`.
 //!
 //! A loop of pause and emit 7, analysed and run for two instants:
 //!
@@ -66,6 +68,24 @@
 //! // The exit drops the inner loop, which is started again in that instant.
 //! let sets = Sets::of(&table)?;
 //! assert!(sets.marks[1].may_be_schizophrenic());
+//! # Ok::<(), bavzhrono::Refusal>(())
+//! ```
+//!
+//! A program in the everyday dialect, and where one that goes beyond it is at fault:
+//!
+//! ```
+//! use bavzhrono::{read_place, table_of};
+//!
+//! let table = table_of(b"weak abort sustain Serving when PowerWarning end")?;
+//! // Serving is signal 0, PowerWarning is signal 1.
+//! let body = [3, 0, 2, 0, 9, 0, 8, 0];
+//! let wait = [2, 0, 4, 0, 1, 0, 6, 1, 9, 0, 8, 0];
+//! assert_eq!(table, [&body[..], &[4, 0, 9, 0], &wait, &[10, 0, 11, 0]].concat());
+//!
+//! let text = "abort halt when immediate PowerWarning end";
+//! let placed = read_place(text.as_bytes()).expect("a refusal");
+//! assert_eq!(placed.refusal.number, 20);
+//! assert!(text[placed.place..].starts_with("immediate"));
 //! # Ok::<(), bavzhrono::Refusal>(())
 //! ```
 //!
@@ -145,7 +165,7 @@ pub use codes::{CodeSet, Codes};
 pub use instant::{resume, start, Closed, Completion};
 pub use listing::{listing, render};
 pub use refusal::Refusal;
-pub use text::{read, table_of, Reading};
+pub use text::{read, read_place, table_of, Placed, Reading};
 pub use tick::{tick, Fault, Tick};
 pub use ties::{narrow, narrowed_sets, Tie};
 

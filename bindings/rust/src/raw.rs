@@ -81,6 +81,13 @@ extern "C" {
         answer_length: usize,
     ) -> u32;
 
+    fn bavzhrono_read_place(
+        text: *const u8,
+        text_length: usize,
+        answer: *mut u64,
+        answer_length: usize,
+    ) -> u32;
+
     fn bavzhrono_tick(
         table: *const u8,
         table_length: usize,
@@ -201,6 +208,13 @@ pub fn read(text: &[u8], table: &mut [u8], answer: &mut [u64]) -> u32 {
             answer.len(),
         )
     }
+}
+
+/// The figures are the number and the node with which [`read`] refuses the text and the place of the
+/// fault; for a text that is read they are 0, 0 and 0. Whatever the text, the only refusal is 3.
+pub fn read_place(text: &[u8], answer: &mut [u64]) -> u32 {
+    // SAFETY: each pointer is followed by the length of its own slice.
+    unsafe { bavzhrono_read_place(text.as_ptr(), text.len(), answer.as_mut_ptr(), answer.len()) }
 }
 
 /// The figures are 1, the node and the length of the list if check 11 fails, which is not returned;

@@ -13,9 +13,9 @@ use std::fmt;
 /// ```
 #[derive(Clone, Copy, Debug, PartialEq, Eq, Hash)]
 pub struct Refusal {
-    /// The number of the check, 1 to 19.
+    /// The number of the check, 1 to 20.
     pub number: u32,
-    /// The lowest node that the check fits; 0 for checks 1, 2, 3, 7 and 12 to 19, which name none.
+    /// The lowest node that the check fits; 0 for checks 1, 2, 3, 7 and 12 to 20, which name none.
     pub node: usize,
 }
 
@@ -42,6 +42,7 @@ impl Refusal {
             17 => "the file is not of whole blocks of 512 bytes or has more than 64",
             18 => "the program has no whole edition in the file",
             19 => "a signal's tie is none of 0, 1 and 2",
+            20 => "the text leaves the grammar at immediate, every, case or a count",
             _ => "there is no check of this number",
         }
     }

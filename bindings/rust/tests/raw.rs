@@ -70,6 +70,10 @@ impl Lent {
         raw::read(text, &mut self.table, &mut self.answer)
     }
 
+    fn read_place(&mut self, text: &[u8]) -> u32 {
+        raw::read_place(text, &mut self.answer)
+    }
+
     fn tick(&mut self, table: &[u8]) -> u32 {
         raw::tick(table, &mut self.answers, &mut self.answer)
     }
@@ -133,18 +137,23 @@ fn refused_tables() -> Vec<(Vec<u8>, u32, u32)> {
     ]
 }
 
-/// A text for each number that refuses one, with the node.
-fn refused_texts() -> Vec<(String, u32, u32)> {
+/// A text for each number that refuses one, with the node and the place.
+fn refused_texts() -> Vec<(String, u32, u32, usize)> {
+    let signals = emits(257);
+    let last_signal = signals.find("S256").unwrap();
     vec![
-        (String::new(), 14, 0),
-        ("[pause]".to_string(), 14, 0),
-        (padded("pause", MAX_SOURCE + 1), 14, 0),
-        ("exit T".to_string(), 15, 0),
-        (emits(257), 16, 0),
-        (flat(513), 1, 0),
-        (flat(257), 8, 0),
-        (nested("[pause||", "pause", "]", 256), 8, 255),
-        (nested("trap T in ", "exit T", " end", 63), 9, 1),
+        (String::new(), 14, 0, 0),
+        ("[pause]".to_string(), 14, 0, 6),
+        ("loop pause \n".to_string(), 14, 0, 12),
+        (padded("pause", MAX_SOURCE + 1), 14, 0, MAX_SOURCE),
+        ("emit case".to_string(), 20, 0, 5),
+        (padded("await 3 S", MAX_SOURCE), 20, 0, 6),
+        ("exit T".to_string(), 15, 0, 5),
+        (signals, 16, 0, last_signal),
+        (flat(513), 1, 0, 0),
+        (flat(257), 8, 0, 0),
+        (nested("[pause||", "pause", "]", 256), 8, 255, 0),
+        (nested("trap T in ", "exit T", " end", 63), 9, 1, 0),
     ]
 }
 
@@ -180,7 +189,7 @@ fn a_refusal_is_number_and_node_and_leaves_the_answer() {
 
 #[test]
 fn a_refused_text_is_number_and_node_and_leaves_table_and_answer() {
-    for (text, number, node) in refused_texts() {
+    for (text, number, node, _) in refused_texts() {
         for entries in [3, 4, 8] {
             let lent = Lent::with_answer(entries);
             assert_unchanged(lent, Lent::read, text.as_bytes(), number + 256 * node);
@@ -239,10 +248,12 @@ fn a_short_answer_is_refused_by_3_after_1_and_2() {
 #[test]
 fn a_short_table_or_answer_is_refused_by_3_ahead_of_what_the_text_is_refused_by() {
     let mut texts = refused_texts();
-    texts.push(("pause".to_string(), 0, 0));
+    texts.push(("pause".to_string(), 0, 0, 0));
     for (text, ..) in texts {
         for entries in 0..3 {
-            assert_unchanged(Lent::with_answer(entries), Lent::read, text.as_bytes(), 3);
+            for function in [Lent::read, Lent::read_place] {
+                assert_unchanged(Lent::with_answer(entries), function, text.as_bytes(), 3);
+            }
         }
         for bytes in [0, 1, 2, 2 * MAX_NODES - 1] {
             let mut lent = Lent::with_answer(3);
@@ -270,6 +281,17 @@ fn a_short_table_or_answer_is_refused_by_3_ahead_of_what_the_file_is_refused_by(
 }
 
 #[test]
+fn the_place_of_a_refused_text_is_not_refused() {
+    for (text, number, node, place) in refused_texts() {
+        let figures = [number.into(), node.into(), place as u64];
+        for entries in [3, 4, 8] {
+            let mut lent = Lent::with_answer(entries);
+            assert_figures(&mut lent, Lent::read_place, text.as_bytes(), figures);
+        }
+    }
+}
+
+#[test]
 fn a_part_of_a_refused_file_is_not_refused() {
     for (file, number) in refused_files() {
         // Of the last file just the table is refused, for its length.
@@ -290,6 +312,8 @@ fn three_entries_of_the_answer_are_written_and_no_more() {
         assert_figures(&mut lent, Lent::render, W2, [13, 0, 0]);
         assert_figures(&mut lent, Lent::read, b"suspend emit A when S", [2, 2, 0]);
         assert_figures(&mut lent, Lent::read, b"[pause||nothing]", [3, 0, 0]);
+        assert_figures(&mut lent, Lent::read_place, b"emit case", [20, 0, 5]);
+        assert_figures(&mut lent, Lent::read_place, b"[pause||nothing]", [0, 0, 0]);
         assert_figures(&mut lent, Lent::tick, W1, [0, 4, 1]);
         assert_figures(&mut lent, Lent::tick, W2, [1, 1, 0]);
         assert_figures(&mut lent, Lent::tick, W8, [1, 7, 2]);

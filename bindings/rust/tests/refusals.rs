@@ -122,10 +122,10 @@ fn check_13_a_suspend_without_an_answer() {
 
 #[test]
 fn each_number_has_an_explanation_of_its_own() {
-    let lines: HashSet<_> = (0..=19)
+    let lines: HashSet<_> = (0..=20)
         .map(|number| Refusal { number, node: 0 }.explanation())
         .collect();
-    assert_eq!(lines.len(), 20);
+    assert_eq!(lines.len(), 21);
     assert!(lines
         .iter()
         .all(|line| !line.is_empty() && !line.contains('\n')));
@@ -134,7 +134,7 @@ fn each_number_has_an_explanation_of_its_own() {
 #[test]
 fn a_node_is_written_only_where_the_check_names_one() {
     let with_node = [4, 5, 6, 8, 9, 10, 11];
-    for number in 1..=19 {
+    for number in 1..=20 {
         let refusal = Refusal { number, node: 0 };
         let error: &dyn std::error::Error = &refusal;
         let node = if with_node.contains(&number) {

@@ -1,38 +1,12 @@
-//! Programs as text: the tables that the grammar of F-1 gives by hand, each refusal, and the deepest
-//! texts.
+//! Programs as text: the tables that the grammar of F-1 gives by hand, each refusal with the place of
+//! its fault, and the deepest texts, those of F-9 among them.
 
 mod common;
 
 use std::thread;
 
-use bavzhrono::{listing, raw, read, table_of, Reading, Sets, MAX_NODES, MAX_SOURCE};
+use bavzhrono::{listing, read, table_of, Sets, MAX_SOURCE};
 use common::*;
-
-/// The bytes that a lent table needs.
-const NEED: usize = 2 * MAX_NODES;
-
-/// Into a table that just suffices and into a longer one, of which only the front changes.
-fn assert_read(text: &str, table: &[u8], signals: usize) {
-    let nodes = table.len() / 2;
-    for more in [0, 5] {
-        let mut lent = vec![FILL; NEED + more];
-        let mut expected = lent.clone();
-        expected[..table.len()].copy_from_slice(table);
-        let reading = read(text.as_bytes(), &mut lent);
-        assert_eq!(reading, Ok(Reading { nodes, signals }), "{text}");
-        assert_eq!(lent, expected, "{text}");
-    }
-    assert_eq!(table_of(text.as_bytes()).as_deref(), Ok(table), "{text}");
-}
-
-fn assert_not_read(text: impl AsRef<[u8]>, number: u32, node: usize) {
-    let text = text.as_ref();
-    let shown = String::from_utf8_lossy(&text[..text.len().min(60)]);
-    let mut lent = [FILL; NEED];
-    assert_eq!(read(text, &mut lent), refused(number, node), "{shown}");
-    assert_eq!(lent, [FILL; NEED], "{shown}");
-    assert_eq!(table_of(text), refused(number, node), "{shown}");
-}
 
 #[test]
 fn leaves_and_statements_of_one_child() {
@@ -49,8 +23,8 @@ fn a_suspend_is_closed_by_its_signal() {
     let sequence = [2, 0, 1, 0, 9, 0, 7, 0];
     assert_read("suspend pause;nothing when S", &sequence, 1);
     assert_read("loop suspend pause when S end", &[2, 0, 7, 0, 8, 0], 1);
-    assert_not_read("suspend pause when S end", 14, 0);
-    assert_not_read("suspend pause", 14, 0);
+    assert_refused_at("suspend pause when S ^end", 14);
+    assert_refused_at("suspend pause^", 14);
 }
 
 #[test]
@@ -75,8 +49,8 @@ fn a_missing_branch_is_nothing() {
     assert_read("present S else pause end", &[1, 0, 2, 0, 6, 0], 1);
     let both = "present S then emit A else emit B end";
     assert_read(both, &[3, 1, 3, 2, 6, 0], 3);
-    assert_not_read("present S end", 14, 0);
-    assert_not_read("present S else pause then pause end", 14, 0);
+    assert_refused_at("present S ^end", 14);
+    assert_refused_at("present S else pause ^then pause end", 14);
 }
 
 #[test]
@@ -177,15 +151,16 @@ fn a_thousand_and_twenty_four_nodes() {
         text = format!("[{text}||{text}]");
     }
     let table = full_table_with([2, 0], [10, 0]);
-    assert_eq!(table.len(), NEED);
+    assert_eq!(table.len(), TABLE_NEED);
     assert_read(&format!("loop {text} end"), &table, 0);
 }
 
 #[test]
 fn check_3_comes_first() {
-    let refused_later = ["", "exit T", &emits(257), &flat(513), &flat(257)].map(String::from);
+    let refused_later =
+        ["", "case", "exit T", &emits(257), &flat(513), &flat(257)].map(String::from);
     for text in ["pause".to_string()].iter().chain(&refused_later) {
-        for length in [0, 1, 2, NEED - 1] {
+        for length in [0, 1, 2, TABLE_NEED - 1] {
             let mut lent = vec![FILL; length];
             assert_eq!(read(text.as_bytes(), &mut lent), refused(3, 0));
             assert_eq!(lent, vec![FILL; length]);
@@ -196,123 +171,122 @@ fn check_3_comes_first() {
 #[test]
 fn check_14_outside_the_grammar() {
     let texts = [
-        "",
-        " \t\n",
-        "[pause]",
-        "[]",
-        "[pause||]",
-        "pause||pause",
-        "[pause||pause",
-        "pause]",
-        "pause;",
-        ";pause",
-        "pause pause",
-        "loop end",
-        "loop pause",
-        "loop pause; end",
-        "emit",
-        "halt",
-        "Pause",
+        "^",
+        " \t\n^",
+        "[pause^]",
+        "[^]",
+        "[pause||^]",
+        "pause^||pause",
+        "[pause||pause^",
+        "pause^]",
+        "pause;^",
+        "^;pause",
+        "pause ^pause",
+        "loop ^end",
+        "loop pause^",
+        "loop pause; ^end",
+        "emit^",
+        "^Pause",
     ];
     for text in texts {
-        assert_not_read(text, 14, 0);
+        assert_refused_at(text, 14);
     }
 }
 
 #[test]
 fn check_14_no_name() {
-    for text in ["emit end", "emit 3a", "emit _a", "emit3", "emit []"] {
-        assert_not_read(text, 14, 0);
+    for text in ["emit ^end", "emit ^3a", "emit ^_a", "^emit3", "emit ^[]"] {
+        assert_refused_at(text, 14);
     }
-    assert_not_read(format!("emit {}", "a".repeat(33)), 14, 0);
+    assert_refused_at(format!("emit ^{}", "a".repeat(33)), 14);
 }
 
 #[test]
 fn check_14_a_byte_or_a_bar_that_no_text_has() {
-    let bars = ["[pause|pause]", "[pause| |pause]", "[pause|||pause]"];
+    let bars = ["[pause^|pause]", "[pause^| |pause]", "[pause||^|pause]"];
     let bytes = [
-        "pause;\r\npause",
-        "pause % wait",
-        "emit \u{e9}",
-        "pause\0",
-        "pause.",
+        "pause;^\r\npause",
+        "pause ^% wait",
+        "emit ^\u{e9}",
+        "pause^\0",
+        "pause^.",
     ];
     for text in bars.iter().chain(&bytes) {
-        assert_not_read(text, 14, 0);
+        assert_refused_at(text, 14);
     }
+    assert_not_read(b"pause\xff", 14, 0, 5);
 }
 
 #[test]
 fn check_14_the_length() {
     assert_read(&padded("pause", MAX_SOURCE), &[2, 0], 0);
-    assert_not_read(padded("pause", MAX_SOURCE + 1), 14, 0);
-    assert_not_read(padded("exit T", MAX_SOURCE), 15, 0);
-    assert_not_read(padded("exit T", MAX_SOURCE + 1), 14, 0);
+    assert_not_read(padded("pause", MAX_SOURCE + 1), 14, 0, MAX_SOURCE);
+    assert_not_read(padded("exit T", MAX_SOURCE), 15, 0, 5);
+    assert_not_read(padded("exit T", MAX_SOURCE + 1), 14, 0, MAX_SOURCE);
 }
 
 #[test]
 fn check_15_an_exit_without_its_trap() {
-    assert_not_read("exit T", 15, 0);
-    assert_not_read("trap T in pause end; exit T", 15, 0);
-    assert_not_read("trap T in exit t end", 15, 0);
-    assert_not_read("signal T in exit T end", 15, 0);
+    assert_refused_at("exit ^T", 15);
+    assert_refused_at("trap T in pause end; exit ^T", 15);
+    assert_refused_at("trap T in exit ^t end", 15);
+    assert_refused_at("signal T in exit ^T end", 15);
 }
 
 #[test]
 fn check_16_a_257th_signal_name() {
-    assert_not_read(emits(257), 16, 0);
+    assert_refused_at(too_many_emits(), 16);
 }
 
 #[test]
 fn check_1_a_table_that_would_be_too_long() {
-    assert_not_read(flat(513), 1, 0);
-    assert_not_read(flat(512), 8, 0);
+    assert_not_read(flat(513), 1, 0, 0);
+    assert_not_read(flat(512), 8, 0, 0);
 }
 
 #[test]
 fn check_8_a_node_that_would_be_too_deep() {
-    assert_not_read(flat(257), 8, 0);
-    assert_not_read(nested("loop ", "pause", " end", 256), 8, 0);
+    assert_not_read(flat(257), 8, 0, 0);
+    assert_not_read(nested("loop ", "pause", " end", 256), 8, 0, 0);
     // The pauses come first. The last but one and the last of 257 are in the innermost bracket.
-    assert_not_read(nested("[pause||", "pause", "]", 256), 8, 255);
+    assert_not_read(nested("[pause||", "pause", "]", 256), 8, 255, 0);
 }
 
 #[test]
 fn check_9_too_many_traps() {
     let traps = nested("trap T in ", "exit T", " end", 63);
-    assert_not_read(&traps, 9, 1);
-    assert_not_read(format!("pause;{traps}"), 9, 2);
+    assert_not_read(&traps, 9, 1, 0);
+    assert_not_read(format!("pause;{traps}"), 9, 2, 0);
 }
 
 #[test]
 fn checks_are_made_in_the_order_14_15_16_1_8_9() {
     let signals = emits(257);
-    assert_not_read("exit T; end", 14, 0);
-    assert_not_read(format!("{signals};"), 14, 0);
-    assert_not_read(format!("{signals}; exit T"), 15, 0);
-    assert_not_read(format!("{signals}; {}", flat(500)), 16, 0);
-    assert_not_read(flat(513), 1, 0);
-    assert_not_read(nested("trap T in ", "exit T", " end", 256), 8, 0);
+    assert_refused_at("exit T; ^end", 14);
+    assert_refused_at(format!("{signals};^"), 14);
+    assert_refused_at(format!("{signals}; exit ^T"), 15);
+    assert_refused_at(format!("{}; {}", too_many_emits(), flat(500)), 16);
+    assert_not_read(flat(513), 1, 0, 0);
+    assert_not_read(nested("trap T in ", "exit T", " end", 256), 8, 0, 0);
 }
 
-/// What the exported function returns in a thread with 8 MiB of stack. It must leave its buffers.
-fn assert_returns_in_a_thread(text: String, expected: u32) {
-    let name: String = text.chars().take(30).collect();
-    assert!(text.len() <= MAX_SOURCE, "{name}");
-    let call = move || {
-        let (mut table, mut answer) = ([FILL; NEED], [u64::MAX; 3]);
-        let returned = raw::read(text.as_bytes(), &mut table, &mut answer);
-        let unchanged = table == [FILL; NEED] && answer == [u64::MAX; 3];
-        (returned, unchanged)
-    };
+/// Emits of 257 signals, with a caret before the name of the last.
+fn too_many_emits() -> String {
+    emits(257).replace("S256", "^S256")
+}
+
+/// In a thread with 8 MiB of stack.
+fn assert_not_read_in_a_thread(text: String, number: u32, place: usize) {
+    assert!(text.len() <= MAX_SOURCE);
+    let call = move || assert_not_read(text, number, 0, place);
     let thread = thread::Builder::new().stack_size(8 << 20).spawn(call);
     let outcome = thread.expect("a thread starts").join();
-    assert_eq!(outcome.unwrap(), (expected, true), "{name}");
+    outcome.expect("the text is refused at its place");
 }
 
-/// The words over and over, up to the last byte that a text can have.
-fn filled(words: &str) -> String {
-    words.chars().cycle().take(MAX_SOURCE).collect()
+/// The words as often as a text can have them, and its end.
+fn open_levels(words: &str, end: &str) -> String {
+    words.repeat((MAX_SOURCE - end.len()) / words.len()) + end
 }
 
 #[test]
@@ -332,9 +306,20 @@ fn levels_that_are_never_closed_do_not_exhaust_the_stack() {
         "present S then ",
         "present S else ",
         "present S then pause else ",
+        "[halt||",
+        "abort ",
+        "abort[",
+        "weak abort ",
+        "abort await S;",
     ];
+    // All of them can go on, whatever the limit of the length: only the end is at fault.
+    let ends = [("", 14), ("|", 14), ("case", 20), ("1984", 20)];
     for words in levels {
-        assert_returns_in_a_thread(filled(words), 14);
+        for (end, number) in ends {
+            let text = open_levels(words, end);
+            let place = text.len() - end.len();
+            assert_not_read_in_a_thread(text, number, place);
+        }
     }
 }
 
@@ -342,24 +327,24 @@ fn levels_that_are_never_closed_do_not_exhaust_the_stack() {
 fn the_deepest_texts_of_the_grammar_do_not_exhaust_the_stack() {
     let levels = [
         ("loop ", "nothing", " end"),
-        ("[", "pause", "||pause]"),
-        ("[pause||", "pause", "]"),
+        ("[", "halt", "||halt]"),
+        ("[halt||", "halt", "]"),
         ("suspend ", "pause", " when S"),
         ("trap T in ", "exit T", " end"),
         ("present S then ", "pause", " end"),
         ("present S else ", "pause", " end"),
-        ("loop[", "pause", "||pause]end"),
+        ("abort ", "halt", " when S end"),
+        ("weak abort ", "halt", " when S end"),
         ("pause;", "pause", ""),
+        // 2,184 levels, the most that were found in a text of the grammar.
+        ("loop[", "halt", "||halt]end"),
     ];
     for (begin, inner, end) in levels {
         let levels = (MAX_SOURCE - inner.len()) / (begin.len() + end.len());
         // As many levels as there can be have too many nodes.
-        assert_returns_in_a_thread(nested(begin, inner, end, levels), 1);
+        assert_not_read_in_a_thread(nested(begin, inner, end, levels), 1, 0);
     }
     // A level of 16 bytes: just 1,024 nodes.
     let signals = nested("signal S in ", "pause", " end", 1023);
-    assert_returns_in_a_thread(signals, 8);
-    // 2,047 levels, the most that were found in a text of the grammar.
-    let loops_and_brackets = nested("loop[", "pause", "||pause]end", 1023);
-    assert_returns_in_a_thread(format!("loop {loops_and_brackets} end"), 1);
+    assert_not_read_in_a_thread(signals, 8, 0);
 }

@@ -5,6 +5,7 @@ use std::hint::black_box;
 use compare::instant::SIGNALS;
 use compare::support::blocks::{Bytes, PROGRAM};
 use compare::support::calls::{Calls, COMPARE, FIGURES};
+use compare::support::printer::nodes_of;
 use compare::table::MOST_BYTES;
 use compare::tick::TICK_ANSWERS;
 use ours::OURS;
@@ -48,6 +49,7 @@ pub enum Call {
     Start,
     Resume,
     Read,
+    ReadPlace,
     Tick,
     Fetch,
     Part,
@@ -55,11 +57,12 @@ pub enum Call {
 }
 
 impl Call {
-    pub const ALL: [Call; 8] = [
+    pub const ALL: [Call; 9] = [
         Call::Analyse,
         Call::Start,
         Call::Resume,
         Call::Read,
+        Call::ReadPlace,
         Call::Tick,
         Call::Fetch,
         Call::Part,
@@ -72,6 +75,7 @@ impl Call {
             Call::Start => "start",
             Call::Resume => "resume",
             Call::Read => "read",
+            Call::ReadPlace => "read_place",
             Call::Tick => "tick",
             Call::Fetch => "fetch",
             Call::Part => "part",
@@ -92,7 +96,7 @@ impl Call {
         match self {
             Call::Analyse | Call::Tick | Call::Narrow => "a node",
             Call::Start | Call::Resume => "an entry",
-            Call::Read => "a byte",
+            Call::Read | Call::ReadPlace => "a byte",
             Call::Fetch | Call::Part => "a block",
         }
     }
@@ -109,7 +113,7 @@ impl Call {
     pub fn units(self) -> Option<&'static str> {
         match self {
             Call::Start | Call::Resume => Some("entries"),
-            Call::Read => Some("bytes"),
+            Call::Read | Call::ReadPlace => Some("bytes"),
             _ => None,
         }
     }
@@ -154,9 +158,9 @@ pub fn of(call: Call) -> Box<dyn Iterator<Item = Case>> {
             let shapes = SHAPES.iter().filter(|shape| shape.name != "right");
             let printed =
                 shapes.flat_map(|shape| SIZES.map(|nodes| Case::of_printed(shape, nodes)));
-            let worst = texts::worst().into_iter();
-            Box::new(printed.chain(worst.map(|(name, text)| Case::of_text(name, text))))
+            Box::new(printed.chain(dialect_and_worst(call)))
         }
+        Call::ReadPlace => Box::new(dialect_and_worst(call)),
         Call::Tick => {
             let shapes = ticks::SHAPES.iter();
             Box::new(shapes.flat_map(|shape| SIZES.map(|nodes| Case::of_tick(shape, nodes))))
@@ -175,6 +179,13 @@ pub fn of(call: Call) -> Box<dyn Iterator<Item = Case>> {
             Box::new(ties::SHAPES.into_iter().flat_map(of_shape))
         }
     }
+}
+
+/// Texts of the dialect, and those that are dear to read.
+fn dialect_and_worst(call: Call) -> impl Iterator<Item = Case> {
+    let aborts = SIZES.map(|nodes| ("aborts", texts::aborts(nodes)));
+    let texts = aborts.into_iter().chain(texts::worst());
+    texts.map(move |(name, text)| Case::of_text(call, name, text))
 }
 
 impl Case {
@@ -203,13 +214,14 @@ impl Case {
 
     /// A reading of a program as text.
     fn of_printed(shape: &Shape, nodes: usize) -> Case {
-        let case = Case::of_text(shape.name, texts::printed(&shape.program(nodes)));
+        let text = texts::printed(&nodes_of(&shape.program(nodes)));
+        let case = Case::of_text(Call::Read, shape.name, text);
         assert_eq!(case.size, nodes, "{} is not read", case.name());
         case
     }
 
-    /// A reading of a text. One that is refused has no nodes.
-    fn of_text(shape: &'static str, text: Vec<u8>) -> Case {
+    /// A reading of a text, or of the place of its refusal. One that is refused has no nodes.
+    fn of_text(call: Call, shape: &'static str, text: Vec<u8>) -> Case {
         let mut case = Case {
             call: Call::Read,
             shape,
@@ -220,6 +232,7 @@ impl Case {
         };
         case.run(&COMPARE);
         case.size = case.answer[0] as usize;
+        case.call = call;
         case
     }
 
@@ -281,6 +294,7 @@ impl Case {
         let answer = &mut self.answer[..];
         let instant = match self.call {
             Call::Read => return (calls.read)(black_box(&self.text), &mut self.table, answer),
+            Call::ReadPlace => return (calls.read_place)(black_box(&self.text), answer),
             Call::Tick => return (calls.tick)(table, &mut self.answers, answer),
             Call::Fetch => return (calls.fetch)(file, PROGRAM, &mut self.table, answer),
             Call::Part => {
@@ -324,7 +338,7 @@ impl Case {
         case.run(&COMPARE);
         match self.call {
             Call::Start | Call::Resume => case.answer[2] as usize,
-            Call::Read => case.text.len(),
+            Call::Read | Call::ReadPlace => case.text.len(),
             _ => case.size,
         }
     }

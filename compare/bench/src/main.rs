@@ -80,7 +80,7 @@ fn one(mut arguments: impl Iterator<Item = String>) -> Result<(), String> {
     // and the instructions that it takes would blur the count.
     let mut case = Call::ALL
         .into_iter()
-        .filter(|call| name.starts_with(call.name()))
+        .filter(|call| name.split('/').next() == Some(call.name()))
         .flat_map(cases::of)
         .find(|case| case.name() == name)
         .ok_or(format!("unknown case {name}"))?;

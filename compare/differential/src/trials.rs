@@ -238,6 +238,40 @@ impl Trial for Reading {
 }
 
 #[derive(Clone, PartialEq)]
+pub struct Placing {
+    pub text: Guarded<u8>,
+    pub answer: Guarded<u64>,
+}
+
+impl Placing {
+    pub fn new(text: &[u8]) -> Placing {
+        Placing {
+            text: Guarded::with(text),
+            answer: Guarded::untouched(FIGURES),
+        }
+    }
+}
+
+impl Trial for Placing {
+    fn name(&self) -> &'static str {
+        "read_place"
+    }
+
+    fn call(&mut self, calls: &Calls) -> u32 {
+        (calls.read_place)(self.text.lent(), self.answer.lent())
+    }
+
+    fn with_answer(self, length: usize) -> Placing {
+        let answer = Guarded::untouched(length);
+        Placing { answer, ..self }
+    }
+
+    fn buffers(&self) -> Vec<(&'static str, String)> {
+        vec![("text", self.text.hex()), ("answer", self.answer.hex())]
+    }
+}
+
+#[derive(Clone, PartialEq)]
 pub struct Finding {
     pub table: Guarded<u8>,
     pub answers: Guarded<u8>,

@@ -11,7 +11,7 @@ use compare::{sets, table, Sets};
 use differential::groups::{refusals, texts};
 use differential::tally::{Difference, Tally};
 use differential::trials::{
-    Analysis, Fetching, Finding, Instant, Narrowing, Reading, Rendering, Taking, Trial,
+    Analysis, Fetching, Finding, Instant, Narrowing, Placing, Reading, Rendering, Taking, Trial,
 };
 
 fn assert_noticed(wrong: Calls, trial: &impl Trial) {
@@ -136,6 +136,7 @@ fn told_by<T: Telling>() -> Calls {
             T::tell(answer, |answer| (COMPARE.render)(table, text, answer))
         },
         read: |text, table, answer| T::tell(answer, |answer| (COMPARE.read)(text, table, answer)),
+        read_place: |text, answer| T::tell(answer, |answer| (COMPARE.read_place)(text, answer)),
         tick: |table, answers, answer| {
             T::tell(answer, |answer| (COMPARE.tick)(table, answers, answer))
         },
@@ -169,6 +170,7 @@ fn a_fourth_figure() {
     assert_noticed(wrong, &Analysis::new(W1).with_answer(4));
     assert_noticed(wrong, &Rendering::new(W2, 13).with_answer(4));
     assert_noticed(wrong, &Reading::new(b"pause").with_answer(4));
+    assert_noticed(wrong, &Placing::new(b"pause").with_answer(4));
     assert_noticed(wrong, &Finding::new(W8).with_answer(4));
     assert_noticed(wrong, &narrowing(W1).with_answer(4));
     let fetching = Fetching::new(&stored_w1(), PROGRAM);
@@ -309,6 +311,7 @@ fn a_short_answer_that_is_accepted() {
     );
     assert_noticed(wrong, &Rendering::new(W2, 13).with_answer(1));
     assert_noticed(wrong, &Reading::new(b"pause").with_answer(2));
+    assert_noticed(wrong, &Placing::new(b"exit T").with_answer(2));
     assert_noticed(wrong, &Finding::new(W8).with_answer(2));
     assert_noticed(wrong, &narrowing(W1).with_answer(2));
     let fetching = Fetching::new(&stored_w1(), PROGRAM);

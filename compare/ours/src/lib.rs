@@ -1,6 +1,6 @@
 //! The proved code's calls, from its archive, as the bindings for Rust have them.
 
-use bavzhrono::raw::{analyse, fetch, narrow, part, read, render, resume, start, tick};
+use bavzhrono::raw::{analyse, fetch, narrow, part, read, read_place, render, resume, start, tick};
 use compare::support::calls::Calls;
 
 /// The calls of the proved code.
@@ -10,6 +10,7 @@ pub const OURS: Calls = Calls {
     resume,
     render,
     read,
+    read_place,
     tick,
     fetch,
     part,

@@ -13,6 +13,8 @@ pub type Instant = fn(&[u8], &[u8], &mut [u8], &mut [u8], &mut [u64]) -> u32;
 pub type Render = fn(&[u8], &mut [u8], &mut [u64]) -> u32;
 /// Text, table, answer.
 pub type Read = fn(&[u8], &mut [u8], &mut [u64]) -> u32;
+/// Text, answer.
+pub type ReadPlace = fn(&[u8], &mut [u64]) -> u32;
 /// Table, answers, answer.
 pub type Tick = fn(&[u8], &mut [u8], &mut [u64]) -> u32;
 /// File, program, table, answer.
@@ -29,6 +31,7 @@ pub struct Calls {
     pub resume: Instant,
     pub render: Render,
     pub read: Read,
+    pub read_place: ReadPlace,
     pub tick: Tick,
     pub fetch: Fetch,
     pub part: Part,
@@ -42,6 +45,7 @@ pub const COMPARE: Calls = Calls {
     resume,
     render,
     read,
+    read_place,
     tick,
     fetch,
     part,
@@ -114,6 +118,19 @@ fn read(text: &[u8], table: &mut [u8], answer: &mut [u64]) -> u32 {
         let front = front(answer)?;
         let (nodes, signals) = crate::read(text, table)?;
         *front = [nodes as u64, signals as u64, 0];
+        Ok(())
+    })
+}
+
+/// The figures are the number, node and place of the text's refusal, all 0 for a text that is
+/// read. Only an answer that is too short is refused.
+fn read_place(text: &[u8], answer: &mut [u64]) -> u32 {
+    returned(|| {
+        let front = front(answer)?;
+        *front = crate::read_place(text).map_or([0; FIGURES], |placed| {
+            let Refusal { number, node } = placed.refusal;
+            [u64::from(number), node as u64, placed.place as u64]
+        });
         Ok(())
     })
 }

@@ -11,7 +11,10 @@ pub mod blocks;
 pub mod bodies;
 pub mod calls;
 pub mod cases;
+pub mod chart;
 pub mod damage;
+pub mod derivations;
+pub mod dialect_edges;
 pub mod edges;
 pub mod every;
 pub mod families;
@@ -23,6 +26,7 @@ pub mod narrow_edges;
 pub mod narrowings;
 pub mod nodes;
 pub mod numbers;
+pub mod older_texts;
 pub mod partitions;
 pub mod printer;
 pub mod programs;
@@ -39,6 +43,7 @@ pub mod ties;
 pub mod vectors;
 pub mod wrong_blocks;
 pub mod wrong_marks;
+pub mod wrong_readers;
 pub mod wrong_ties;
 
 /// The seed of every generated table and instant.

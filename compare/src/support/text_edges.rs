@@ -1,9 +1,10 @@
 //! Texts at the edges of request F-1 and of its agreed readings, with what a reader
-//! must make of them.
+//! must make of them, and the places of their refusals, as F-9 has them.
 
+use super::dialect_edges;
 use crate::checks::MOST_TRAPS;
-use crate::text::MOST_TEXT;
-use crate::Refusal;
+use crate::text::{Translated, MOST_TEXT};
+use crate::{Placed, Refusal};
 
 pub struct TextEdge {
     pub name: &'static str,
@@ -16,12 +17,12 @@ pub enum Outcome {
     Table(Vec<u8>, usize),
     /// Only the numbers of nodes and of signals.
     Sizes(usize, usize),
-    Refused(Refusal),
+    Refused(Placed),
 }
 
 impl TextEdge {
     /// Whether a reader that gives this outcome is right.
-    pub fn is_met_by(&self, outcome: &Result<(Vec<u8>, usize), Refusal>) -> bool {
+    pub fn is_met_by(&self, outcome: &Result<Translated, Placed>) -> bool {
         match (&self.outcome, outcome) {
             (Outcome::Table(table, signals), Ok((bytes, count))) => {
                 table == bytes && signals == count
@@ -36,11 +37,13 @@ impl TextEdge {
 }
 
 /// The names of the edges that any reader should be tried with, however long they are.
-pub const DEEPEST: [&str; 4] = [
+pub const DEEPEST: [&str; 6] = [
     "16,384 opening brackets",
     "loops that are never closed",
     "the deepest text",
     "1,023 loops",
+    "16,380 opening brackets and case",
+    "2,730 aborts and case",
 ];
 
 pub fn edges() -> Vec<TextEdge> {
@@ -57,10 +60,16 @@ pub fn edges() -> Vec<TextEdge> {
     edges.extend(depths());
     edges.extend(never_closed());
     edges.extend(deepest());
+    edges.extend(dialect_edges::edges());
     edges
 }
 
-fn table(name: &'static str, text: impl Into<Vec<u8>>, table: &[u8], signals: usize) -> TextEdge {
+pub(super) fn table(
+    name: &'static str,
+    text: impl Into<Vec<u8>>,
+    table: &[u8],
+    signals: usize,
+) -> TextEdge {
     TextEdge {
         name,
         text: text.into(),
@@ -68,7 +77,12 @@ fn table(name: &'static str, text: impl Into<Vec<u8>>, table: &[u8], signals: us
     }
 }
 
-fn sizes(name: &'static str, text: impl Into<Vec<u8>>, nodes: usize, signals: usize) -> TextEdge {
+pub(super) fn sizes(
+    name: &'static str,
+    text: impl Into<Vec<u8>>,
+    nodes: usize,
+    signals: usize,
+) -> TextEdge {
     TextEdge {
         name,
         text: text.into(),
@@ -76,17 +90,47 @@ fn sizes(name: &'static str, text: impl Into<Vec<u8>>, nodes: usize, signals: us
     }
 }
 
-fn refused(name: &'static str, text: impl Into<Vec<u8>>, number: u32, node: usize) -> TextEdge {
+/// Refused for its table.
+pub(super) fn refused(
+    name: &'static str,
+    text: impl Into<Vec<u8>>,
+    number: u32,
+    node: usize,
+) -> TextEdge {
     TextEdge {
         name,
         text: text.into(),
-        outcome: Outcome::Refused(Refusal { number, node }),
+        outcome: Outcome::Refused(Placed::of_table(Refusal { number, node })),
     }
 }
 
-/// Refused by 14.
-fn outside(name: &'static str, text: impl Into<Vec<u8>>) -> TextEdge {
-    refused(name, text, 14, 0)
+/// Refused where the caret stands, which is not of the text.
+pub(super) fn refused_at(name: &'static str, number: u32, marked: impl Into<Vec<u8>>) -> TextEdge {
+    let mut text = marked.into();
+    let mut carets = (0..text.len()).filter(|&at| text[at] == b'^');
+    let (Some(place), None) = (carets.next(), carets.next()) else {
+        panic!("{name} has no caret, or more than one");
+    };
+    text.remove(place);
+    TextEdge {
+        name,
+        text,
+        outcome: Outcome::Refused(Placed::at(number, place)),
+    }
+}
+
+/// Refused by 14 where the caret stands.
+pub(super) fn outside(name: &'static str, marked: impl Into<Vec<u8>>) -> TextEdge {
+    refused_at(name, 14, marked)
+}
+
+/// Refused by 14 for its length.
+pub(super) fn too_long(name: &'static str, text: impl Into<Vec<u8>>) -> TextEdge {
+    TextEdge {
+        name,
+        text: text.into(),
+        outcome: Outcome::Refused(Placed::at(14, MOST_TEXT)),
+    }
 }
 
 fn statements() -> Vec<TextEdge> {
@@ -96,15 +140,15 @@ fn statements() -> Vec<TextEdge> {
         table("signal", "signal S in pause end", &[2, 0, 5, 0], 1),
         table("exit", "trap T in exit T end", &[4, 0, 11, 0], 0),
         table("suspend", "suspend pause when S", &[2, 0, 7, 0], 1),
-        outside("an end after suspend", "suspend pause when S end"),
+        outside("an end after suspend", "suspend pause when S ^end"),
         table(
             "an end that an outer statement waits for",
             "loop suspend pause when S end",
             &[2, 0, 7, 0, 8, 0],
             1,
         ),
-        outside("no statement", "loop end"),
-        outside("two statements", "pause pause"),
+        outside("no statement", "loop ^end"),
+        outside("two statements", "pause ^pause"),
     ]
 }
 
@@ -126,9 +170,9 @@ fn branches() -> Vec<TextEdge> {
             else_alone,
             1,
         ),
-        outside("no branch", "present S end"),
-        outside("else before then", "present S else pause then pause end"),
-        outside("two else branches", "present S else pause else pause end"),
+        outside("no branch", "present S ^end"),
+        outside("else before then", "present S else pause ^then pause end"),
+        outside("two else branches", "present S else pause ^else pause end"),
     ]
 }
 
@@ -164,13 +208,13 @@ fn grouping() -> Vec<TextEdge> {
             &[2, 0, 1, 0, 9, 0, 2, 0, 2, 0, 9, 0, 10, 0],
             0,
         ),
-        outside("a bracket without a double bar", "[pause]"),
-        outside("a bracket of a sequence", "[pause;pause]"),
-        outside("a double bar without a bracket", "pause||pause"),
-        outside("a semicolon at the end", "pause;"),
-        outside("a semicolon before end", "loop pause; end"),
-        outside("an empty bracket", "[]"),
-        outside("an empty branch", "[pause||]"),
+        outside("a bracket without a double bar", "[pause^]"),
+        outside("a bracket of a sequence", "[pause;pause^]"),
+        outside("a double bar without a bracket", "pause^||pause"),
+        outside("a semicolon at the end", "pause;^"),
+        outside("a semicolon before end", "loop pause; ^end"),
+        outside("an empty bracket", "[^]"),
+        outside("an empty branch", "[pause||^]"),
     ]
 }
 
@@ -235,8 +279,8 @@ fn traps() -> Vec<TextEdge> {
             &[2, 0, 11, 0, 4, 0, 9, 0, 11, 0],
             0,
         ),
-        refused("beside its trap", "trap A in pause end; exit A", 15, 0),
-        refused("a signal's name", "signal A in exit A end", 15, 0),
+        refused_at("beside its trap", 15, "trap A in pause end; exit ^A"),
+        refused_at("a signal's name", 15, "signal A in exit ^A end"),
     ]
 }
 
@@ -251,27 +295,26 @@ fn words() -> Vec<TextEdge> {
         ),
         table("every character", "emit aZ_09", &[3, 0], 1),
         table("the longest name", format!("emit {longest}"), &[3, 0], 1),
-        outside("a longer name", format!("emit {longest}a")),
-        outside("a longer word", format!("pause; {longest}a")),
+        outside("a longer name", format!("emit ^{longest}a")),
+        outside("a longer word", format!("pause; ^{longest}a")),
         table(
             "words with more to them",
             "emit ends; emit emit3",
             &[3, 0, 3, 1, 9, 0],
             2,
         ),
-        outside("a word for a name", "emit end"),
-        outside("a digit first", "emit 3a"),
-        outside("an underscore first", "emit _a"),
-        outside("one word", "emit3"),
-        outside("one word, too", "emitA"),
-        outside("a word of the full language", "halt"),
+        outside("a word for a name", "emit ^end"),
+        outside("a digit first", "emit ^3a"),
+        outside("an underscore first", "emit ^_a"),
+        outside("one word", "^emit3"),
+        outside("one word, too", "^emitA"),
     ]
 }
 
 fn bytes() -> Vec<TextEdge> {
     vec![
-        outside("an empty text", ""),
-        outside("blanks alone", " \t\n"),
+        outside("an empty text", "^"),
+        outside("blanks alone", " \t\n^"),
         table(
             "blanks of every kind",
             "\n\tloop\tpause\n end \t",
@@ -284,33 +327,34 @@ fn bytes() -> Vec<TextEdge> {
             &[2, 0, 2, 0, 10, 0, 3, 0, 9, 0],
             1,
         ),
-        outside("a carriage return", "pause;\r\npause"),
-        outside("a form feed", "pause;\x0cpause"),
-        outside("a byte 0 at the end", "pause\0"),
-        outside("a comment", "pause % wait"),
-        outside("a letter that is not ASCII", "emit \u{e9}"),
-        outside("a blank that is not ASCII", "emit\u{a0}A"),
-        outside("two single bars", "[pause| |pause]"),
-        outside("a single bar", "[pause|pause]"),
-        outside("three bars", "[pause|||pause]"),
-        outside("four bars", "[pause||||pause]"),
+        outside("a carriage return", "pause;^\r\npause"),
+        outside("a form feed", "pause;^\x0cpause"),
+        outside("a byte 0 at the end", "pause^\0"),
+        outside("a comment", "pause ^% wait"),
+        outside("a letter that is not ASCII", "emit ^\u{e9}"),
+        outside("a blank that is not ASCII", "emit^\u{a0}A"),
+        outside("two single bars", "[pause^| |pause]"),
+        outside("a single bar", "[pause^|pause]"),
+        outside("three bars", "[pause||^|pause]"),
+        outside("four bars", "[pause||^||pause]"),
     ]
 }
 
 /// 14, 15 and 16 each cover the whole text, then come 1, 8 and 9.
 fn order() -> Vec<TextEdge> {
     let many = many_emits(257);
+    let marked = with_caret_at("S256", &many);
     let deep = nested("loop ", "pause", " end", 300);
     let traps = |count| nested("trap T in ", "pause", " end", count);
     let shallow = traps(MOST_TRAPS + 1);
     vec![
-        outside("14 before 15", "exit T; end"),
-        outside("14 before 16", format!("{many}; 3")),
-        refused("15 before 16", format!("{many}; exit T"), 15, 0),
-        refused("15 before 1", format!("{}; exit T", emits(800)), 15, 0),
-        refused("15 before 8", format!("{deep}; exit T"), 15, 0),
-        refused("16 before 1", format!("{many}; {}", emits(500)), 16, 0),
-        refused("16 before 8", format!("{many}; {deep}"), 16, 0),
+        outside("14 before 15", "exit T; ^end"),
+        outside("14 before 16", format!("{many}; ^end")),
+        refused_at("15 before 16", 15, format!("{many}; exit ^T")),
+        refused_at("15 before 1", 15, format!("{}; exit ^T", emits(800))),
+        refused_at("15 before 8", 15, format!("{deep}; exit ^T")),
+        refused_at("16 before 1", 16, format!("{marked}; {}", emits(500))),
+        refused_at("16 before 8", 16, format!("{marked}; {deep}")),
         refused("1 before 8", emits(800), 1, 0),
         refused("8 before 9", format!("[{shallow}||{deep}]"), 8, 64),
         refused("8 before 9, deep traps", traps(256), 8, 0),
@@ -324,12 +368,20 @@ fn lengths() -> Vec<TextEdge> {
     vec![
         table("16,383 bytes", pause(MOST_TEXT - 1), &[2, 0], 0),
         table("16,384 bytes", pause(MOST_TEXT), &[2, 0], 0),
-        outside("16,385 bytes", pause(MOST_TEXT + 1)),
-        refused("16,384 bytes and an exit", exit(MOST_TEXT), 15, 0),
-        outside("16,385 bytes and an exit", exit(MOST_TEXT + 1)),
-        outside("60,000 bytes", pause(60_000)),
-        outside("16,384 blanks", " ".repeat(MOST_TEXT)),
-        outside("16,384 letters", "a".repeat(MOST_TEXT)),
+        too_long("16,385 bytes", pause(MOST_TEXT + 1)),
+        refused_at(
+            "16,384 bytes and an exit",
+            15,
+            with_caret_at("T", &exit(MOST_TEXT)),
+        ),
+        too_long("16,385 bytes and an exit", exit(MOST_TEXT + 1)),
+        too_long("60,000 bytes", pause(60_000)),
+        outside("16,384 blanks", " ".repeat(MOST_TEXT) + "^"),
+        outside(
+            "16,384 closing brackets",
+            format!("^{}", "]".repeat(MOST_TEXT)),
+        ),
+        outside("16,384 letters", format!("^{}", "a".repeat(MOST_TEXT))),
     ]
 }
 
@@ -338,7 +390,7 @@ fn numbers() -> Vec<TextEdge> {
     vec![
         sizes("256 signals", many_emits(256), 511, 256),
         sizes("256 signals, one of them again", again, 513, 256),
-        refused("257 signals", many_emits(257), 16, 0),
+        refused_at("257 signals", 16, with_caret_at("S256", &many_emits(257))),
         sizes("1,023 nodes", wide(512), 1023, 0),
         sizes("1,024 nodes", format!("loop {} end", wide(512)), 1024, 0),
         refused("1,025 nodes", wide(513), 1, 0),
@@ -372,7 +424,6 @@ fn depths() -> Vec<TextEdge> {
 fn never_closed() -> Vec<TextEdge> {
     let levels = [
         ("16,384 opening brackets", "["),
-        ("16,384 closing brackets", "]"),
         ("loops that are never closed", "loop "),
         ("loops around brackets, never closed", "loop["),
         ("suspends that are never closed", "suspend "),
@@ -386,7 +437,7 @@ fn never_closed() -> Vec<TextEdge> {
         ("sequences in brackets, never closed", "[pause;"),
     ];
     levels
-        .map(|(name, begin)| outside(name, begin.repeat(MOST_TEXT / begin.len())))
+        .map(|(name, begin)| outside(name, begin.repeat(MOST_TEXT / begin.len()) + "^"))
         .into()
 }
 
@@ -418,11 +469,11 @@ fn deepest() -> Vec<TextEdge> {
     edges
 }
 
-fn nested(begin: &str, inner: &str, end: &str, levels: usize) -> String {
+pub(super) fn nested(begin: &str, inner: &str, end: &str, levels: usize) -> String {
     [&begin.repeat(levels), inner, &end.repeat(levels)].concat()
 }
 
-fn padded(text: &str, length: usize) -> String {
+pub(super) fn padded(text: &str, length: usize) -> String {
     format!("{text:length$}")
 }
 
@@ -431,8 +482,13 @@ fn emits(count: usize) -> String {
     vec!["emit S"; count].join(";")
 }
 
+/// The text with a caret before the first place of this.
+fn with_caret_at(wanted: &str, text: &str) -> String {
+    text.replacen(wanted, &format!("^{wanted}"), 1)
+}
+
 /// So many signals, of depth below 256.
-fn many_emits(signals: usize) -> String {
+pub(super) fn many_emits(signals: usize) -> String {
     let emits: Vec<String> = (0..signals).map(|at| format!("emit S{at}")).collect();
     let (left, right) = emits.split_at(signals / 2);
     format!("[{}||{}]", left.join(";"), right.join(";"))

@@ -1,6 +1,6 @@
-//! The grammar of request F-1, a production a line.
+//! The grammar of request F-1 with the forms of F-9, a production a line.
 
-use Meaning::{Kind, NoElse, NoThen, Same};
+use Meaning::{Abort, Await, Halt, Kind, NoElse, NoThen, Same, Sustain, WeakAbort};
 
 /// What a production makes of the statements on its right side.
 #[derive(Clone, Copy, Debug, PartialEq, Eq)]
@@ -13,12 +13,18 @@ pub enum Meaning {
     NoThen,
     /// A present whose else branch is missing.
     NoElse,
+    // The forms of F-9, which stand for several statements each.
+    Halt,
+    Sustain,
+    Await,
+    Abort,
+    WeakAbort,
 }
 
 /// Left side, right side, meaning. The first one is for a whole text. What stands
 /// on no left side is a word or sign of the language, but for NAME. A repetition
 /// that groups to the left is a production with its own left side in front.
-pub const PRODUCTIONS: [(&str, &str, Meaning); 18] = [
+pub const PRODUCTIONS: [(&str, &str, Meaning); 23] = [
     ("program", "sequence", Same),
     ("sequence", "statement", Same),
     ("sequence", "sequence ; statement", Kind(9)),
@@ -41,7 +47,15 @@ pub const PRODUCTIONS: [(&str, &str, Meaning); 18] = [
     ),
     ("statement", "present NAME else sequence end", NoThen),
     ("statement", "suspend sequence when NAME", Kind(7)),
+    ("statement", "halt", Halt),
+    ("statement", "sustain NAME", Sustain),
+    ("statement", "await NAME", Await),
+    ("statement", "abort sequence when NAME end", Abort),
+    ("statement", "weak abort sequence when NAME end", WeakAbort),
 ];
+
+/// Words of the full language. They are no names, and no production has them.
+pub const FULL_LANGUAGE: [&str; 3] = ["immediate", "every", "case"];
 
 /// The number of a symbol: its place in `Grammar::symbols`.
 pub type Symbol = usize;
@@ -51,6 +65,8 @@ pub const NAME: Symbol = 0;
 pub const FINISH: Symbol = 1;
 /// A token that no production has: a byte or a word outside the language.
 pub const OTHER: Symbol = 2;
+/// One that no production has either, but the full language: one of its words, or a count.
+pub const FOREIGN: Symbol = 3;
 
 pub struct Rule {
     pub left: Symbol,
@@ -67,7 +83,7 @@ pub struct Grammar {
 
 impl Grammar {
     pub fn new() -> Grammar {
-        let mut symbols = vec!["NAME", "FINISH", "OTHER"];
+        let mut symbols = vec!["NAME", "FINISH", "OTHER", "FOREIGN"];
         let rules = PRODUCTIONS
             .iter()
             .map(|&(left, right, meaning)| Rule {
@@ -88,7 +104,7 @@ impl Grammar {
 
     /// The words and signs of the language.
     pub fn words(&self) -> Vec<(&'static [u8], Symbol)> {
-        (OTHER + 1..self.symbols.len())
+        (FOREIGN + 1..self.symbols.len())
             .filter(|&symbol| self.is_terminal(symbol))
             .map(|symbol| (self.symbols[symbol].as_bytes(), symbol))
             .collect()
@@ -123,7 +139,7 @@ mod tests {
             .map(|&(_, symbol)| grammar.symbols[symbol])
             .collect();
         let mut expected: Vec<&str> = "nothing pause signal in end emit present then else \
-             suspend when loop trap exit ; || [ ]"
+             suspend when loop trap exit halt sustain await abort weak ; || [ ]"
             .split_whitespace()
             .collect();
         words.sort_unstable();

@@ -1,20 +1,29 @@
-//! Programs as text, request F-1: the reader that turns one into a table.
+//! Programs as text, requests F-1 and F-9: the reader that turns one into a table.
 
 pub mod automaton;
+pub mod dialect;
 pub mod grammar;
 pub mod names;
 pub mod parser;
+pub mod place;
+pub mod statements;
 pub mod tokens;
 
 use crate::table::MOST_BYTES;
 use crate::{checks, table, Refusal};
 
 use automaton::Automaton;
+use grammar::FOREIGN;
 use names::Meant;
-use parser::Statements;
+use place::Placed;
+use statements::{postfix, Statements};
+use tokens::Token;
 
 /// The most bytes of a text.
 pub const MOST_TEXT: usize = 16_384;
+
+/// The bytes of a text's table, and the number of its signals.
+pub type Translated = (Vec<u8>, usize);
 
 /// Writes the table of the text to the front of the lent one, and hands back the
 /// numbers of its nodes and of its signals. A refusal leaves all as it was.
@@ -22,26 +31,49 @@ pub fn read(text: &[u8], table: &mut [u8]) -> Result<(usize, usize), Refusal> {
     if table.len() < MOST_BYTES {
         return Err(Refusal::whole(3));
     }
-    let (bytes, signals) = translate(text)?;
+    let (bytes, signals) = translate(text).map_err(|placed| placed.refusal)?;
     table[..bytes.len()].copy_from_slice(&bytes);
     Ok((bytes.len() / 2, signals))
 }
 
-/// The bytes of the text's table, and the number of its signals.
-pub fn translate(text: &[u8]) -> Result<(Vec<u8>, usize), Refusal> {
+/// Why the text is refused, and where; none if it is read.
+pub fn read_place(text: &[u8]) -> Option<Placed> {
+    translate(text).err()
+}
+
+pub fn translate(text: &[u8]) -> Result<Translated, Placed> {
     if text.len() > MOST_TEXT {
-        return Err(Refusal::whole(14));
+        return Err(Placed::at(14, MOST_TEXT));
     }
     let automaton = Automaton::shared();
     let tokens = tokens::tokens(automaton, text);
-    let statements = parser::parse(automaton, &tokens).map_err(|_| Refusal::whole(14))?;
-    let levels = names::levels(&statements, &tokens).ok_or(Refusal::whole(15))?;
-    let (numbers, signals) = names::signals(&statements, &tokens).ok_or(Refusal::whole(16))?;
+    let place = |token: usize| tokens[token].place;
+    let statements =
+        parser::parse(automaton, &tokens).map_err(|wrong| outside(text, tokens.get(wrong)))?;
+    let levels = names::levels(&statements, &tokens).map_err(|exit| Placed::at(15, place(exit)))?;
+    let (numbers, signals) =
+        names::signals(&statements, &tokens).map_err(|name| Placed::at(16, place(name)))?;
     let bytes = bytes(&statements, levels.into_iter().chain(numbers));
-    table::measure(&bytes)?;
-    let tree = table::read(&bytes).expect("one statement with all its children");
-    checks::check_nesting(&tree)?;
+    check(&bytes).map_err(Placed::of_table)?;
     Ok((bytes, signals))
+}
+
+/// The refusal of a text with the first token with which it can't go on, or with none if
+/// it merely stops.
+fn outside(text: &[u8], wrong: Option<&Token>) -> Placed {
+    match wrong {
+        Some(token) if token.symbol == FOREIGN => Placed::at(20, token.place),
+        Some(token) => Placed::at(14, token.place),
+        None => Placed::at(14, text.len()),
+    }
+}
+
+/// The checks of the table that a text can fail.
+fn check(bytes: &[u8]) -> Result<(), Refusal> {
+    table::measure(bytes)?;
+    let tree = table::read(bytes).expect("one statement with all its children");
+    checks::check_nesting(&tree)?;
+    Ok(())
 }
 
 fn bytes(statements: &Statements, meant: impl Iterator<Item = Meant>) -> Vec<u8> {
@@ -52,18 +84,4 @@ fn bytes(statements: &Statements, meant: impl Iterator<Item = Meant>) -> Vec<u8>
     order
         .flat_map(|at| [statements[at].kind, fields[at]])
         .collect()
-}
-
-/// The statements in the order of a table, where a missing branch stands before or
-/// after the other one.
-fn postfix(statements: &Statements) -> Vec<usize> {
-    // From the end: the program, its last child, what is in that, and so on.
-    let mut order = Vec::new();
-    let mut pending = vec![statements.len() - 1];
-    while let Some(at) = pending.pop() {
-        order.push(at);
-        pending.extend(&statements[at].children);
-    }
-    order.reverse();
-    order
 }

@@ -2,37 +2,28 @@
 
 use std::collections::HashMap;
 
-use super::parser::Statements;
+use super::statements::{parents, Statements, EXIT, TRAP};
 use super::tokens::Token;
 use crate::instant::SIGNALS;
-
-const EXIT: u8 = 4;
-const TRAP: u8 = 11;
 
 /// A statement, and the level or signal that its name means.
 pub type Meant = (usize, usize);
 
-/// Each exit with its level, or none if one of them has no trap of its name around
-/// it.
-pub fn levels(statements: &Statements, tokens: &[Token]) -> Option<Vec<Meant>> {
+/// Each exit with its level. If some have no trap of their name around them, the token of
+/// the first one's name.
+pub fn levels(statements: &Statements, tokens: &[Token]) -> Result<Vec<Meant>, usize> {
     let parents = parents(statements);
+    // Statements without children were added in the order of the text.
     let exits = (0..statements.len()).filter(|&at| statements[at].kind == EXIT);
     exits
-        .map(|exit| Some((exit, level(statements, tokens, &parents, exit)?)))
+        .map(|exit| match level(statements, tokens, &parents, exit) {
+            Some(level) => Ok((exit, level)),
+            None => Err(statements[exit].name.expect("added exits have their trap")),
+        })
         .collect()
 }
 
-/// The statement right around each one; the program has none.
-fn parents(statements: &Statements) -> Vec<Option<usize>> {
-    let mut parents = vec![None; statements.len()];
-    for (parent, statement) in statements.iter().enumerate() {
-        let children = statement.children.iter();
-        children.for_each(|&child| parents[child] = Some(parent));
-    }
-    parents
-}
-
-/// The traps between the exit and the nearest one of its name.
+/// The traps between the exit and the nearest one of its name, added ones too.
 fn level(
     statements: &Statements,
     tokens: &[Token],
@@ -46,19 +37,23 @@ fn level(
 }
 
 /// Each statement that names a signal with the signal's number, and the number of
-/// signals; none if there are too many. They are numbered where their names first
-/// appear in the text, whatever the statements.
-pub fn signals(statements: &Statements, tokens: &[Token]) -> Option<(Vec<Meant>, usize)> {
+/// signals; if there are too many, the token of the first name that is one too many. They
+/// are numbered where their names first appear in the text, whatever the statements.
+pub fn signals(statements: &Statements, tokens: &[Token]) -> Result<(Vec<Meant>, usize), usize> {
     let mut named: Vec<(usize, usize)> = (0..statements.len())
         .filter(|&at| ![EXIT, TRAP].contains(&statements[at].kind))
         .filter_map(|at| Some((statements[at].name?, at)))
         .collect();
     named.sort_unstable();
     let mut numbers: HashMap<&[u8], usize> = HashMap::new();
-    let number = |(token, at): (usize, usize)| {
+    let mut meant = Vec::new();
+    for (token, at) in named {
         let next = numbers.len();
-        (at, *numbers.entry(tokens[token].bytes).or_insert(next))
-    };
-    let meant = named.into_iter().map(number).collect();
-    (numbers.len() <= SIGNALS).then_some((meant, numbers.len()))
+        let number = *numbers.entry(tokens[token].bytes).or_insert(next);
+        if number == SIGNALS {
+            return Err(token);
+        }
+        meant.push((at, number));
+    }
+    Ok((meant, numbers.len()))
 }

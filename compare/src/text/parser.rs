@@ -1,22 +1,10 @@
 //! The shift-reduce parser: from tokens to statements, with a stack of its own.
 
 use super::automaton::{Action, Automaton};
+use super::dialect;
 use super::grammar::{Meaning, FINISH, NAME};
+use super::statements::{add, Statements, NOTHING, PRESENT};
 use super::tokens::Token;
-
-/// A statement as the text has it.
-#[derive(Clone, Debug, PartialEq, Eq)]
-pub struct Statement {
-    pub kind: u8,
-    /// The token of its name, for a statement that has one.
-    pub name: Option<usize>,
-    /// First child first.
-    pub children: Vec<usize>,
-}
-
-/// The statements of a text, children before parents; the last is the program. A
-/// list, so that no walk over it has to call itself.
-pub type Statements = Vec<Statement>;
 
 /// What has been met and is not yet part of a complete right side.
 #[derive(Clone, Copy)]
@@ -39,29 +27,32 @@ struct Parser<'a> {
     statements: Statements,
 }
 
-/// The statements. If the grammar has no derivation for the tokens, the place of the
-/// first one with which they can't go on to a text that has one, or their number if
-/// they merely stop.
+/// The statements. If the grammar has no derivation for the tokens, the first one with
+/// which they can't go on to a text that has one, or their number if they merely stop.
+///
+/// No token is taken with which they can't go on: what is on the stack can always be
+/// completed. A right side may be reduced though the next token can't follow it here, but
+/// then that token is the one that is refused.
 pub fn parse(automaton: &Automaton, tokens: &[Token]) -> Result<Statements, usize> {
     let mut parser = Parser {
         automaton,
         stack: Vec::new(),
         statements: Vec::new(),
     };
-    let mut place = 0;
+    let mut next = 0;
     loop {
-        let symbol = tokens.get(place).map_or(FINISH, |token| token.symbol);
+        let symbol = tokens.get(next).map_or(FINISH, |token| token.symbol);
         match automaton.action(parser.state(), symbol) {
-            Action::Refuse => return Err(place),
+            Action::Refuse => return Err(next),
             Action::Shift(state) => {
                 let is_name = symbol == NAME;
                 let part = if is_name {
-                    Part::Name(place)
+                    Part::Name(next)
                 } else {
                     Part::Word
                 };
                 parser.stack.push(Entry { state, part });
-                place += 1;
+                next += 1;
             }
             // The production of the whole text.
             Action::Reduce(0) => return Ok(parser.statements),
@@ -91,34 +82,25 @@ impl Parser<'_> {
             Part::Name(token) => Some(token),
             _ => None,
         });
-        let mut children: Vec<usize> = right.iter().filter_map(Entry::statement).collect();
-        let kind = match meaning {
-            Meaning::Same => return children[0],
-            Meaning::Kind(kind) => kind,
+        let children: Vec<usize> = right.iter().filter_map(Entry::statement).collect();
+        let statements = &mut self.statements;
+        match meaning {
+            Meaning::Same => children[0],
+            Meaning::Kind(kind) => add(statements, kind, name, children),
             Meaning::NoThen => {
-                children.insert(0, self.nothing());
-                6
+                let missing = add(statements, NOTHING, None, []);
+                add(statements, PRESENT, name, [missing, children[0]])
             }
             Meaning::NoElse => {
-                children.push(self.nothing());
-                6
+                let missing = add(statements, NOTHING, None, []);
+                add(statements, PRESENT, name, [children[0], missing])
             }
-        };
-        self.add(kind, name, children)
-    }
-
-    /// A branch that is missing.
-    fn nothing(&mut self) -> usize {
-        self.add(1, None, Vec::new())
-    }
-
-    fn add(&mut self, kind: u8, name: Option<usize>, children: Vec<usize>) -> usize {
-        self.statements.push(Statement {
-            kind,
-            name,
-            children,
-        });
-        self.statements.len() - 1
+            Meaning::Halt => dialect::halt(statements),
+            Meaning::Sustain => dialect::sustain(statements, name),
+            Meaning::Await => dialect::await_signal(statements, name),
+            Meaning::Abort => dialect::abort(statements, children[0], name),
+            Meaning::WeakAbort => dialect::weak_abort(statements, children[0], name),
+        }
     }
 }
 

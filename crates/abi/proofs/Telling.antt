@@ -38,7 +38,7 @@ use Rattle.tied.specs.declared.Narrowed.{Narrowed}
 use Rattle.tied.specs.declared.Narrowed.the-variants.{Done as DoneNarrow}
 use Rattle.tied.specs.declared.Narrowed.the-variants.{Refused as RefusedNarrow}
 use Rattle.tied.proofs.OfNarrow.{ofNarrow}
-use Rattle.abi.specs.Exported.{returned, answerAfter, Small, Tells, tellAnalysed, tellReaction, tellRendered, tellReading, tellTick, tellFetched, tellNarrowed, shortAnswer, Exported}
+use Rattle.abi.specs.Exported.{returned, answerAfter, Small, Tells, tellAnalysed, tellReaction, tellRendered, tellReading, tellPlace, tellTick, tellFetched, tellNarrowed, shortAnswer, Exported}
 use Rattle.abi.specs.declared.Told.{Told}
 
 pub three : (l : List ℕ) (a b c : ℕ) → 3 ≤ length l → set (set (set l 0 a) 1 b) 2 c ≡ (a ∷ b ∷ c ∷ []) ++ drop 3 l
@@ -70,7 +70,11 @@ small-rendered TooShort = omega arith
 
 pub small-read : (text old new : List ℕ) (r : Reading) → ReadAs text old new r → Small (tellReading r)
 small-read text old new (DoneText nodes n) o = tt
-small-read text old new (RefusedText number node) o = omega (arith, of-read .refused text old new number node o .2)
+small-read text old new (RefusedText number node place) o = omega (arith, of-read .refused text old new number node place o .2)
+
+pub small-place : (r : Reading) → Small (tellPlace r)
+small-place (DoneText nodes n) = tt
+small-place (RefusedText number node place) = tt
 
 pub small-tick : (t old new : List ℕ) (r : Tick) → TellsTick t old new r → Small (tellTick r)
 small-tick t old new (Ends node n) o = tt

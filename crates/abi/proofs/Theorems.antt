@@ -3,7 +3,7 @@ use mathlib.Core.Path.{_≡_, refl, sym, ap, _∙_}
 use mathlib.Core.Logic.{_⊎_, inl, inr, ⊎-elim}
 use mathlib.Core.Bool.{Bool, true, false, cond}
 use mathlib.Core.List.{List, [], _∷_, _++_}
-use Prim.Native.Nat.{ℕ, _≤_, _<_}
+use Prim.Native.Nat.{ℕ, _*_, _≤_, _<_}
 use native.Mathlib.Decide.{decLt}
 use native.Mathlib.Omega.{arith}
 use lib.Dec.{leb}
@@ -50,7 +50,7 @@ use Rattle.tied.specs.declared.Narrowed.{Narrowed}
 use Rattle.tied.specs.declared.Narrowed.the-variants.{Done as DoneNarrow}
 use Rattle.tied.specs.declared.Narrowed.the-variants.{Refused as RefusedNarrow}
 use Rattle.tied.proofs.OfNarrow.{ofNarrow}
-use Rattle.abi.specs.Exported.{returned, answerAfter, Tells, tellAnalysed, tellReaction, tellRendered, tellReading, tellTick, tellFetched, tellSpan, tellNarrowed, shortAnswer, Exported, LocatingC}
+use Rattle.abi.specs.Exported.{returned, answerAfter, Tells, tellAnalysed, tellReaction, tellRendered, tellReading, tellPlace, tellTick, tellFetched, tellSpan, tellNarrowed, shortAnswer, Exported, PlacedAs, PlacingC, LocatingC}
 use Rattle.abi.specs.Theorems.{Ran, TickShown, NoTick, IsRefused, Demand1OfExports}
 use Rattle.abi.specs.declared.Told.{Told}
 use Rattle.abi.specs.declared.Told.the-variants.{Refusal}
@@ -134,8 +134,8 @@ none-known most m = short-known most m Passed (λ number node e. (let z : _≡_ 
 render-known : Known 13 (shortAnswer Passed)
 render-known = none-known 13 (omega arith)
 
-read-known : Known 16 (shortAnswer Passed)
-read-known = none-known 16 (omega arith)
+read-known : Known 20 (shortAnswer Passed)
+read-known = none-known 20 (omega arith)
 
 fetch-known : Known 18 (shortAnswer Passed)
 fetch-known = none-known 18 (omega arith)
@@ -202,20 +202,20 @@ module _ (text old new answer answer′ : List ℕ) where
   render-done TooShort o z e = absurd (omega arith)
 
 module _ (text old new answer answer′ : List ℕ) where
-  read-own : (x : Reading) → ReadAs text old new x → 0 < returned (tellReading x) → Own Passed (new ≡ old) (ReadAs text old new) tellReading (λ number node. ReadAs text old new (RefusedText number node)) answer answer′ 16 read-known x
+  read-own : (x : Reading) → ReadAs text old new x → 0 < returned (tellReading x) → Own Passed (new ≡ old) (ReadAs text old new) tellReading (λ number node. (place : ℕ) × ReadAs text old new (RefusedText number node place)) answer answer′ 20 read-known x
   read-own (DoneText nodes n) o h = absurd (omega arith)
-  read-own (RefusedText number node) o h =
-      let (same, is, below) = of-read .refused text old new number node o in
+  read-own (RefusedText number node place) o h =
+      let (same, is, below, inside, within) = of-read .refused text old new number node place o in
       let (some, known) = number-known is in
       record {
         known = record { number = number; node = node; is = refl; some = some; known = known; within = below };
-        refuses = o;
+        refuses = (place, o);
         same = same;
       }
 
   read-done : (x : Reading) → ReadAs text old new x → returned (tellReading x) ≡ 0 → answer′ ≡ answerAfter (tellReading x) answer → (nodes n : ℕ) × ReadAs text old new (DoneText nodes n) × (answer′ ≡ onto (nodes ∷ n ∷ 0 ∷ []) answer)
   read-done (DoneText nodes n) o z e = (nodes, n, o, e)
-  read-done (RefusedText number node) o z e = absurd (omega (arith, number-known (of-read .refused text old new number node o .1) .0))
+  read-done (RefusedText number node place) o z e = absurd (omega (arith, number-known (of-read .refused text old new number node place o .1) .0))
 
 module _ (t old new answer answer′ : List ℕ) where
   tick-own : (x : Tick) → TellsTick t old new x → 0 < returned (tellTick x) → Own (lengthCheck t) (new ≡ old) (TellsTick t old new) tellTick (λ number node. TellsTick t old new (RefusedTick number node)) answer answer′ 10 (tick-known t) x
@@ -272,6 +272,28 @@ part-refused file p e k answer answer′ r o h = go (decLt (length answer) 3)
     go (yes l) = let (same, told) = o .short l in (l, told .returns, told .answered)
     go (no l) = let (x, call, told) = o .whole (omega arith) in absurd (omega (arith, told .returns))
 
+-- the place of a refusal
+place-refused : (text answer answer′ : List ℕ) (r : ℕ) → PlacingC text answer answer′ r → 0 < r → (length answer < 3) × (r ≡ returned (Refusal 3 0)) × (answer′ ≡ answer)
+place-refused text answer answer′ r o h = go (decLt (length answer) 3)
+  where
+    none : (x : Reading) → returned (tellPlace x) ≡ 0
+    none (DoneText nodes n) = refl
+    none (RefusedText number node place) = refl
+
+    go : Dec (length answer < 3) → (length answer < 3) × (r ≡ returned (Refusal 3 0)) × (answer′ ≡ answer)
+    go (yes l) = let (same, told) = o .short l in (l, told .returns, told .answered)
+    go (no l) = let (x, call, told) = o .whole (omega arith) in absurd (omega (arith, told .returns, none x))
+
+place-done : (text answer answer′ : List ℕ) → PlacingC text answer answer′ 0 → (x : Reading) × PlacedAs text x × ((table table′ : List ℕ) (y : Reading) → 2 * maxNodes ≤ length table → ReadAs text table table′ y → y ≡ x) × (answer′ ≡ answerAfter (tellPlace x) answer)
+place-done text answer answer′ o = go (decLt (length answer) 3)
+  where
+    go : Dec (length answer < 3) → (x : Reading) × PlacedAs text x × ((table table′ : List ℕ) (y : Reading) → 2 * maxNodes ≤ length table → ReadAs text table table′ y → y ≡ x) × (answer′ ≡ answerAfter (tellPlace x) answer)
+    go (yes l) = let (same, told) = o .short l in absurd (omega (arith, told .returns))
+    go (no l) =
+        let (x, call, told) = o .whole (omega arith) in
+        let (table, table′, room, told′) = call in
+        (x, call, (λ other other′ y h r. of-read .sameAnswer text other other′ table table′ y x h room r told′), told .answered)
+
 pub demand1OfExports : Demand1OfExports
 demand1OfExports =
     record {
@@ -295,9 +317,11 @@ demand1OfExports =
           (let (x, call, z, e) = done-told Passed _ _ tellRendered (λ number node. Unit {0}) answer answer′ 13 render-known o in
           render-done (textOf (verdict t)) text text′ answer answer′ x call z e);
       readRefused = λ text table answer table′ answer′ r o h.
-          refused-is Passed _ _ tellReading _ answer answer′ 16 read-known (read-own text table table′ answer answer′) r o h;
+          refused-is Passed _ _ tellReading _ answer answer′ 20 read-known (read-own text table table′ answer answer′) r o h;
+      placeRefused = place-refused;
+      placeDone = place-done;
       readDone = λ text table answer table′ answer′ o.
-          (let (x, call, z, e) = done-told Passed _ _ tellReading (λ number node. Unit {0}) answer answer′ 16 read-known o in
+          (let (x, call, z, e) = done-told Passed _ _ tellReading (λ number node. Unit {0}) answer answer′ 20 read-known o in
           read-done text table table′ answer answer′ x call z e);
       tickRefused = λ t answers answer answers′ answer′ r o h.
           refused-is (lengthCheck t) _ _ tellTick _ answer answer′ 10 (tick-known t) (tick-own t answers answers′ answer answer′) r o h;

@@ -3,6 +3,7 @@ use Prim.Native.Nat.{ℕ, _+_, _*_, _<_, _≤_}
 use mathlib.Core.Path.{_≡_}
 use mathlib.Core.List.{List, [], _∷_}
 use lib.ListN.{length}
+use Rattle.esterel.specs.Limits.{maxNodes}
 use Rattle.esterel.specs.Checks.{verdict}
 use Rattle.table.specs.Check.{lengthCheck}
 use Rattle.table.specs.declared.Check.{Check}
@@ -79,7 +80,12 @@ tellRendered TooShort = Refusal 3 0
 
 abbrev pub tellReading : Reading → Told
 tellReading (DoneText nodes signals) = Figures nodes signals 0
-tellReading (RefusedText number node) = Refusal number node
+tellReading (RefusedText number node place) = Refusal number node
+
+-- the refusal of a text as figures, with its place (F-9)
+abbrev pub tellPlace : Reading → Told
+tellPlace (DoneText nodes signals) = Figures 0 0 0
+tellPlace (RefusedText number node place) = Figures number node place
 
 -- 1 and the tick's node and length, or 0 and an accepted table's nodes and loop depth
 abbrev pub tellTick : Tick → Told
@@ -129,6 +135,14 @@ RenderingC t text answer text′ answer′ r = Exported Passed (text′ ≡ text
 -- check 3 comes first (F-1)
 abbrev pub ReadingC : (text table answer table′ answer′ : List ℕ) → ℕ → Type 0
 ReadingC text table answer table′ answer′ r = Exported Passed (table′ ≡ table) (ReadAs text table table′) tellReading answer answer′ r
+
+-- what a text is told where the lent table has room
+abbrev pub PlacedAs : List ℕ → Reading → Type 0
+PlacedAs text x = (table table′ : List ℕ) × (2 * maxNodes ≤ length table) × ReadAs text table table′ x
+
+-- no other buffer is written, and only check 3 of the answer refuses
+abbrev pub PlacingC : (text answer answer′ : List ℕ) → ℕ → Type 0
+PlacingC text answer answer′ r = Exported Passed (Unit {0}) (PlacedAs text) tellPlace answer answer′ r
 
 abbrev pub TickingC : (t answers answer answers′ answer′ : List ℕ) → ℕ → Type 0
 TickingC t answers answer answers′ answer′ r = Exported (lengthCheck t) (answers′ ≡ answers) (TellsTick t answers answers′) tellTick answer answer′ r

@@ -1,5 +1,5 @@
 -- Demand 1 of the exported functions: what follows from their contracts. The statements alone; the proofs are in proofs/Theorems.antt.
-use Prim.Native.Nat.{ℕ, _/_, _%_, _≤_, _<_}
+use Prim.Native.Nat.{ℕ, _*_, _/_, _%_, _≤_, _<_}
 use mathlib.Core.Path.{_≡_}
 use mathlib.Core.Logic.{_⊎_}
 use mathlib.Core.List.{List, [], _∷_}
@@ -21,6 +21,7 @@ use Rattle.listing.specs.Text.{textOf}
 use Rattle.listing.specs.Rendering.{Rendering}
 use Rattle.listing.specs.declared.Rendered.the-variants.{Whole, TooShort}
 use Rattle.text.specs.Reading.{ReadAs}
+use Rattle.text.specs.declared.Reading.{Reading}
 use Rattle.text.specs.declared.Reading.the-variants.{Done as DoneText}
 use Rattle.text.specs.declared.Reading.the-variants.{Refused as RefusedText}
 use Rattle.witness.specs.Ticks.{Tells as TellsTick}
@@ -33,7 +34,7 @@ use Rattle.blocks.specs.declared.Fetched.the-variants.{Refused as RefusedFetch}
 use Rattle.tied.specs.Calls.{Narrowing}
 use Rattle.tied.specs.declared.Narrowed.the-variants.{Done as DoneNarrow}
 use Rattle.tied.specs.declared.Narrowed.the-variants.{Refused as RefusedNarrow}
-use Rattle.abi.specs.Exported.{returned, shortAnswer, Analysing, StartingC, ResumingC, RenderingC, ReadingC, TickingC, FetchingC, LocatingC, NarrowingC}
+use Rattle.abi.specs.Exported.{returned, answerAfter, tellPlace, shortAnswer, Analysing, StartingC, ResumingC, RenderingC, ReadingC, PlacedAs, PlacingC, TickingC, FetchingC, LocatingC, NarrowingC}
 use Rattle.abi.specs.declared.Told.the-variants.{Refusal}
 
 -- after 0 the call has closed with these figures
@@ -88,7 +89,12 @@ pub record Demand1OfExports : Type 0 where
   pub readRefused :
       (text table answer table′ answer′ : List ℕ) (r : ℕ) →
       ReadingC text table answer table′ answer′ r → 0 < r →
-      (table′ ≡ table) × IsRefused 16 Passed (λ number node. ReadAs text table table′ (RefusedText number node)) answer answer′ r
+      (table′ ≡ table) × IsRefused 20 Passed (λ number node. (place : ℕ) × ReadAs text table table′ (RefusedText number node place)) answer answer′ r
+  -- the place of a refusal is refused only for too short an answer
+  pub placeRefused :
+      (text answer answer′ : List ℕ) (r : ℕ) →
+      PlacingC text answer answer′ r → 0 < r →
+      (length answer < 3) × (r ≡ returned (Refusal 3 0)) × (answer′ ≡ answer)
   pub tickRefused :
       (t answers answer answers′ answer′ : List ℕ) (r : ℕ) →
       TickingC t answers answer answers′ answer′ r → 0 < r →
@@ -125,6 +131,12 @@ pub record Demand1OfExports : Type 0 where
       (text table answer table′ answer′ : List ℕ) →
       ReadingC text table answer table′ answer′ 0 →
       (nodes signals : ℕ) × ReadAs text table table′ (DoneText nodes signals) × (answer′ ≡ onto (nodes ∷ signals ∷ 0 ∷ []) answer)
+  -- its figures are zeros, or what `read` answers of that text, whatever table with room it is lent
+  pub placeDone :
+      (text answer answer′ : List ℕ) →
+      PlacingC text answer answer′ 0 →
+      (x : Reading) × PlacedAs text x × ((table table′ : List ℕ) (y : Reading) → 2 * maxNodes ≤ length table → ReadAs text table table′ y → y ≡ x) ×
+      (answer′ ≡ answerAfter (tellPlace x) answer)
   pub tickDone :
       (t answers answer answers′ answer′ : List ℕ) →
       TickingC t answers answer answers′ answer′ 0 → TickShown t answers answers′ answer answer′ ⊎ NoTick t answers answers′ answer answer′

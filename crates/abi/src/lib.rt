@@ -6,7 +6,7 @@ ghost use Prim.Native.Nat.{_≤_, _<_};
 ghost use lib.ListN.{length};
 ghost use Rattle.table.specs.Check.{lengthCheck};
 ghost use Rattle.analysis.specs.Passes.{onto};
-ghost use Rattle.abi.specs.Exported.{maxNode, returned, Small, Tells, tellAnalysed, tellReaction, tellRendered, tellReading, tellTick, tellFetched, tellSpan, tellNarrowed, shortAnswer, Analysing, StartingC, ResumingC, RenderingC, ReadingC, TickingC, FetchingC, LocatingC, NarrowingC};
+ghost use Rattle.abi.specs.Exported.{maxNode, returned, Small, Tells, tellAnalysed, tellReaction, tellRendered, tellReading, tellPlace, tellTick, tellFetched, tellSpan, tellNarrowed, shortAnswer, Analysing, StartingC, ResumingC, RenderingC, ReadingC, PlacingC, TickingC, FetchingC, LocatingC, NarrowingC};
 use analysis::Analysed;
 use blocks::Fetched;
 use blocks::Span;
@@ -138,7 +138,36 @@ fn tell_reading(reading: Reading) -> Told
             second: signals,
             third: 0,
         },
-        Reading::Refused { number, node } => Told::Refusal { number, node },
+        Reading::Refused {
+            number,
+            node,
+            place: _,
+        } => Told::Refusal { number, node },
+    }
+}
+
+// The refusal of a text as figures, with its place.
+fn tell_place(reading: Reading) -> Told
+    ensures { λ r. ⌜ r ≡ tellPlace reading ⌝ }
+{
+    match reading {
+        Reading::Done {
+            nodes: _,
+            signals: _,
+        } => Told::Figures {
+            first: 0,
+            second: 0,
+            third: 0,
+        },
+        Reading::Refused {
+            number,
+            node,
+            place,
+        } => Told::Figures {
+            first: number as usize,
+            second: node,
+            third: place,
+        },
     }
 }
 
@@ -274,6 +303,19 @@ pub extern "C" fn bavzhrono_read(text: &[u8], table: &mut [u8], answer: &mut [u6
     }
     let reading = text::read(text, table);
     tell(tell_reading(reading), answer)
+}
+
+// Why a text is refused, and where: with a table of its own, which is not handed out.
+#[no_mangle]
+pub extern "C" fn bavzhrono_read_place(text: &[u8], answer: &mut [u64]) -> u32
+    ensures { λ r. ⌜ PlacingC (now (text .entry)) (now (answer .entry)) (now (answer .exit)) r ⌝ }
+{
+    if answer.len() < FIGURES {
+        return refusal(3, 0);
+    }
+    let mut table = [0u8; 2 * esterel::MAX_NODES];
+    let reading = text::read(text, &mut table);
+    tell(tell_place(reading), answer)
 }
 
 // Where the table is refused by check 11, the tick: the answers with which the loop's body begins and ends at once.

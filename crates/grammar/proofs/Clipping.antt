@@ -4,13 +4,15 @@ use mathlib.Core.Path.{_≡_, refl, sym, ap, _∙_}
 use mathlib.Core.Bool.{Bool, true, false, _||_, not, cond}
 use mathlib.Core.Option.{Option, none, some}
 use mathlib.Core.List.{List, [], _∷_, _++_}
-use Prim.Native.Nat.{ℕ, suc, _+_, _%_, _≤_, _<_}
+use Prim.Native.Nat.{ℕ, suc, _%_, _≤_, _<_}
 use native.Mathlib.Omega.{arith}
 use lib.Dec.{ltb, leb}
 use lib.ListN.{length}
 use borrow.Author.Tests.{ltb-true, ltb-false, lt-leb}
 use Rattle.grammar.specs.Tree as T
-use Rattle.grammar.specs.Tree.{Tree, Name}
+use Rattle.grammar.specs.Tree.{Name}
+use Rattle.grammar.specs.Kernel as K
+use Rattle.grammar.specs.Kernel.{Kernel}
 use Rattle.esterel.specs.Limits.{maxTraps}
 use Rattle.esterel.specs.Statement.{nothing, pause, emit, exit, Unary, signal, suspend, loop, trap, Binary, present, sequence, parallel, Stmt, leaf, one, two, kind, field, nodes, size}
 use Rattle.esterel.specs.Codes.{Codes}
@@ -177,24 +179,24 @@ not-false : (b : Bool) → not b ≡ false → b ≡ true
 not-false true e = refl
 not-false false e = let y : _≡_ {A = ℕ} 0 1 = cc in absurd (omega arith)
 
-pub caught : (fin ts : List Name) (t : Tree) (d : ℕ) (Q : Codes) → untrapped ts t ≡ false → anyOf uncaught (places d (length ts) Q (clip (resolve fin ts t))) ≡ false
-caught fin ts (T.leaf T.nothing) d Q e = refl
-caught fin ts (T.leaf T.pause) d Q e = refl
-caught fin ts (T.leaf (T.emit s)) d Q e = refl
-caught fin ts (T.leaf (T.exit t)) d Q e =
+pub caught : (fin ts : List Name) (t : Kernel) (d : ℕ) (Q : Codes) → untrapped ts t ≡ false → anyOf uncaught (places d (length ts) Q (clip (resolve fin ts t))) ≡ false
+caught fin ts (K.leaf T.nothing) d Q e = refl
+caught fin ts (K.leaf T.pause) d Q e = refl
+caught fin ts (K.leaf (T.emit s)) d Q e = refl
+caught fin ts (K.leaf (T.exit t)) d Q e =
     let h : place ts t < length ts = ltb-true (place ts t) (length ts) (not-false (has ts t) e) in
     or-false (leb (length ts) (place ts t % 256)) false (lt-leb (length ts) (place ts t % 256) (omega arith)) refl
-caught fin ts (T.one (T.signal s) p) d Q e = none-join uncaught (places (suc d) (length ts) Q (clip (resolve fin ts p))) _ (caught fin ts p (suc d) Q e) refl
-caught fin ts (T.one (T.suspend s) p) d Q e = none-join uncaught (places (suc d) (length ts) Q (clip (resolve fin ts p))) _ (caught fin ts p (suc d) Q e) refl
-caught fin ts (T.one T.loop p) d Q e = none-join uncaught (places (suc d) (length ts) (under loop Q) (clip (resolve fin ts p))) _ (caught fin ts p (suc d) (under loop Q) e) refl
-caught fin ts (T.one (T.trap t) p) d Q e = none-join uncaught (places (suc d) (length (t ∷ ts)) (under trap Q) (clip (resolve fin (t ∷ ts) p))) _ (caught fin (t ∷ ts) p (suc d) (under trap Q) e) refl
-caught fin ts (T.two (T.present s) p q) d Q e =
+caught fin ts (K.one (T.signal s) p) d Q e = none-join uncaught (places (suc d) (length ts) Q (clip (resolve fin ts p))) _ (caught fin ts p (suc d) Q e) refl
+caught fin ts (K.one (T.suspend s) p) d Q e = none-join uncaught (places (suc d) (length ts) Q (clip (resolve fin ts p))) _ (caught fin ts p (suc d) Q e) refl
+caught fin ts (K.one T.loop p) d Q e = none-join uncaught (places (suc d) (length ts) (under loop Q) (clip (resolve fin ts p))) _ (caught fin ts p (suc d) (under loop Q) e) refl
+caught fin ts (K.one (T.trap t) p) d Q e = none-join uncaught (places (suc d) (length (t ∷ ts)) (under trap Q) (clip (resolve fin (t ∷ ts) p))) _ (caught fin (t ∷ ts) p (suc d) (under trap Q) e) refl
+caught fin ts (K.two (T.present s) p q) d Q e =
     none-join uncaught ((places (suc d) (length ts) Q (clip (resolve fin ts p))) ++ (places (suc d) (length ts) Q (clip (resolve fin ts q)))) (at d (length ts) Q (two (present (place fin s % 256)) (clip (resolve fin ts p)) (clip (resolve fin ts q))) ∷ [])
     (none-join uncaught (places (suc d) (length ts) Q (clip (resolve fin ts p))) (places (suc d) (length ts) Q (clip (resolve fin ts q))) (caught fin ts p (suc d) Q (or-left (untrapped ts p) (untrapped ts q) e)) (caught fin ts q (suc d) Q (or-right (untrapped ts p) (untrapped ts q) e))) refl
-caught fin ts (T.two T.sequence p q) d Q e =
+caught fin ts (K.two T.sequence p q) d Q e =
     none-join uncaught ((places (suc d) (length ts) (underLeft sequence (length ts) Q (clip (resolve fin ts q))) (clip (resolve fin ts p))) ++ (places (suc d) (length ts) (underRight sequence (length ts) Q (clip (resolve fin ts p))) (clip (resolve fin ts q)))) (at d (length ts) Q (two sequence (clip (resolve fin ts p)) (clip (resolve fin ts q))) ∷ [])
     (none-join uncaught (places (suc d) (length ts) (underLeft sequence (length ts) Q (clip (resolve fin ts q))) (clip (resolve fin ts p))) (places (suc d) (length ts) (underRight sequence (length ts) Q (clip (resolve fin ts p))) (clip (resolve fin ts q))) (caught fin ts p (suc d) (underLeft sequence (length ts) Q (clip (resolve fin ts q))) (or-left (untrapped ts p) (untrapped ts q) e)) (caught fin ts q (suc d) (underRight sequence (length ts) Q (clip (resolve fin ts p))) (or-right (untrapped ts p) (untrapped ts q) e))) refl
-caught fin ts (T.two T.parallel p q) d Q e =
+caught fin ts (K.two T.parallel p q) d Q e =
     none-join uncaught ((places (suc d) (length ts) (underLeft parallel (length ts) Q (clip (resolve fin ts q))) (clip (resolve fin ts p))) ++ (places (suc d) (length ts) (underRight parallel (length ts) Q (clip (resolve fin ts p))) (clip (resolve fin ts q)))) (at d (length ts) Q (two parallel (clip (resolve fin ts p)) (clip (resolve fin ts q))) ∷ [])
     (none-join uncaught (places (suc d) (length ts) (underLeft parallel (length ts) Q (clip (resolve fin ts q))) (clip (resolve fin ts p))) (places (suc d) (length ts) (underRight parallel (length ts) Q (clip (resolve fin ts p))) (clip (resolve fin ts q))) (caught fin ts p (suc d) (underLeft parallel (length ts) Q (clip (resolve fin ts q))) (or-left (untrapped ts p) (untrapped ts q) e)) (caught fin ts q (suc d) (underRight parallel (length ts) Q (clip (resolve fin ts p))) (or-right (untrapped ts p) (untrapped ts q) e))) refl
 
@@ -206,28 +208,28 @@ module _ (fin : List Name) (few : length fin ≤ 256) where
   name-small : (ns : List Name) (s : Name) → Longer (see ns s) fin → place fin s % 256 ≡ place fin s
   name-small ns s l = small fin s few (place-kept s (see-has ns s) l .1)
 
-  pub clip-same : (ns ts : List Name) (t : Tree) (d : ℕ) (P : Codes) → Longer (signalsFrom ns t) fin → untrapped ts t ≡ false → length ts ≤ maxTraps → anyOf tooManyTraps (places d (length ts) P (resolve fin ts t)) ≡ false → clip (resolve fin ts t) ≡ resolve fin ts t
-  clip-same ns ts (T.leaf T.nothing) d P l e h k = refl
-  clip-same ns ts (T.leaf T.pause) d P l e h k = refl
-  clip-same ns ts (T.leaf (T.emit s)) d P l e h k = ap (λ (z : ℕ). leaf (emit z)) (name-small ns s l)
-  clip-same ns ts (T.leaf (T.exit t)) d P l e h k =
+  pub clip-same : (ns ts : List Name) (t : Kernel) (d : ℕ) (P : Codes) → Longer (signalsFrom ns t) fin → untrapped ts t ≡ false → length ts ≤ maxTraps → anyOf tooManyTraps (places d (length ts) P (resolve fin ts t)) ≡ false → clip (resolve fin ts t) ≡ resolve fin ts t
+  clip-same ns ts (K.leaf T.nothing) d P l e h k = refl
+  clip-same ns ts (K.leaf T.pause) d P l e h k = refl
+  clip-same ns ts (K.leaf (T.emit s)) d P l e h k = ap (λ (z : ℕ). leaf (emit z)) (name-small ns s l)
+  clip-same ns ts (K.leaf (T.exit t)) d P l e h k =
       let i : place ts t < length ts = ltb-true (place ts t) (length ts) (not-false (has ts t) e) in
       let j : place ts t % 256 ≡ place ts t = omega arith in
       ap (λ (z : ℕ). leaf (exit z)) j
-  clip-same ns ts (T.one (T.signal s) p) d P l e h k =
+  clip-same ns ts (K.one (T.signal s) p) d P l e h k =
       let a : place fin s % 256 ≡ place fin s = name-small ns s (longer-then (longer-signals p (see ns s)) l) in
       let b : clip (resolve fin ts p) ≡ resolve fin ts p = clip-same (see ns s) ts p (suc d) P l e h (none-parts tooManyTraps (places (suc d) (length ts) P (resolve fin ts p)) _ k .0) in
       cc
-  clip-same ns ts (T.one (T.suspend s) p) d P l e h k =
+  clip-same ns ts (K.one (T.suspend s) p) d P l e h k =
       let a : place fin s % 256 ≡ place fin s = name-small (signalsFrom ns p) s l in
       let b : clip (resolve fin ts p) ≡ resolve fin ts p = clip-same ns ts p (suc d) P (longer-then (longer-see (signalsFrom ns p) s) l) e h (none-parts tooManyTraps (places (suc d) (length ts) P (resolve fin ts p)) _ k .0) in
       cc
-  clip-same ns ts (T.one T.loop p) d P l e h k = ap (λ (z : Stmt). one loop z) (clip-same ns ts p (suc d) (under loop P) l e h (none-parts tooManyTraps (places (suc d) (length ts) (under loop P) (resolve fin ts p)) _ k .0))
-  clip-same ns ts (T.one (T.trap t) p) d P l e h k =
+  clip-same ns ts (K.one T.loop p) d P l e h k = ap (λ (z : Stmt). one loop z) (clip-same ns ts p (suc d) (under loop P) l e h (none-parts tooManyTraps (places (suc d) (length ts) (under loop P) (resolve fin ts p)) _ k .0))
+  clip-same ns ts (K.one (T.trap t) p) d P l e h k =
       let i = none-parts tooManyTraps (places (suc d) (length (t ∷ ts)) (under trap P) (resolve fin (t ∷ ts) p)) (at d (length ts) P (one trap (resolve fin (t ∷ ts) p)) ∷ []) k in
       let j : suc (length ts) ≤ maxTraps = ltb-false maxTraps (suc (length ts)) (or-left (ltb maxTraps (suc (length ts))) false (i .1)) in
       ap (λ (z : Stmt). one trap z) (clip-same ns (t ∷ ts) p (suc d) (under trap P) l e j (i .0))
-  clip-same ns ts (T.two (T.present s) p q) d P l e h k =
+  clip-same ns ts (K.two (T.present s) p q) d P l e h k =
       let i = none-parts tooManyTraps (places (suc d) (length ts) P (resolve fin ts p) ++ places (suc d) (length ts) P (resolve fin ts q)) _ k in
       let j = none-parts tooManyTraps (places (suc d) (length ts) P (resolve fin ts p)) (places (suc d) (length ts) P (resolve fin ts q)) (i .0) in
       let m : Longer (signalsFrom (see ns s) p) fin = longer-then (longer-signals q (signalsFrom (see ns s) p)) l in
@@ -235,14 +237,14 @@ module _ (fin : List Name) (few : length fin ≤ 256) where
       let b : clip (resolve fin ts p) ≡ resolve fin ts p = clip-same (see ns s) ts p (suc d) P m (or-left (untrapped ts p) (untrapped ts q) e) h (j .0) in
       let c : clip (resolve fin ts q) ≡ resolve fin ts q = clip-same (signalsFrom (see ns s) p) ts q (suc d) P l (or-right (untrapped ts p) (untrapped ts q) e) h (j .1) in
       cc
-  clip-same ns ts (T.two T.sequence p q) d P l e h k =
+  clip-same ns ts (K.two T.sequence p q) d P l e h k =
       let i = none-parts tooManyTraps (places (suc d) (length ts) (underLeft sequence (length ts) P (resolve fin ts q)) (resolve fin ts p) ++ places (suc d) (length ts) (underRight sequence (length ts) P (resolve fin ts p)) (resolve fin ts q)) _ k in
       let j = none-parts tooManyTraps (places (suc d) (length ts) (underLeft sequence (length ts) P (resolve fin ts q)) (resolve fin ts p)) (places (suc d) (length ts) (underRight sequence (length ts) P (resolve fin ts p)) (resolve fin ts q)) (i .0) in
       let m : Longer (signalsFrom ns p) fin = longer-then (longer-signals q (signalsFrom ns p)) l in
       let b : clip (resolve fin ts p) ≡ resolve fin ts p = clip-same ns ts p (suc d) (underLeft sequence (length ts) P (resolve fin ts q)) m (or-left (untrapped ts p) (untrapped ts q) e) h (j .0) in
       let c : clip (resolve fin ts q) ≡ resolve fin ts q = clip-same (signalsFrom ns p) ts q (suc d) (underRight sequence (length ts) P (resolve fin ts p)) l (or-right (untrapped ts p) (untrapped ts q) e) h (j .1) in
       cc
-  clip-same ns ts (T.two T.parallel p q) d P l e h k =
+  clip-same ns ts (K.two T.parallel p q) d P l e h k =
       let i = none-parts tooManyTraps (places (suc d) (length ts) (underLeft parallel (length ts) P (resolve fin ts q)) (resolve fin ts p) ++ places (suc d) (length ts) (underRight parallel (length ts) P (resolve fin ts p)) (resolve fin ts q)) _ k in
       let j = none-parts tooManyTraps (places (suc d) (length ts) (underLeft parallel (length ts) P (resolve fin ts q)) (resolve fin ts p)) (places (suc d) (length ts) (underRight parallel (length ts) P (resolve fin ts p)) (resolve fin ts q)) (i .0) in
       let m : Longer (signalsFrom ns p) fin = longer-then (longer-signals q (signalsFrom ns p)) l in

@@ -1,11 +1,11 @@
 -- A derivation is read by the machine, so a text has at most one tree.
 use mathlib.Core.Path.{_≡_, refl, sym, ap, _∙_}
 use mathlib.Core.List.{List, _∷_}
-use Rattle.grammar.specs.Tokens.{Token, opening, mark, nothing, signal, trap, loop, bracket, bars, close}
+use Rattle.grammar.specs.Tokens.{Token, opening, mark, nothing, signal, trap, loop, bracket, weak, bars, close}
 use Rattle.grammar.specs.Tree as T
 use Rattle.grammar.specs.Tree.{Tree, leaf, two}
-use Rattle.grammar.specs.Grammar.{Category, statement, sequence, branches, Derives, a-nothing, a-pause, an-emit, an-exit, a-signal, a-trap, a-loop, a-suspend, a-then-else, a-then, an-else, a-bracket, a-single, a-sequence, a-pair, a-branch, Program}
-use Rattle.grammar.specs.Machine.{Before, alone, after, join, Open, top, within, branch, body, thenBranch, elseBranch, suspended, expect, have, accepted, run, parse}
+use Rattle.grammar.specs.Grammar.{Category, statement, sequence, branches, Derives, a-nothing, a-pause, an-emit, an-exit, a-signal, a-trap, a-loop, a-suspend, a-then-else, a-then, an-else, a-halt, a-sustain, an-await, an-abort, a-weak-abort, a-bracket, a-single, a-sequence, a-pair, a-branch, Program}
+use Rattle.grammar.specs.Machine.{Before, alone, after, join, Open, top, within, branch, body, thenBranch, elseBranch, suspended, aborted, expect, have, accepted, run, parse}
 
 -- branches that end in q, after those of l
 pub record Branches (p : Tree) (ts r : List Token) : Type 0 where
@@ -45,6 +45,11 @@ reads (a-suspend d) = λ b k. reads d (within suspended b k)
 reads (a-then-else {s = s} {p = p} d e) = λ b k. reads d (within (thenBranch s) b k) ∙ reads e (within (elseBranch s p) b k)
 reads (a-then {s = s} d) = λ b k. reads d (within (thenBranch s) b k)
 reads (an-else {s = s} d) = λ b k. reads d (within (elseBranch s (leaf T.nothing)) b k)
+reads a-halt = λ b k. refl
+reads a-sustain = λ b k. refl
+reads an-await = λ b k. refl
+reads (an-abort d) = λ b k. reads d (within (aborted T.strong) b k)
+reads (a-weak-abort d) = λ b k. reads d (within (aborted T.weak) b k)
 reads (a-bracket d) = close-bracket (reads d)
 reads (a-single d) = λ k. reads d alone k
 reads (a-sequence {p = p} d e) = λ k. reads d k ∙ reads e (after p) k

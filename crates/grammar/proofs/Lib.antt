@@ -1,4 +1,5 @@
 pub mod Runs
+pub mod Beginnings
 pub mod Completeness
 pub mod Soundness
 pub mod Tracing
@@ -7,6 +8,9 @@ pub mod Nesting
 pub mod Weighing
 pub mod Depth
 pub mod Stops
+pub mod Viability
+pub mod Letters
+pub mod Exits
 pub mod Writing
 pub mod Clipping
 pub mod Order

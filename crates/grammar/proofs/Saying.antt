@@ -9,8 +9,9 @@ use borrow.Author.Tests.{lt-ltb, le-ltb, ltb-true, ltb-false}
 use Rattle.esterel.specs.Statement.{Stmt}
 use Rattle.grammar.specs.Tokens.{Token}
 use Rattle.grammar.specs.Tree as T
-use Rattle.grammar.specs.Tree.{Tree, Name, leaf, one, two}
-use Rattle.grammar.specs.Grammar.{Category, statement, sequence, branches, Derives, a-nothing, a-pause, an-emit, an-exit, a-signal, a-trap, a-loop, a-suspend, a-then-else, a-then, an-else, a-bracket, a-single, a-sequence, a-pair, a-branch}
+use Rattle.grammar.specs.Tree.{Tree, Name}
+use Rattle.grammar.specs.Kernel.{Kernel, leaf, one, two, expand}
+use Rattle.grammar.specs.Grammar.{Category, statement, sequence, branches, Derives, a-nothing, a-pause, an-emit, an-exit, a-signal, a-trap, a-loop, a-suspend, a-then-else, a-then, an-else, a-bracket, a-halt, a-sustain, an-await, an-abort, a-weak-abort, a-single, a-sequence, a-pair, a-branch}
 use Rattle.grammar.specs.Names.{place, has, see}
 use Rattle.grammar.specs.Meaning.{signalsFrom, untrapped, resolve}
 use Rattle.grammar.specs.Printing.{NoSequence, Flat, met, metIn, Ordered, Trapped}
@@ -22,7 +23,7 @@ FlatAs statement p = Flat p × NoSequence p
 FlatAs sequence p = Flat p
 FlatAs branches p = Flat p × NoSequence p
 
-pub flat : {w : Category} {p : Tree} {ts r : List Token} → Derives w p ts r → (ns us : List Name) → FlatAs w (resolve ns us p)
+pub flat : {w : Category} {p : Tree} {ts r : List Token} → Derives w p ts r → (ns us : List Name) → FlatAs w (resolve ns us (expand p))
 flat a-nothing ns us = (tt, tt)
 flat a-pause ns us = (tt, tt)
 flat an-emit ns us = (tt, tt)
@@ -35,6 +36,11 @@ flat (a-then-else d e) ns us = ((flat d ns us, flat e ns us), tt)
 flat (a-then d) ns us = ((flat d ns us, tt), tt)
 flat (an-else d) ns us = ((tt, flat d ns us), tt)
 flat (a-bracket d) ns us = flat d ns us
+flat a-halt ns us = (tt, tt)
+flat a-sustain ns us = ((tt, tt, tt), tt)
+flat an-await ns us = ((tt, (tt, tt), tt), tt)
+flat (an-abort d) ns us = (((flat d ns _, tt, tt), (tt, (tt, tt), tt)), tt)
+flat (a-weak-abort d) ns us = (((flat d ns _, tt, tt), (tt, (tt, tt), tt)), tt)
 flat (a-single d) ns us = flat d ns us .0
 flat (a-sequence d e) ns us = (flat d ns us, flat e ns us .0, flat e ns us .1)
 flat (a-pair d e) ns us = ((flat d ns us, flat e ns us), tt)
@@ -53,7 +59,7 @@ not-false-is : (a : Bool) → not a ≡ false → a ≡ true
 not-false-is true e = refl
 not-false-is false e = let z : _≡_ {A = ℕ} 0 1 = cc in absurd (omega arith)
 
-pub trapped : (ns ts : List Name) (t : Tree) → untrapped ts t ≡ false → Trapped (length ts) (resolve ns ts t)
+pub trapped : (ns ts : List Name) (t : Kernel) → untrapped ts t ≡ false → Trapped (length ts) (resolve ns ts t)
 trapped ns ts (leaf T.nothing) h = tt
 trapped ns ts (leaf T.pause) h = tt
 trapped ns ts (leaf (T.emit s)) h = tt
@@ -89,7 +95,7 @@ met-here ns fin s l = go (has ns s) refl
         record { low = omega arith; count = rw (f, le-ltb (place fin s) (length ns) (omega arith)) (sym n) }
 
 -- signals
-pub record InTurn (ns : List Name) (t : Tree) (p : Stmt) : Type 0 where
+pub record InTurn (ns : List Name) (t : Kernel) (p : Stmt) : Type 0 where
   pub order : Ordered (length ns) p
   pub count : metIn (length ns) p ≡ length (signalsFrom ns t)
 
@@ -97,7 +103,7 @@ pub record InTurn (ns : List Name) (t : Tree) (p : Stmt) : Type 0 where
 moved : (a b : ℕ) → a ≡ b → (p : Stmt) → Ordered b p → {n : ℕ} → metIn b p ≡ n → Ordered a p × (metIn a p ≡ n)
 moved a b e p o c = (subst (λ (x : ℕ). Ordered x p) (sym e) o, ap (λ (x : ℕ). metIn x p) e ∙ c)
 
-pub in-turn : (fin ts ns : List Name) (t : Tree) → Longer (signalsFrom ns t) fin → InTurn ns t (resolve fin ts t)
+pub in-turn : (fin ts ns : List Name) (t : Kernel) → Longer (signalsFrom ns t) fin → InTurn ns t (resolve fin ts t)
 in-turn fin ts ns (leaf T.nothing) l = record { order = tt; count = refl }
 in-turn fin ts ns (leaf T.pause) l = record { order = tt; count = refl }
 in-turn fin ts ns (leaf (T.emit s)) l = let m = met-here ns fin s l in record { order = m .low; count = m .count }

@@ -9,7 +9,10 @@ use borrow.Author.Tests.{le-leb}
 use Rattle.esterel.specs.Statement as S
 use Rattle.esterel.specs.Statement.{Stmt}
 use Rattle.grammar.specs.Ascii.{ascii}
-use Rattle.grammar.specs.Tokens.{Token, opening, mark, name, stray, Opening, Mark, nothing, pause, emit, exit, signal, trap, loop, present, suspend, bracket, semicolon, bars, close, in-mark, then, else, end, when, tokens, isInWord, inWord, blank, classOf}
+use Rattle.grammar.specs.Tokens.{Token, opening, mark, name, foreign, stray, Opening, Mark, nothing, pause, emit, exit, signal, trap, loop, present, suspend, bracket, halt, sustain, await, abort, weak, semicolon, bars, close, in-mark, then, else, end, when, tokens, isInWord, inWord, blank, classOf}
+use Rattle.grammar.specs.Tree.{Tree, leaf, one, two}
+use Rattle.grammar.specs.Kernel as K
+use Rattle.grammar.specs.Kernel.{Kernel, expand}
 use Rattle.grammar.specs.Grammar.{Derives, statement, sequence, a-nothing, a-pause, an-emit, an-exit, a-signal, a-trap, a-loop, a-suspend, a-then-else, a-bracket, a-single, a-sequence, a-pair}
 use Rattle.grammar.specs.Printing.{letter, nameOf, named, print, spellOpening, spellMark, spell, NoSequence, Flat}
 
@@ -45,6 +48,11 @@ opening-spelled loop rest = refl
 opening-spelled present rest = refl
 opening-spelled suspend rest = refl
 opening-spelled bracket rest = refl
+opening-spelled halt rest = refl
+opening-spelled sustain rest = refl
+opening-spelled await rest = refl
+opening-spelled abort rest = refl
+opening-spelled weak rest = refl
 
 mark-spelled : (m : Mark) (rest : List ℕ) → tokens (spellMark m ++ rest) ≡ mark m ∷ tokens rest
 unfolding tokens classOf
@@ -63,6 +71,7 @@ Spellable [] = Unit {0}
 Spellable (opening o ∷ ts) = Spellable ts
 Spellable (mark m ∷ ts) = Spellable ts
 Spellable (name n ∷ ts) = ((k : ℕ) × (n ≡ nameOf k)) × Spellable ts
+Spellable (foreign ∷ ts) = ⊥
 Spellable (stray ∷ ts) = ⊥
 
 none-spelled : tokens [] ≡ []
@@ -76,6 +85,7 @@ spelled (mark m ∷ ts) h = mark-spelled m (spell ts) ∙ ap (λ (us : List Toke
 spelled (name n ∷ ts) h =
     let (k, e) = h .0 in
     rw e (name-spelled k (spell ts) ∙ ap (λ (us : List Token). name (nameOf k) ∷ us) (spelled ts (h .1)))
+spelled (foreign ∷ ts) h = absurd h
 spelled (stray ∷ ts) h = absurd h
 
 pub spellable : (d : ℕ) (p : Stmt) (r : List Token) → Spellable r → Spellable (print (named d p) r)
@@ -91,12 +101,23 @@ spellable d (S.two (S.present s) p q) r h = ((_, refl), spellable d p _ (spellab
 spellable d (S.two S.sequence p q) r h = spellable d p _ (spellable d q _ h)
 spellable d (S.two S.parallel p q) r h = spellable d p _ (spellable d q _ h)
 
+-- what is printed as a tree of the grammar, which has nothing to expand
+abbrev pub plain : Kernel → Tree
+plain (K.leaf l) = leaf l
+plain (K.one u p) = one u (plain p)
+plain (K.two b p q) = two b (plain p) (plain q)
+
+pub expanded : (t : Kernel) → expand (plain t) ≡ t
+expanded (K.leaf l) = refl
+expanded (K.one u p) = ap (λ (z : Kernel). K.one u z) (expanded p)
+expanded (K.two b p q) = let e = expanded p in let f = expanded q in cc
+
 -- the derivation of what is printed: as a sequence, and as a statement where it is no sequence
 pub record Printed (d : ℕ) (p : Stmt) (r : List Token) : Type 0 where
-  pub whole : Derives sequence (named d p) (print (named d p) r) r
-  pub single : NoSequence p → Derives statement (named d p) (print (named d p) r) r
+  pub whole : Derives sequence (plain (named d p)) (print (named d p) r) r
+  pub single : NoSequence p → Derives statement (plain (named d p)) (print (named d p) r) r
 
-as-single : {d : ℕ} {p : Stmt} {r : List Token} → Derives statement (named d p) (print (named d p) r) r → Printed d p r
+as-single : {d : ℕ} {p : Stmt} {r : List Token} → Derives statement (plain (named d p)) (print (named d p) r) r → Printed d p r
 as-single s = record { whole = a-single s; single = λ h. s }
 
 pub derivation : (d : ℕ) (p : Stmt) → Flat p → (r : List Token) → Printed d p r

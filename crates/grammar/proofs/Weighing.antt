@@ -8,7 +8,7 @@ use Prim.Native.Char.{code}
 use lib.Dec.{eqb, leb}
 use lib.ListN.{length, length-append}
 use Rattle.grammar.specs.Limits.{maxName}
-use Rattle.grammar.specs.Tokens.{Token, opening, mark, name, stray, semicolon, close, bracket, Word, words, isLetter, nameOr, sameBytes, among, wordToken, isInWord, isBlank, signOf, Class, inWord, blank, bar, sign, classOf, Pending, none, word, firstBar, flush, meet, tokensAfter, tokens}
+use Rattle.grammar.specs.Tokens.{Token, opening, mark, name, foreign, stray, semicolon, close, bracket, Word, words, isLetter, isCount, nameOr, sameBytes, among, wordToken, isInWord, isBlank, signOf, Class, inWord, blank, bar, sign, classOf, Pending, none, word, firstBar, flush, meet, tokensAfter, tokens}
 use Rattle.grammar.proofs.Weights.{weight, weights}
 
 and-right : (a b : Bool) → (a && b) ≡ true → b ≡ true
@@ -28,11 +28,12 @@ Fits (x ∷ xs) = (weight (x .token) ≤ length (x .letters)) × Fits xs
 
 name-fits : (w : List ℕ) → weight (nameOr w) ≤ length w
 name-fits [] = omega arith
-name-fits (b ∷ w) = go (isLetter b && leb (length (b ∷ w)) maxName)
+name-fits (b ∷ w) = go (isLetter b && leb (length (b ∷ w)) maxName) (isCount (b ∷ w))
   where
-    go : (c : Bool) → weight (cond c (name (b ∷ w)) stray) ≤ length (b ∷ w)
-    go true = omega arith
-    go false = omega arith
+    go : (c d : Bool) → weight (cond c (name (b ∷ w)) (cond d foreign stray)) ≤ length (b ∷ w)
+    go true d = omega arith
+    go false true = omega arith
+    go false false = omega arith
 
 among-fits : (xs : List Word) → Fits xs → (w : List ℕ) → weight (among xs w) ≤ length w
 among-fits [] f w = name-fits w

@@ -2,13 +2,14 @@
 use mathlib.Core.Path.{_≡_, refl, sym, ap, _∙_}
 use mathlib.Core.Bool.{Bool, true, false, _||_, cond}
 use mathlib.Core.List.{List, [], _∷_, _++_, append-assoc, append-nil}
-use Prim.Native.Nat.{ℕ, suc, _+_, _≤_, _<_}
+use Prim.Native.Nat.{ℕ, suc, _≤_, _<_}
 use native.Mathlib.Omega.{arith}
 use lib.ListN.{length, length-append}
 use borrow.Author.Tests.{ltb-true, ltb-false, eq-eqb}
 use Rattle.grammar.specs.Tokens.{sameBytes}
 use Rattle.grammar.specs.Tree as T
-use Rattle.grammar.specs.Tree.{Tree, Name, leaf, one, two}
+use Rattle.grammar.specs.Tree.{Tree, Name}
+use Rattle.grammar.specs.Kernel.{Kernel, leaf, one, two, expand}
 use Rattle.esterel.specs.Statement as S
 use Rattle.esterel.specs.Statement.{Stmt, nodes, kind, field}
 use Rattle.esterel.specs.Table.{postfix}
@@ -63,7 +64,7 @@ longer-see ns s = go (has ns s) refl
     go true e = rw e (longer-same ns)
     go false e = rw e record { more = s ∷ []; is = refl }
 
-pub longer-signals : (t : Tree) (ns : List Name) → Longer ns (signalsFrom ns t)
+pub longer-signals : (t : Kernel) (ns : List Name) → Longer ns (signalsFrom ns t)
 longer-signals (leaf T.nothing) ns = longer-same ns
 longer-signals (leaf T.pause) ns = longer-same ns
 longer-signals (leaf (T.emit s)) ns = longer-see ns s
@@ -82,7 +83,7 @@ place-kept {ns = ns} {ms = ms} s h l =
     let e : place ms s ≡ place ns s = rw (l .is) (place-in ns (l .more) s h) in
     (e, rw e (omega (arith, h, ap (λ (k : List Name). length k) (l .is), length-append ns (l .more))))
 
-pub seen-is : (ts : List Name) (t : Tree) (g : Progress) → past ts t g .seen ≡ signalsFrom (g .seen) t
+pub seen-is : (ts : List Name) (t : Kernel) (g : Progress) → past ts t g .seen ≡ signalsFrom (g .seen) t
 seen-is ts (leaf T.nothing) g = refl
 seen-is ts (leaf T.pause) g = refl
 seen-is ts (leaf (T.emit s)) g = refl
@@ -106,7 +107,7 @@ or-three false b c = refl
 lost-two : (a b c d e : Bool) → e ≡ d || c → d ≡ a || b → e ≡ a || (b || c)
 lost-two a b c d e f g = f ∙ ap (λ (z : Bool). z || c) g ∙ or-three a b c
 
-pub lost-is : (ts : List Name) (t : Tree) (g : Progress) → past ts t g .lost ≡ g .lost || untrapped ts t
+pub lost-is : (ts : List Name) (t : Kernel) (g : Progress) → past ts t g .lost ≡ g .lost || untrapped ts t
 lost-is ts (leaf T.nothing) g = or-false (g .lost)
 lost-is ts (leaf T.pause) g = or-false (g .lost)
 lost-is ts (leaf (T.emit s)) g = or-false (g .lost)
@@ -131,7 +132,7 @@ two-bytes out bs cs u p q k f d e a b =
     ∙ ap (λ (l : List ℕ). out ++ l) (sym (append-assoc (postfix p) (postfix q) (kind (S.two u p q) ∷ field (S.two u p q) ∷ []))))
 
 -- with the final list of signals
-bytes-are : (fin ts : List Name) (t : Tree) (g : Progress) → Longer (past ts t g .seen) fin → past ts t g .bytes ≡ g .bytes ++ postfix (resolve fin ts t)
+bytes-are : (fin ts : List Name) (t : Kernel) (g : Progress) → Longer (past ts t g .seen) fin → past ts t g .bytes ≡ g .bytes ++ postfix (resolve fin ts t)
 bytes-are fin ts (leaf T.nothing) g l = refl
 bytes-are fin ts (leaf T.pause) g l = refl
 bytes-are fin ts (leaf (T.emit s)) g l = rw (place-kept s (see-has (g .seen) s) l .0)
@@ -162,13 +163,13 @@ bytes-are fin ts (two T.parallel p q) g l =
 
 -- what is written in text order, with the numbers known so far, is the table of the statement
 pub record Written (t : Tree) : Type 0 where
-  pub table : past [] t blank .bytes ≡ postfix (statementOf t)
-  pub names : past [] t blank .seen ≡ signals t
-  pub exits : past [] t blank .lost ≡ untrapped [] t
+  pub table : past [] (expand t) blank .bytes ≡ postfix (statementOf t)
+  pub names : past [] (expand t) blank .seen ≡ signals t
+  pub exits : past [] (expand t) blank .lost ≡ untrapped [] (expand t)
 
 pub written : (t : Tree) → Written t
 written t = record {
-  table = bytes-are (signals t) [] t blank (rw (seen-is [] t blank) (longer-same (signals t)));
-  names = seen-is [] t blank;
-  exits = lost-is [] t blank;
+  table = bytes-are (signals t) [] (expand t) blank (rw (seen-is [] (expand t) blank) (longer-same (signals t)));
+  names = seen-is [] (expand t) blank;
+  exits = lost-is [] (expand t) blank;
 }

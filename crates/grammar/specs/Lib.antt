@@ -2,11 +2,14 @@ pub mod Limits
 pub mod Ascii
 pub mod Tokens
 pub mod Tree
+pub mod Kernel
 pub mod Grammar
 pub mod Names
+pub mod Faults
 pub mod Meaning
 pub mod Printing
 pub mod Theorems
 pub mod Machine
 pub mod Progress
+pub mod Search
 pub mod Clipping

@@ -1,4 +1,4 @@
--- The limits of programs as text (F-1).
+-- The limits of programs as text (F-1, F-9).
 use Prim.Native.Nat.{ℕ}
 
 -- bytes of a text
@@ -11,4 +11,4 @@ maxName = 32
 
 -- levels of nesting: a text of the grammar that is within the length has fewer (specs/Theorems, `Nesting`)
 abbrev pub maxLevels : ℕ
-maxLevels = 2340
+maxLevels = 2731

@@ -1,4 +1,4 @@
--- What a tree with names means, and what a text is told (F-1).
+-- What a tree with names means, and what a text is told (F-1, F-9).
 use Prim.Native.Nat.{ℕ, _≤_, _<_}
 use mathlib.Core.Bool.{Bool, false, _||_, not, cond}
 use mathlib.Core.List.{List, [], _∷_}
@@ -11,15 +11,17 @@ use Rattle.esterel.specs.Sets.{placesOf}
 use Rattle.esterel.specs.Table.{Verdict, passed, refused, read, postfix}
 use Rattle.esterel.specs.Checks.{tooDeep, tooManyTraps, firstNode, refuseAt}
 use Rattle.grammar.specs.Limits.{maxSource}
-use Rattle.grammar.specs.Tokens.{tokens}
+use Rattle.grammar.specs.Tokens.{Token, tokens, byteOf}
 use Rattle.grammar.specs.Tree as T
-use Rattle.grammar.specs.Tree.{Tree, Name, leaf, one, two}
+use Rattle.grammar.specs.Tree.{Tree, Name}
+use Rattle.grammar.specs.Kernel.{Kernel, leaf, one, two, expand}
 use Rattle.grammar.specs.Grammar.{Program}
 use Rattle.grammar.specs.Names.{place, has, see}
+use Rattle.grammar.specs.Faults.{Fault, numberOfFault, lostFrom, crowdedFrom}
 
 -- The signals of a tree in order of first appearance in the text, after those of ns. A suspend's name stands after its body, each other before
 -- what is in the statement.
-abbrev pub signalsFrom : List Name → Tree → List Name
+abbrev pub signalsFrom : List Name → Kernel → List Name
 signalsFrom ns (leaf T.nothing) = ns
 signalsFrom ns (leaf T.pause) = ns
 signalsFrom ns (leaf (T.emit s)) = see ns s
@@ -33,10 +35,10 @@ signalsFrom ns (two T.sequence p q) = signalsFrom (signalsFrom ns p) q
 signalsFrom ns (two T.parallel p q) = signalsFrom (signalsFrom ns p) q
 
 abbrev pub signals : Tree → List Name
-signals p = signalsFrom [] p
+signals t = signalsFrom [] (expand t)
 
 -- 15: an exit without its trap, where ts are the names of the traps around, the nearest first
-abbrev pub untrapped : List Name → Tree → Bool
+abbrev pub untrapped : List Name → Kernel → Bool
 untrapped ts (leaf T.nothing) = false
 untrapped ts (leaf T.pause) = false
 untrapped ts (leaf (T.emit s)) = false
@@ -49,7 +51,7 @@ untrapped ts (two b p q) = untrapped ts p || untrapped ts q
 
 -- The statement. A signal's number is the place of its name among all, an exit's level the place of its name among the traps around, so that it
 -- means the nearest of its name.
-abbrev pub resolve : (ns ts : List Name) → Tree → Stmt
+abbrev pub resolve : (ns ts : List Name) → Kernel → Stmt
 resolve ns ts (leaf T.nothing) = S.leaf S.nothing
 resolve ns ts (leaf T.pause) = S.leaf S.pause
 resolve ns ts (leaf (T.emit s)) = S.leaf (S.emit (place ns s))
@@ -63,7 +65,7 @@ resolve ns ts (two T.sequence p q) = S.two S.sequence (resolve ns ts p) (resolve
 resolve ns ts (two T.parallel p q) = S.two S.parallel (resolve ns ts p) (resolve ns ts q)
 
 abbrev pub statementOf : Tree → Stmt
-statementOf t = resolve (signals t) [] t
+statementOf t = resolve (signals t) [] (expand t)
 
 -- checks 8 and 9 of a program that was read from its table
 abbrev pub checkNesting : Verdict → Verdict
@@ -73,12 +75,18 @@ checkNesting (passed p) = refuseAt 8 (firstNode tooDeep (placesOf p) 0) (refuseA
 -- 15, 16, then the checks of the statement's table: 1, 8 and 9
 abbrev pub verdictOfTree : Tree → Verdict
 verdictOfTree t =
-    cond (untrapped [] t) (refused 15 0)
+    cond (untrapped [] (expand t)) (refused 15 0)
     (cond (ltb maxSignals (length (signals t))) (refused 16 0) (checkNesting (read (postfix (statementOf t)))))
 
--- The verdict of a text, and the number of its signals: 14 for one that is over the length or has no derivation, else what its derivation's tree
--- is told.
-pub data VerdictOf (text : List ℕ) : Verdict → ℕ → Type 0 where
-  overlong : maxSource < length text → VerdictOf text (refused 14 0) 0
-  underivable : ((t : Tree) → Program t (tokens text) → ⊥) → VerdictOf text (refused 14 0) 0
-  derived : (t : Tree) → length text ≤ maxSource → Program t (tokens text) → VerdictOf text (verdictOfTree t) (length (signals t))
+-- the byte where a derivation of a text is at fault: the name of an exit, or of a signal, for 15 and 16
+abbrev pub placeOf : (text : List ℕ) {t : Tree} → Program t (tokens text) → ℕ
+placeOf text {t = t} d =
+    cond (untrapped [] (expand t)) (byteOf text (lostFrom [] d []))
+    (cond (ltb maxSignals (length (signals t))) (byteOf text (crowdedFrom [] false (tokens text))) 0)
+
+-- The verdict of a text, the number of its signals, and the byte where it is at fault, which is 0 where none is named. A text over the length is
+-- refused 14, at the first byte over it; one that has no derivation 14 or 20; any other is told what its derivation's tree is told.
+pub data VerdictOf (text : List ℕ) : Verdict → (signalCount place : ℕ) → Type 0 where
+  overlong : maxSource < length text → VerdictOf text (refused 14 0) 0 maxSource
+  faulty : (us : List Token) → length text ≤ maxSource → Fault (tokens text) us → VerdictOf text (refused (numberOfFault us) 0) 0 (byteOf text us)
+  derived : (t : Tree) → length text ≤ maxSource → (d : Program t (tokens text)) → VerdictOf text (verdictOfTree t) (length (signals t)) (placeOf text d)

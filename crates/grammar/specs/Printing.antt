@@ -7,9 +7,10 @@ use lib.Dec.{ltb}
 use Rattle.esterel.specs.Statement as S
 use Rattle.esterel.specs.Statement.{Stmt}
 use Rattle.grammar.specs.Ascii.{ascii}
-use Rattle.grammar.specs.Tokens.{Token, opening, mark, name, stray, Opening, Mark, nothing, pause, emit, exit, signal, trap, loop, present, suspend, bracket, semicolon, bars, close, in-mark, then, else, end, when}
+use Rattle.grammar.specs.Tokens.{Token, opening, mark, name, foreign, stray, Opening, Mark, nothing, pause, emit, exit, signal, trap, loop, present, suspend, bracket, halt, sustain, await, abort, weak, semicolon, bars, close, in-mark, then, else, end, when}
 use Rattle.grammar.specs.Tree as T
-use Rattle.grammar.specs.Tree.{Tree, Name, leaf, one, two}
+use Rattle.grammar.specs.Tree.{Name}
+use Rattle.grammar.specs.Kernel.{Kernel, leaf, one, two}
 
 -- a letter for the last digit of a number to the base 26
 abbrev pub letter : ℕ → ℕ
@@ -20,7 +21,7 @@ abbrev pub nameOf : ℕ → Name
 nameOf n = code "N" ∷ letter (n / 26 / 26) ∷ letter (n / 26) ∷ letter n ∷ []
 
 -- the tree of a statement under so many traps: a signal is named by its number, a trap by the number of traps around it
-abbrev pub named : ℕ → Stmt → Tree
+abbrev pub named : ℕ → Stmt → Kernel
 named d (S.leaf S.nothing) = leaf T.nothing
 named d (S.leaf S.pause) = leaf T.pause
 named d (S.leaf (S.emit s)) = leaf (T.emit (nameOf s))
@@ -34,7 +35,7 @@ named d (S.two S.sequence p q) = two T.sequence (named d p) (named d q)
 named d (S.two S.parallel p q) = two T.parallel (named d p) (named d q)
 
 -- the tokens of a tree, before those of what follows
-abbrev pub print : Tree → List Token → List Token
+abbrev pub print : Kernel → List Token → List Token
 print (leaf T.nothing) r = opening nothing ∷ r
 print (leaf T.pause) r = opening pause ∷ r
 print (leaf (T.emit s)) r = opening emit ∷ name s ∷ r
@@ -59,6 +60,11 @@ spellOpening loop = ascii "loop "
 spellOpening present = ascii "present "
 spellOpening suspend = ascii "suspend "
 spellOpening bracket = ascii "[ "
+spellOpening halt = ascii "halt "
+spellOpening sustain = ascii "sustain "
+spellOpening await = ascii "await "
+spellOpening abort = ascii "abort "
+spellOpening weak = ascii "weak "
 
 abbrev pub spellMark : Mark → List ℕ
 spellMark semicolon = ascii "; "
@@ -75,6 +81,7 @@ spell [] = []
 spell (opening o ∷ ts) = spellOpening o ++ spell ts
 spell (mark m ∷ ts) = spellMark m ++ spell ts
 spell (name n ∷ ts) = n ++ (ascii " " ++ spell ts)
+spell (foreign ∷ ts) = ascii "0 " ++ spell ts
 spell (stray ∷ ts) = ascii "? " ++ spell ts
 
 unfoldable pub printed : Stmt → List ℕ

@@ -5,8 +5,9 @@ use Prim.Native.Nat.{ℕ}
 use mathlib.Core.Bool.{Bool, false, _||_, not}
 use mathlib.Core.List.{List, [], _∷_, _++_}
 use Rattle.grammar.specs.Tree as T
-use Rattle.grammar.specs.Tree.{Tree, Name, leaf, one, two}
-use Rattle.grammar.specs.Machine.{Before, alone, after, Frame, branch, body, thenBranch, elseBranch, suspended}
+use Rattle.grammar.specs.Tree.{Name}
+use Rattle.grammar.specs.Kernel.{Kernel, leaf, one, two, added, expand}
+use Rattle.grammar.specs.Machine.{Before, alone, after, Frame, branch, body, thenBranch, elseBranch, suspended, aborted}
 use Rattle.grammar.specs.Names.{place, has, see}
 
 pub record Progress : Type 0 where
@@ -64,7 +65,7 @@ endedTwo (T.present s) g = named 6 s g
 endedTwo T.sequence g = node 9 0 g
 endedTwo T.parallel g = node 10 0 g
 
-abbrev pub past : List Name → Tree → Progress → Progress
+abbrev pub past : List Name → Kernel → Progress → Progress
 past ts (leaf l) g = leafDone ts l g
 past ts (one u p) g = ended u (past (trapsIn u ts) p (begun u g))
 past ts (two b p q) g = endedTwo b (past ts q (past ts p (begunTwo b g)))
@@ -72,7 +73,7 @@ past ts (two b p q) g = endedTwo b (past ts q (past ts p (begunTwo b g)))
 -- the parts of an open statement that stand before the sequence that is read
 abbrev pub pastBefore : List Name → Before → Progress → Progress
 pastBefore ts alone g = g
-pastBefore ts (after p) g = past ts p g
+pastBefore ts (after p) g = past ts (expand p) g
 
 abbrev pub trapsWithin : Frame → List Name → List Name
 trapsWithin (branch l) ts = ts
@@ -80,13 +81,15 @@ trapsWithin (body u) ts = trapsIn u ts
 trapsWithin (thenBranch s) ts = ts
 trapsWithin (elseBranch s p) ts = ts
 trapsWithin suspended ts = ts
+trapsWithin (aborted w) ts = added ∷ ts
 
 abbrev pub pastOpen : List Name → Frame → Progress → Progress
 pastOpen ts (branch l) g = pastBefore ts l g
 pastOpen ts (body u) g = begun u g
 pastOpen ts (thenBranch s) g = note s g
-pastOpen ts (elseBranch s p) g = past ts p (note s g)
+pastOpen ts (elseBranch s p) g = past ts (expand p) (note s g)
 pastOpen ts suspended g = g
+pastOpen ts (aborted w) g = g
 
 -- nothing yet
 abbrev pub blank : Progress

@@ -1,7 +1,7 @@
 -- What is proved of the grammar and of what texts mean (F-1): the statements, each after what it speaks of. The proofs are in proofs/.
-use Prim.Native.Nat.{ℕ, _≤_, _<_}
+use Prim.Native.Nat.{ℕ, suc, _+_, _≤_, _<_}
 use mathlib.Core.Path.{_≡_}
-use mathlib.Core.Logic.{_↔_}
+use mathlib.Core.Logic.{_↔_, _⊎_}
 use mathlib.Core.Bool.{Bool, true, false}
 use Prim.Native.Char.{code}
 use mathlib.Core.List.{List, [], _∷_, _++_}
@@ -12,10 +12,11 @@ use Rattle.esterel.specs.Table.{Verdict, passed, refused, postfix}
 use Rattle.esterel.specs.Checks.{verdict}
 use Rattle.grammar.specs.Limits.{maxSource, maxLevels}
 use Rattle.grammar.specs.Ascii.{ascii}
-use Rattle.grammar.specs.Tokens.{Token, opening, mark, name, stray, Opening, Mark, nothing, pause, emit, exit, signal, trap, loop, present, suspend, bracket, semicolon, bars as barsMark, close, in-mark, then, else, end, when, tokens, isInWord, isBlank, wordToken, signOf}
+use Rattle.grammar.specs.Tokens.{Token, opening, mark, name, foreign, stray, bars as barsMark, tokens, isInWord, isBlank, wordToken, signOf, none as nonePending, beginnings, beginningsAfter}
 use Rattle.grammar.specs.Tree.{Tree, Name, levels}
 use Rattle.grammar.specs.Grammar.{Program, productions}
 use Rattle.grammar.specs.Names.{see}
+use Rattle.grammar.specs.Faults.{Fault, opensSignal, marksSignal}
 use Rattle.grammar.specs.Meaning.{signals, statementOf, checkNesting, VerdictOf}
 use Rattle.grammar.specs.Printing.{printed, metIn, Expressible}
 
@@ -41,19 +42,30 @@ pub record InRuns : Type 0 where
   pub bar : (rest : List ℕ) → NoBarNext rest → tokens (ascii "|" ++ rest) ≡ stray ∷ tokens rest
   pub sign : (b : ℕ) (rest : List ℕ) → isInWord b ≡ false → isBlank b ≡ false → (b ≡ code "|" → ⊥) → tokens (b ∷ rest) ≡ signOf b ∷ tokens rest
 
+-- Where tokens begin: at their first bytes, in the same runs, where n bytes stand before.
+pub record Begun : Type 0 where
+  pub each : (text : List ℕ) → length (beginnings text) ≡ length (tokens text)
+  pub none : (n : ℕ) → beginningsAfter n nonePending [] ≡ []
+  pub word : (n b : ℕ) (w rest : List ℕ) → AllInWord (b ∷ w) → NoWordNext rest → beginningsAfter n nonePending ((b ∷ w) ++ rest) ≡ n ∷ beginningsAfter (n + length (b ∷ w)) nonePending rest
+  pub blank : (n b : ℕ) (rest : List ℕ) → isBlank b ≡ true → beginningsAfter n nonePending (b ∷ rest) ≡ beginningsAfter (suc n) nonePending rest
+  pub bars : (n : ℕ) (rest : List ℕ) → beginningsAfter n nonePending (ascii "||" ++ rest) ≡ n ∷ beginningsAfter (suc (suc n)) nonePending rest
+  pub bar : (n : ℕ) (rest : List ℕ) → NoBarNext rest → beginningsAfter n nonePending (ascii "|" ++ rest) ≡ n ∷ beginningsAfter (suc n) nonePending rest
+  pub sign : (n b : ℕ) (rest : List ℕ) → isInWord b ≡ false → isBlank b ≡ false → (b ≡ code "|" → ⊥) → beginningsAfter n nonePending (b ∷ rest) ≡ n ∷ beginningsAfter (suc n) nonePending rest
+
 -- At most one derivation for a list of tokens: two have the same productions in the same order, which make a derivation, since each production has
 -- a fixed number of parts and the names stand in the tokens; and the same tree. So all derivations of a text give one table.
 pub record OneDerivation : Type 0 where
   pub sameProductions : (ts : List Token) (p q : Tree) (d : Program p ts) (e : Program q ts) → productions d [] ≡ productions e []
   pub sameTree : (ts : List Token) (p q : Tree) → Program p ts → Program q ts → p ≡ q
 
--- a text passes check 14
-abbrev pub Passes14 : List ℕ → Type 0
-Passes14 text = (v : Verdict) (n node : ℕ) → VerdictOf text v n → v ≡ refused 14 node → ⊥
+-- a text passes checks 14 and 20
+abbrev pub InGrammar : List ℕ → Type 0
+InGrammar text = (v : Verdict) (n at node : ℕ) → VerdictOf text v n at → ((v ≡ refused 14 node → ⊥) × (v ≡ refused 20 node → ⊥))
 
 -- the numbers that a text is refused with; only 8 and 9 name a node, of the table that is not written
 pub data Refusal : ℕ → ℕ → Type 0 where
   outsideGrammar : Refusal 14 0
+  ofFullLanguage : Refusal 20 0
   exitUntrapped : Refusal 15 0
   manySignals : Refusal 16 0
   manyNodes : Refusal 1 0
@@ -61,46 +73,32 @@ pub data Refusal : ℕ → ℕ → Type 0 where
   manyTraps : (node : ℕ) → node < maxNodes → Refusal 9 node
 
 pub record OfTexts : Type 0 where
-  -- every text has one verdict and one number of signals
-  pub decided : (text : List ℕ) → (v : Verdict) × (n : ℕ) × VerdictOf text v n
-  pub oneVerdict : (text : List ℕ) (v w : Verdict) (n m : ℕ) → VerdictOf text v n → VerdictOf text w m → (v ≡ w) × (n ≡ m)
-  -- a text within the length passes 14 exactly if the grammar has a derivation for it
-  pub fourteen : (text : List ℕ) → length text ≤ maxSource → Passes14 text ↔ ((t : Tree) × Program t (tokens text))
-  pub refusals : (text : List ℕ) (number node n : ℕ) → VerdictOf text (refused number node) n → Refusal number node
+  -- every text has one verdict, one number of signals and one place
+  pub decided : (text : List ℕ) → (v : Verdict) × (n : ℕ) × (at : ℕ) × VerdictOf text v n at
+  pub oneVerdict : (text : List ℕ) (v w : Verdict) (n m at at′ : ℕ) → VerdictOf text v n at → VerdictOf text w m at′ → (v ≡ w) × (n ≡ m) × (at ≡ at′)
+  -- a text within the length passes 14 and 20 exactly if the grammar has a derivation for it
+  pub inGrammar : (text : List ℕ) → length text ≤ maxSource → InGrammar text ↔ ((t : Tree) × Program t (tokens text))
+  -- it is refused 20 exactly if the first token with which it can't go on is a word of the full language or a count
+  pub twenty : (text : List ℕ) → length text ≤ maxSource → ((n : ℕ) × (at : ℕ) × VerdictOf text (refused 20 0) n at) ↔ ((us : List Token) × Fault (tokens text) (foreign ∷ us))
+  pub refusals : (text : List ℕ) (number node n at : ℕ) → VerdictOf text (refused number node) n at → Refusal number node
   -- without a refusal the program is that of the derivation
-  pub program : (text : List ℕ) (p : Stmt) (n : ℕ) → VerdictOf text (passed p) n → (t : Tree) × Program t (tokens text) × (p ≡ statementOf t) × (n ≡ length (signals t))
+  pub program : (text : List ℕ) (p : Stmt) (n at : ℕ) → VerdictOf text (passed p) n at → (t : Tree) × Program t (tokens text) × (p ≡ statementOf t) × (n ≡ length (signals t))
   -- and its table passes checks 1 to 10: the checker refuses it by 11 or not at all
-  pub onlyEleven : (text : List ℕ) (p : Stmt) (n number node : ℕ) → VerdictOf text (passed p) n → verdict (postfix p) ≡ refused number node → number ≡ 11
+  pub onlyEleven : (text : List ℕ) (p : Stmt) (n at number node : ℕ) → VerdictOf text (passed p) n at → verdict (postfix p) ≡ refused number node → number ≡ 11
 
--- The names of signals in a list of tokens, in its order: those right after emit, signal, present and when.
-abbrev pub opensSignal : Opening → Bool
-opensSignal nothing = false
-opensSignal pause = false
-opensSignal emit = true
-opensSignal exit = false
-opensSignal signal = true
-opensSignal trap = false
-opensSignal loop = false
-opensSignal present = true
-opensSignal suspend = false
-opensSignal bracket = false
+-- A list of tokens has a fault or a derivation, and not both; it has one fault.
+pub record OneFault : Type 0 where
+  pub either : (ts : List Token) → ((us : List Token) × Fault ts us) ⊎ ((t : Tree) × Program t ts)
+  pub oneFault : (ts us vs : List Token) → Fault ts us → Fault ts vs → us ≡ vs
 
-abbrev pub marksSignal : Mark → Bool
-marksSignal semicolon = false
-marksSignal barsMark = false
-marksSignal close = false
-marksSignal in-mark = false
-marksSignal then = false
-marksSignal else = false
-marksSignal end = false
-marksSignal when = true
-
+-- The names of signals in a list of tokens, in its order: those right after emit, signal, present, sustain, await and when.
 abbrev pub signalNames : (isSignal : Bool) → List Token → List Name
 signalNames isSignal [] = []
 signalNames isSignal (opening o ∷ ts) = signalNames (opensSignal o) ts
 signalNames isSignal (mark m ∷ ts) = signalNames (marksSignal m) ts
 signalNames true (name n ∷ ts) = n ∷ signalNames false ts
 signalNames false (name n ∷ ts) = signalNames false ts
+signalNames isSignal (foreign ∷ ts) = signalNames false ts
 signalNames isSignal (stray ∷ ts) = signalNames false ts
 
 -- a list with further names, each new one put at the end
@@ -120,8 +118,8 @@ Nesting = (text : List ℕ) (t : Tree) → length text ≤ maxSource → Program
 unfoldable pub RoundTrip : Type 0
 RoundTrip =
     (p : Stmt) → Expressible p → size p ≤ maxNodes → metIn 0 p ≤ maxSignals → length (printed p) ≤ maxSource →
-    VerdictOf (printed p) (checkNesting (passed p)) (metIn 0 p)
+    VerdictOf (printed p) (checkNesting (passed p)) (metIn 0 p) 0
 
 -- And only such programs are read from texts.
 unfoldable pub OnlyExpressible : Type 0
-OnlyExpressible = (text : List ℕ) (p : Stmt) (n : ℕ) → VerdictOf text (passed p) n → Expressible p × (n ≡ metIn 0 p)
+OnlyExpressible = (text : List ℕ) (p : Stmt) (n at : ℕ) → VerdictOf text (passed p) n at → Expressible p × (n ≡ metIn 0 p)

@@ -1,9 +1,9 @@
--- A text's bytes as tokens (F-1): words as unbroken runs, signs, and other bytes, with blanks, tabs and line feeds between them.
-use Prim.Native.Nat.{ℕ}
+-- A text's bytes as tokens (F-1, F-9): words as unbroken runs, signs, and other bytes, with blanks, tabs and line feeds between them.
+use Prim.Native.Nat.{ℕ, suc, _-_}
 use Prim.Native.Char.{code}
 use mathlib.Core.Bool.{Bool, true, false, _||_, _&&_, cond}
 use mathlib.Core.List.{List, [], _∷_, _++_}
-use lib.ListN.{length}
+use lib.ListN.{length, getD}
 use lib.Dec.{eqb, leb}
 use Rattle.grammar.specs.Limits.{maxName}
 use Rattle.grammar.specs.Ascii.{ascii}
@@ -11,6 +11,7 @@ use Rattle.grammar.specs.Ascii.{ascii}
 -- the words and the sign that a statement begins with
 pub data Opening : Type 0 where
   nothing pause emit exit signal trap loop present suspend bracket : Opening
+  halt sustain await abort weak : Opening  -- F-9
 
 -- the words and signs that stand within a statement or between two
 pub data Mark : Type 0 where
@@ -20,9 +21,10 @@ pub data Token : Type 0 where
   opening : (o : Opening) → Token
   mark : (m : Mark) → Token
   name : (n : List ℕ) → Token
-  stray : Token  -- a word that is neither one of the language's nor a name, or another byte
+  foreign : Token  -- a word of the full language that can't be converted, or a count (F-9)
+  stray : Token  -- a word that is none of these, or another byte
 
--- the words of the language (document 004, Figure 2)
+-- the words of the language (document 004, Figure 2; F-9)
 pub record Word : Type 0 where
   pub letters : List ℕ
   pub token : Token
@@ -40,6 +42,16 @@ openingWords =
     record { letters = ascii "suspend"; token = opening suspend } ∷
     []
 
+-- the forms of F-9
+abbrev pub dialectWords : List Word
+dialectWords =
+    record { letters = ascii "halt"; token = opening halt } ∷
+    record { letters = ascii "sustain"; token = opening sustain } ∷
+    record { letters = ascii "await"; token = opening await } ∷
+    record { letters = ascii "abort"; token = opening abort } ∷
+    record { letters = ascii "weak"; token = opening weak } ∷
+    []
+
 abbrev pub innerWords : List Word
 innerWords =
     record { letters = ascii "in"; token = mark in-mark } ∷
@@ -49,8 +61,16 @@ innerWords =
     record { letters = ascii "when"; token = mark when } ∷
     []
 
+-- words of the full language that can't be converted
+abbrev pub foreignWords : List Word
+foreignWords =
+    record { letters = ascii "immediate"; token = foreign } ∷
+    record { letters = ascii "every"; token = foreign } ∷
+    record { letters = ascii "case"; token = foreign } ∷
+    []
+
 abbrev pub words : List Word
-words = openingWords ++ innerWords
+words = openingWords ++ (dialectWords ++ (innerWords ++ foreignWords))
 
 abbrev pub isLetter : ℕ → Bool
 isLetter b = (leb (code "A") b && leb b (code "Z")) || (leb (code "a") b && leb b (code "z"))
@@ -58,10 +78,15 @@ isLetter b = (leb (code "A") b && leb b (code "Z")) || (leb (code "a") b && leb 
 abbrev pub isDigit : ℕ → Bool
 isDigit b = leb (code "0") b && leb b (code "9")
 
+-- a count is a run of digits
+abbrev pub isCount : List ℕ → Bool
+isCount [] = true
+isCount (b ∷ w) = isDigit b && isCount w
+
 -- a word that is none of the language's is a name if it begins with a letter and has at most 32 characters
 abbrev pub nameOr : List ℕ → Token
 nameOr [] = stray
-nameOr (b ∷ w) = cond (isLetter b && leb (length (b ∷ w)) maxName) (name (b ∷ w)) stray
+nameOr (b ∷ w) = cond (isLetter b && leb (length (b ∷ w)) maxName) (name (b ∷ w)) (cond (isCount (b ∷ w)) foreign stray)
 
 abbrev pub sameBytes : List ℕ → List ℕ → Bool
 sameBytes [] [] = true
@@ -116,9 +141,48 @@ meet bar b (word w) next = wordToken w ∷ next firstBar
 meet bar b firstBar next = mark bars ∷ next none
 meet (sign t) b s next = flush s (t ∷ next none)
 
+-- the bytes as tokens, with what is pending before them
 abbrev pub tokensAfter : Pending → List ℕ → List Token
 tokensAfter s [] = flush s []
 tokensAfter s (b ∷ bytes) = meet (classOf b) b s (λ next. tokensAfter next bytes)
 
 unfoldable pub tokens : List ℕ → List Token
 tokens bytes = tokensAfter none bytes
+
+-- Where each token begins: at a byte that does not go on with what is pending.
+abbrev pub begins : Class → Pending → Bool
+begins inWord none = true
+begins inWord (word w) = false
+begins inWord firstBar = true
+begins blank s = false
+begins bar none = true
+begins bar (word w) = true
+begins bar firstBar = false
+begins (sign t) s = true
+
+abbrev pub pendingAfter : Class → ℕ → Pending → Pending
+pendingAfter inWord b none = word (b ∷ [])
+pendingAfter inWord b (word w) = word (w ++ (b ∷ []))
+pendingAfter inWord b firstBar = word (b ∷ [])
+pendingAfter blank b s = none
+pendingAfter bar b none = firstBar
+pendingAfter bar b (word w) = firstBar
+pendingAfter bar b firstBar = none
+pendingAfter (sign t) b s = none
+
+-- a number before a list, or not
+abbrev pub consIf : Bool → ℕ → List ℕ → List ℕ
+consIf true n ns = n ∷ ns
+consIf false n ns = ns
+
+-- of bytes before which n stand
+abbrev pub beginningsAfter : ℕ → Pending → List ℕ → List ℕ
+beginningsAfter n s [] = []
+beginningsAfter n s (b ∷ bytes) = consIf (begins (classOf b) s) n (beginningsAfter (suc n) (pendingAfter (classOf b) b s) bytes)
+
+unfoldable pub beginnings : List ℕ → List ℕ
+beginnings bytes = beginningsAfter 0 none bytes
+
+-- the byte at which the tokens us begin, the last of a text: its length where there are none
+unfoldable pub byteOf : List ℕ → List Token → ℕ
+byteOf text us = getD (beginnings text) (length (tokens text) - length us) (length text)

@@ -1,4 +1,4 @@
--- Statements with names, as a text has them: the syntax trees of the grammar.
+-- Statements with names, as a text has them: the syntax trees of the grammar (F-1), with the forms of the everyday dialect (F-9).
 use Prim.Native.Nat.{ℕ, suc, max}
 use mathlib.Core.List.{List}
 
@@ -22,10 +22,17 @@ pub data Binary : Type 0 where
   sequence : Binary
   parallel : Binary
 
+pub data Strength : Type 0 where
+  strong weak : Strength
+
 pub data Tree : Type 0 where
   leaf : (l : Leaf) → Tree
   one : (u : Unary) (p : Tree) → Tree
   two : (b : Binary) (p q : Tree) → Tree
+  halt : Tree
+  sustain : (s : Name) → Tree
+  await : (s : Name) → Tree
+  abort : (w : Strength) (s : Name) (p : Tree) → Tree
 
 -- the levels of nesting: how many statements but sequences stand around each other in the tree. A bracket of m branches has m - 1 of them, while a
 -- reader goes one level deep for it; so the readers never go deeper than this
@@ -38,3 +45,7 @@ abbrev pub levels : Tree → ℕ
 levels (leaf l) = 0
 levels (one u p) = suc (levels p)
 levels (two b p q) = over b (max (levels p) (levels q))
+levels halt = 0
+levels (sustain s) = 0
+levels (await s) = 0
+levels (abort w s p) = suc (levels p)

@@ -3,4 +3,4 @@ pub const MAX_SOURCE: usize = 16384;
 
 pub const MAX_NAME: usize = 32;
 
-pub const MAX_LEVELS: usize = 2340;
+pub const MAX_LEVELS: usize = 2731;

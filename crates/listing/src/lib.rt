@@ -1,7 +1,7 @@
 // The text of a listing, or of a refusal, written into a lent buffer.
 ghost use mathlib.Core.Path.{_≡_};
 ghost use mathlib.Core.List.{[], _∷_, _++_};
-ghost use Prim.Native.Nat.{ℕ, _+_, _*_, _<_, _≤_};
+ghost use Prim.Native.Nat.{_+_, _*_, _<_, _≤_};
 ghost use lib.ListN.{length};
 ghost use Rattle.esterel.specs.Limits.{maxNodes};
 ghost use Rattle.esterel.specs.Statement.{size, loopDepth};
@@ -66,7 +66,7 @@ pub fn write_byte(text: &mut [u8], at: usize, byte: u8) -> usize
 }
 
 // Bytes as they are, for the words that begin a text.
-fn write_bytes(text: &mut [u8], at: usize, bytes: &[u8]) -> usize
+pub fn write_bytes(text: &mut [u8], at: usize, bytes: &[u8]) -> usize
     requires { ⌜ at + length (now bytes) ≤ length (now text) ⌝ }
     ensures { λ r. ⌜ Written (now (text .entry)) at (now (bytes .entry)) (now (text .exit)) r ⌝ }
 {
@@ -79,7 +79,7 @@ fn write_bytes(text: &mut [u8], at: usize, bytes: &[u8]) -> usize
 }
 
 // A number and the byte after it.
-fn write_field(text: &mut [u8], at: usize, n: u64, base: u64, after: u8) -> usize
+pub fn write_field(text: &mut [u8], at: usize, n: u64, base: u64, after: u8) -> usize
     requires { ⌜ (2 ≤ base) × (base ≤ 16) × (at + length (digits base n ++ (after ∷ [])) ≤ length (now text)) ⌝ }
     ensures { λ r. ⌜ Written (now (text .entry)) at (digits base n ++ (after ∷ [])) (now (text .exit)) r ⌝ }
 {

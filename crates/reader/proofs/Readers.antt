@@ -11,14 +11,15 @@ use Rattle.grammar.specs.Tokens as G
 use Rattle.grammar.specs.Tokens.{mark}
 use Rattle.grammar.specs.Tree as T
 use Rattle.grammar.specs.Tree.{Tree, Name, leaf, two}
-use Rattle.grammar.specs.Machine.{Before, alone, after, Open, within, Frame, branch, body, thenBranch, elseBranch, suspended, expect, have, run}
+use Rattle.grammar.specs.Kernel.{expand}
+use Rattle.grammar.specs.Machine.{Before, alone, after, Open, within, Frame, branch, body, thenBranch, elseBranch, suspended, aborted, expect, have, run}
 use Rattle.grammar.specs.Progress.{Progress, node, named, past, trapsWithin, pastOpen}
 use Rattle.grammar.proofs.Depth.{open-levels}
 use Rattle.grammar.proofs.Stops.{first-bars, bars-or-close, then-end, else-end, refuses}
 use Rattle.scan.specs.Scanning.{rest, Lexed, Lacks}
 use Rattle.sheet.specs.Sheet.{part, Filled, Adds}
 use Rattle.reader.specs.declared.Form.{Form}
-use Rattle.reader.specs.declared.Form.the-variants.{Bracket, Body, Then, Else, Suspend}
+use Rattle.reader.specs.declared.Form.the-variants.{Bracket, Body, Then, Else, Suspend, Abort}
 use Rattle.reader.specs.declared.Opened.{Opened}
 use Rattle.reader.specs.declared.Opened.the-variants.{Whole, Inside, Unopened}
 use Rattle.reader.specs.declared.Found.{Found}
@@ -38,6 +39,7 @@ inner-high (body (T.trap t)) ts depth h = omega arith
 inner-high (thenBranch s) ts depth h = omega arith
 inner-high (elseBranch s p) ts depth h = omega arith
 inner-high suspended ts depth h = omega arith
+inner-high (aborted w) ts depth h = omega arith
 
 -- a statement
 pub whole-unread : (x t : List ℕ) (n : ℕ) (opened : Opened) → OneOf (1 ∷ 2 ∷ []) (tagOf opened-type opened) → WholeIs x t n t opened Unread
@@ -46,13 +48,13 @@ whole-unread x t n (Inside form kind start stop e) o = tt
 whole-unread x t n Unopened o = refl
 
 pub whole-read : (x : List ℕ) (at depth : ℕ) (t : List ℕ) (n : ℕ) (t′ : List ℕ) (opened : Opened) (r : Found) → OneOf (0 ∷ 2 ∷ []) (tagOf opened-type opened) → OpenedFrom expect x at opened → WholeIs x t n t′ opened r → StatementRead x at depth t n t′ r
-whole-read x at depth t n t′ (Whole kind start stop e) r o d w = rw (w .0) record {
+whole-read x at depth t n t′ (Whole kind start stop e) r o d w = rw (w .1) record {
   from = d .from;
-  few = omega (arith, d .from);
+  few = omega (arith, d .from, w .2);
   to = d .to;
-  tree = leaf (d .leafRead);
+  tree = d .leafRead;
   moves = d .moves;
-  wrote = λ ts g h f. w .1 (d .leafRead) (d .fits) (d .bounds) ts g f;
+  wrote = λ ts g h f. w .3 (d .leafRead) (d .fits) (d .bounds) ts g f;
 }
 whole-read x at depth t n t′ (Inside form kind start stop e) r o d w = absurd (miss (0 ∷ 2 ∷ []) 1 tt o)
 whole-read x at depth t n t′ Unopened r o d w = rw w (λ b k p f. absurd (d b k p f))
@@ -83,11 +85,11 @@ module _ {x : List ℕ} {at e : ℕ} {form : Form} {kind start stop : ℕ} (d : 
 pub record Longer (x : List ℕ) (at depth : ℕ) (t : List ℕ) (n : ℕ) (t′ : List ℕ) (e m : ℕ) (p : Tree) : Type 0 where
   pub tree : Tree
   pub moves : (k : Open) → run (have p k) (rest x at) ≡ run (have tree k) (rest x e)
-  pub wrote : (ts : List Name) (g : Progress) → High ts depth → Filled x t n ts (past ts p g) → Filled x t′ m ts (past ts tree g)
+  pub wrote : (ts : List Name) (g : Progress) → High ts depth → Filled x t n ts (past ts (expand p) g) → Filled x t′ m ts (past ts (expand tree) g)
 
 pub record Going (x : List ℕ) (at depth : ℕ) (t : List ℕ) (n : ℕ) (t′ : List ℕ) (e m : ℕ) : Type 0 where
   pub from : at ≤ e
-  pub few : m + 2 * at ≤ n + 2 * e
+  pub few : m + 8 * at ≤ n + 8 * e
   pub to : e ≤ length x
   pub goes : (p : Tree) → Longer x at depth t n t′ e m p
 
@@ -138,11 +140,11 @@ module _ {x : List ℕ} {at depth : ℕ} {t : List ℕ} {n : ℕ} {t1 : List ℕ
 pub record BranchAt (x : List ℕ) (at depth : ℕ) (t : List ℕ) (n : ℕ) (t′ : List ℕ) (e m : ℕ) (p : Tree) : Type 0 where
   pub tree : Tree
   pub moves : (b : Before) (k : Open) → run (have p (within (branch alone) b k)) (rest x at) ≡ run (expect alone (within (branch (after tree)) b k)) (rest x e)
-  pub wrote : (ts : List Name) (g : Progress) → High ts (suc depth) → Filled x t n ts (past ts p g) → Filled x t′ m ts (past ts tree g)
+  pub wrote : (ts : List Name) (g : Progress) → High ts (suc depth) → Filled x t n ts (past ts (expand p) g) → Filled x t′ m ts (past ts (expand tree) g)
 
 pub record Branching (x : List ℕ) (at depth : ℕ) (t : List ℕ) (n : ℕ) (t′ : List ℕ) (e m : ℕ) : Type 0 where
   pub from : at < e
-  pub few : m + 2 * at ≤ n + 2 * e
+  pub few : m + 8 * at ≤ n + 8 * e
   pub to : e ≤ length x
   pub goes : (p : Tree) → BranchAt x at depth t n t′ e m p
 
@@ -170,7 +172,7 @@ module _ {x : List ℕ} {at depth : ℕ} {t : List ℕ} {n : ℕ} {t1 : List ℕ
     branch-moves p b k = g .goes p .moves b k ∙ last .moves (within (branch (after (g .goes p .tree))) b k)
 
     module _ (t3 : List ℕ) (o1 : ℕ) (z : o1 ≡ o + 1) (w : Adds x t2 o t3 o1 (λ ts g. node 10 0 g)) where
-      branch-wrote : (p : Tree) (ts : List Name) (i : Progress) → High ts (suc depth) → Filled x t n ts (past ts p i) → Filled x t3 o1 ts (past ts (two T.parallel (g .goes p .tree) (last .tree)) i)
+      branch-wrote : (p : Tree) (ts : List Name) (i : Progress) → High ts (suc depth) → Filled x t n ts (past ts (expand p) i) → Filled x t3 o1 ts (past ts (expand (two T.parallel (g .goes p .tree) (last .tree))) i)
       branch-wrote p ts i h f = w ts _ (last .wrote ts _ (omega arith) (g .goes p .wrote ts i h f))
 
       pub branch-again : {f : ℕ} → Lexed x m f (mark G.bars) → Branching x at depth t n t3 f o1
@@ -253,9 +255,10 @@ module _ (x : List ℕ) (at depth : ℕ) (t : List ℕ) (n : ℕ) (t′ : List �
   pub then-form : form ≡ Then → RestRead (thenBranch u) x at depth t n t′ r → RestRead f x at depth t n t′ r
   then-form e c = rw (then-frame (rw e at i)) c
 
-pub plain-form : (form : Form) → OneOf (1 ∷ 3 ∷ 4 ∷ []) (tagOf form-type form) → Plain form
-plain-form Bracket h = miss (1 ∷ 3 ∷ 4 ∷ []) 0 tt h
+pub plain-form : (form : Form) → OneOf (1 ∷ 3 ∷ 4 ∷ 5 ∷ []) (tagOf form-type form) → Plain form
+plain-form Bracket h = miss (1 ∷ 3 ∷ 4 ∷ 5 ∷ []) 0 tt h
 plain-form Body h = tt
-plain-form Then h = miss (1 ∷ 3 ∷ 4 ∷ []) 2 tt h
+plain-form Then h = miss (1 ∷ 3 ∷ 4 ∷ 5 ∷ []) 2 tt h
 plain-form Else h = tt
 plain-form Suspend h = tt
+plain-form Abort h = tt

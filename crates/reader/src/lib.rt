@@ -2,17 +2,18 @@
 // read they write on a sheet (crates/sheet), node by node. Neither an exit without its trap nor too many signals or nodes stop
 // them, since a text outside the grammar is refused first.
 ghost use mathlib.Core.Path.{_≡_};
-ghost use mathlib.Core.List.{List, [], _∷_};
-ghost use Prim.Native.Nat.{ℕ, _+_, _-_, _*_, _<_, _≤_};
+ghost use mathlib.Core.List.{List, _∷_};
+ghost use Prim.Native.Nat.{ℕ, _+_, _-_, _<_, _≤_};
 ghost use lib.ListN.{length};
 ghost use Rattle.grammar.specs.Limits.{maxLevels};
 ghost use Rattle.grammar.specs.Tokens as G;
-ghost use Rattle.grammar.specs.Tree.{Name, Leaf};
-ghost use Rattle.grammar.specs.Machine.{Frame, branch, thenBranch, suspended, alone, expect, wantName, anEmit, anExit, aSignal, aTrap, aPresent};
-ghost use Rattle.grammar.specs.Progress.{Progress, leafDone, trapsWithin, pastOpen};
+ghost use Rattle.grammar.specs.Tree.{Tree, Name, Strength};
+ghost use Rattle.grammar.specs.Kernel.{Kernel, added, haltOf, sustainOf, awaitLoop, awaitOf, abortOf, expand};
+ghost use Rattle.grammar.specs.Machine.{Frame, branch, thenBranch, suspended, aborted, alone, Wanting, expect, wantName, wantAbort, aSignal, aTrap, aPresent};
+ghost use Rattle.grammar.specs.Progress.{Progress, past, trapsWithin, pastOpen};
 ghost use Rattle.sheet.specs.Sheet.{maxCounted, part, Part, Filled, Adds};
 ghost use Rattle.scan.specs.Scanning.{Lacks};
-ghost use Rattle.reader.specs.Reading.{OpenedFrom, LeafOf, FrameOf, Room, Ready, WholeIs, endOf, StatementRead, SequenceRead, RestRead, Plain, PlainEnd};
+ghost use Rattle.reader.specs.Reading.{OpenedFrom, NamedLeaf, LeafOf, FrameOf, AbortOf, guardDone, Room, Ready, WholeIs, endOf, StatementRead, SequenceRead, RestRead, Plain, PlainEnd};
 ghost use Rattle.reader.specs.declared.Form as F;
 ghost use Rattle.reader.specs.declared.Opened.the-variants.{Whole, Inside};
 ghost use Rattle.reader.specs.declared.Form.the-variants as FV;
@@ -23,17 +24,29 @@ use scan::Past;
 use scan::Token;
 
 // What an open statement goes on with: branches of a bracket, a body up to `end`, a then branch, an else branch alone, a body up
-// to `when`.
+// to `when`, a body up to `when` and `end`.
 pub enum Form {
     Bracket,
     Body,
     Then,
     Else,
     Suspend,
+    Abort,
 }
 
-// The beginning of a statement: all of one without children, or one that is open. Both with the kind of its node and the places
-// of its name, which are the same where it has none so far.
+// The forms of the everyday dialect, beside the kinds of nodes.
+const HALT: u16 = 12;
+
+const SUSTAIN: u16 = 13;
+
+const AWAIT: u16 = 14;
+
+const ABORT: u16 = 15;
+
+const WEAK_ABORT: u16 = 16;
+
+// The beginning of a statement: all of one without children, or one that is open. Both with the kind of its node, or its form, and
+// the places of its name, which are the same where it has none so far.
 pub enum Opened {
     Whole {
         kind: u16,
@@ -58,10 +71,10 @@ pub enum Found {
     Unread,
 }
 
-// After `emit` or `exit`.
+// After `emit`, `exit`, `sustain` or `await`.
 fn open_leaf(text: &[u8], at: usize, kind: u16) -> Opened
     requires { ⌜ at ≤ length (now text) ⌝ }
-    ensures { λ r. ⌜ (kind ≡ 3 → OpenedFrom (wantName anEmit) (now (text .entry)) at r) × (kind ≡ 4 → OpenedFrom (wantName anExit) (now (text .entry)) at r) ⌝ }
+    ensures { λ r. ⌜ ((w : Wanting) → NamedLeaf kind w → OpenedFrom (wantName w) (now (text .entry)) at r) ⌝ }
 {
     let Called::Named { start, stop } = scan::next_name(text, at) else {
         return Opened::Unopened;
@@ -147,6 +160,23 @@ fn bare_inside(form: Form, kind: u16, end: usize) -> Opened
     }
 }
 
+// After `weak`.
+fn open_weak(text: &[u8], at: usize) -> Opened
+    requires { ⌜ at ≤ length (now text) ⌝ }
+    ensures { λ r. ⌜ OpenedFrom wantAbort (now (text .entry)) at r ⌝ }
+{
+    let scanned = scan::next_token(text, at);
+    let token = scanned.token;
+    let end = scanned.end;
+    let Token::Opens(opening) = token else {
+        return Opened::Unopened;
+    };
+    match opening {
+        Opening::Abort => bare_inside(Form::Abort, WEAK_ABORT, end),
+        _ => Opened::Unopened,
+    }
+}
+
 // The beginning of a statement.
 fn open(text: &[u8], at: usize) -> Opened
     requires { ⌜ at ≤ length (now text) ⌝ }
@@ -169,10 +199,77 @@ fn open(text: &[u8], at: usize) -> Opened
         Opening::Present => open_present(text, end),
         Opening::Suspend => bare_inside(Form::Suspend, sheet::SUSPEND, end),
         Opening::Bracket => bare_inside(Form::Bracket, sheet::PARALLEL, end),
+        Opening::Halt => bare(HALT, end),
+        Opening::Sustain => open_leaf(text, end, SUSTAIN),
+        Opening::Await => open_leaf(text, end, AWAIT),
+        Opening::Abort => bare_inside(Form::Abort, ABORT, end),
+        Opening::Weak => open_weak(text, end),
     }
 }
 
-// The node of a statement without children.
+// `halt`: a loop of pause.
+fn put_halt(nodes: usize, sheet: &mut [u16; sheet::ROOM]) -> usize
+    requires { ⌜ nodes + 16 ≤ maxCounted ⌝ }
+    ensures { λ r. ⌜ (r ≡ nodes + 2) × ((x : List ℕ) → Adds x (now (sheet .entry)) nodes (now (sheet .exit)) r (λ ts g. past ts haltOf g)) ⌝ }
+{
+    let body = sheet::put(sheet, nodes, sheet::PAUSE, 0);
+    sheet::put(sheet, body, sheet::LOOP, 0)
+}
+
+// `sustain`: a loop of emit and pause.
+fn put_sustain(
+    text: &[u8],
+    start: usize,
+    stop: usize,
+    nodes: usize,
+    sheet: &mut [u16; sheet::ROOM],
+) -> usize
+    requires { ⌜ nodes + 16 ≤ maxCounted ⌝ }
+    ensures { λ r. ⌜ (r ≡ nodes + 4) × (Part (now (text .entry)) start stop → Adds (now (text .entry)) (now (sheet .entry)) nodes (now (sheet .exit)) r (λ ts g. past ts (sustainOf (part (now (text .entry)) start stop)) g)) ⌝ }
+{
+    let number = sheet::note(text, sheet, start, stop);
+    let first = sheet::put(sheet, nodes, sheet::EMIT, number);
+    let second = sheet::put(sheet, first, sheet::PAUSE, 0);
+    let body = sheet::put(sheet, second, sheet::SEQUENCE, 0);
+    sheet::put(sheet, body, sheet::LOOP, 0)
+}
+
+// The loop of await and abort: pause, and an exit of the added trap if the signal is present.
+fn put_await_loop(
+    text: &[u8],
+    start: usize,
+    stop: usize,
+    nodes: usize,
+    sheet: &mut [u16; sheet::ROOM],
+) -> usize
+    requires { ⌜ nodes + 12 ≤ maxCounted ⌝ }
+    ensures { λ r. ⌜ (r ≡ nodes + 6) × (Part (now (text .entry)) start stop → (ts : List Name) → Adds (now (text .entry)) (now (sheet .entry)) nodes (now (sheet .exit)) r (λ us g. past (added ∷ ts) (awaitLoop (part (now (text .entry)) start stop)) g)) ⌝ }
+{
+    let first = sheet::put(sheet, nodes, sheet::PAUSE, 0);
+    sheet::note(text, sheet, start, stop);
+    let exits = sheet::put(sheet, first, sheet::EXIT, 0);
+    let missing = sheet::put(sheet, exits, sheet::NOTHING, 0);
+    let test = sheet::put_named(text, sheet, missing, sheet::PRESENT, start, stop);
+    let body = sheet::put(sheet, test, sheet::SEQUENCE, 0);
+    sheet::put(sheet, body, sheet::LOOP, 0)
+}
+
+// `await`: a trap around that loop.
+fn put_await(
+    text: &[u8],
+    start: usize,
+    stop: usize,
+    nodes: usize,
+    sheet: &mut [u16; sheet::ROOM],
+) -> usize
+    requires { ⌜ nodes + 16 ≤ maxCounted ⌝ }
+    ensures { λ r. ⌜ (r ≡ nodes + 7) × (Part (now (text .entry)) start stop → Adds (now (text .entry)) (now (sheet .entry)) nodes (now (sheet .exit)) r (λ ts g. past ts (awaitOf (part (now (text .entry)) start stop)) g)) ⌝ }
+{
+    let body = put_await_loop(text, start, stop, nodes, sheet);
+    sheet::put(sheet, body, sheet::TRAP, 0)
+}
+
+// The nodes of a statement without children.
 fn put_leaf(
     text: &[u8],
     kind: u16,
@@ -181,8 +278,8 @@ fn put_leaf(
     nodes: usize,
     sheet: &mut [u16; sheet::ROOM],
 ) -> usize
-    requires { ⌜ nodes ≤ maxCounted ⌝ }
-    ensures { λ r. ⌜ (r ≡ nodes + 1) × ((l : Leaf) → LeafOf kind (part (now (text .entry)) start stop) l → Part (now (text .entry)) start stop → Adds (now (text .entry)) (now (sheet .entry)) nodes (now (sheet .exit)) r (λ ts g. leafDone ts l g)) ⌝ }
+    requires { ⌜ nodes + 16 ≤ maxCounted ⌝ }
+    ensures { λ r. ⌜ (nodes ≤ r) × (r ≤ nodes + 7) × ((l : Tree) → LeafOf kind (part (now (text .entry)) start stop) l → Part (now (text .entry)) start stop → Adds (now (text .entry)) (now (sheet .entry)) nodes (now (sheet .exit)) r (λ ts g. past ts (expand l) g)) ⌝ }
 {
     if kind == sheet::EMIT {
         let number = sheet::note(text, sheet, start, stop);
@@ -191,12 +288,21 @@ fn put_leaf(
     if kind == sheet::EXIT {
         return sheet::put_exit(text, sheet, nodes, start, stop);
     }
+    if kind == HALT {
+        return put_halt(nodes, sheet);
+    }
+    if kind == SUSTAIN {
+        return put_sustain(text, start, stop, nodes, sheet);
+    }
+    if kind == AWAIT {
+        return put_await(text, start, stop, nodes, sheet);
+    }
     sheet::put(sheet, nodes, kind, 0)
 }
 
 // What a beginning that is a whole statement, or none, comes to.
 fn read_whole(text: &[u8], opened: Opened, nodes: usize, sheet: &mut [u16; sheet::ROOM]) -> Found
-    requires { ⌜ nodes ≤ maxCounted ⌝ }
+    requires { ⌜ nodes + 16 ≤ maxCounted ⌝ }
     ensures { λ r. ⌜ WholeIs (now (text .entry)) (now (sheet .entry)) nodes (now (sheet .exit)) opened r ⌝ }
 {
     let Opened::Whole {
@@ -227,7 +333,7 @@ fn enter_body(text: &[u8], kind: u16, start: usize, stop: usize, sheet: &mut [u1
 }
 
 // What is done before the first sequence of an open statement. The then branch of a present that has only an else branch is
-// written before it.
+// written before it. The trap that an abort adds has no name.
 fn enter(
     text: &[u8],
     form: Form,
@@ -251,6 +357,10 @@ fn enter(
         }
         Form::Body => {
             enter_body(text, kind, start, stop, sheet);
+            nodes
+        }
+        Form::Abort => {
+            sheet::enter_trap(sheet, start, stop);
             nodes
         }
         _ => nodes,
@@ -315,6 +425,70 @@ fn close_when(text: &[u8], at: usize, nodes: usize, sheet: &mut [u16; sheet::ROO
     Found::Read { end: stop, nodes }
 }
 
+// The body of an abort is suspended, that of a weak abort is not.
+fn put_guard(
+    text: &[u8],
+    kind: u16,
+    start: usize,
+    stop: usize,
+    nodes: usize,
+    sheet: &mut [u16; sheet::ROOM],
+) -> usize
+    requires { ⌜ nodes + 16 ≤ maxCounted ⌝ }
+    ensures { λ r. ⌜ (nodes ≤ r) × (r ≤ nodes + 1) × ((w : Strength) → AbortOf kind w → Part (now (text .entry)) start stop → Adds (now (text .entry)) (now (sheet .entry)) nodes (now (sheet .exit)) r (λ ts g. guardDone w (part (now (text .entry)) start stop) g)) ⌝ }
+{
+    if kind == WEAK_ABORT {
+        return nodes;
+    }
+    let number = sheet::note(text, sheet, start, stop);
+    sheet::put(sheet, nodes, sheet::SUSPEND, number)
+}
+
+// The nodes of an abort after those of its body: a trap around the body and an exit, beside the await loop.
+fn put_abort(
+    text: &[u8],
+    kind: u16,
+    start: usize,
+    stop: usize,
+    nodes: usize,
+    sheet: &mut [u16; sheet::ROOM],
+) -> usize
+    requires { ⌜ nodes + 16 ≤ maxCounted ⌝ }
+    ensures { λ r. ⌜ (nodes ≤ r) × (r ≤ nodes + 11) × ((w : Strength) → AbortOf kind w → Part (now (text .entry)) start stop → (p : Kernel) (ts : List Name) (g : Progress) → Filled (now (text .entry)) (now (sheet .entry)) nodes (added ∷ ts) (past (added ∷ ts) p g) → Filled (now (text .entry)) (now (sheet .exit)) r ts (past ts (abortOf w (part (now (text .entry)) start stop) p) g)) ⌝ }
+{
+    let guarded = put_guard(text, kind, start, stop, nodes, sheet);
+    let exits = sheet::put(sheet, guarded, sheet::EXIT, 0);
+    let left = sheet::put(sheet, exits, sheet::SEQUENCE, 0);
+    let right = put_await_loop(text, start, stop, left, sheet);
+    let both = sheet::put(sheet, right, sheet::PARALLEL, 0);
+    sheet::leave_trap(sheet);
+    sheet::put(sheet, both, sheet::TRAP, 0)
+}
+
+// The end of an abort.
+fn close_abort(
+    text: &[u8],
+    kind: u16,
+    at: usize,
+    nodes: usize,
+    sheet: &mut [u16; sheet::ROOM],
+) -> Found
+    requires { ⌜ Ready (now text) at nodes ⌝ }
+    ensures { λ r. ⌜ ((depth : ℕ) (w : Strength) → AbortOf kind w → RestRead (aborted w) (now (text .entry)) at depth (now (sheet .entry)) nodes (now (sheet .exit)) r) ⌝ }
+{
+    let Past::At(named) = scan::past_mark(text, at, Mark::When) else {
+        return Found::Unread;
+    };
+    let Called::Named { start, stop } = scan::next_name(text, named) else {
+        return Found::Unread;
+    };
+    let Past::At(end) = scan::past_mark(text, stop, Mark::End) else {
+        return Found::Unread;
+    };
+    let nodes = put_abort(text, kind, start, stop, nodes, sheet);
+    Found::Read { end, nodes }
+}
+
 // The end of a statement that has one sequence, and its node.
 fn close(
     text: &[u8],
@@ -331,6 +505,7 @@ fn close(
 {
     match form {
         Form::Suspend => close_when(text, at, nodes, sheet),
+        Form::Abort => close_abort(text, kind, at, nodes, sheet),
         _ => close_end(text, kind, start, stop, at, nodes, sheet),
     }
 }

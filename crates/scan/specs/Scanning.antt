@@ -5,13 +5,13 @@ use mathlib.Core.Bool.{Bool, true, false}
 use mathlib.Core.List.{List, [], _∷_}
 use lib.ListN.{length, getD, take, drop}
 use Rattle.grammar.specs.Tokens as G
-use Rattle.grammar.specs.Tokens.{tokens, isBlank, wordToken}
+use Rattle.grammar.specs.Tokens.{tokens, isBlank, wordToken, beginningsAfter}
 use Rattle.scan.specs.declared.Opening.{Opening}
-use Rattle.scan.specs.declared.Opening.the-variants.{Nothing, Pause, Emit, Exit, Signal, Trap, Loop, Present, Suspend, Bracket}
+use Rattle.scan.specs.declared.Opening.the-variants.{Nothing, Pause, Emit, Exit, Signal, Trap, Loop, Present, Suspend, Bracket, Halt, Sustain, Await, Abort, Weak}
 use Rattle.scan.specs.declared.Mark.{Mark}
 use Rattle.scan.specs.declared.Mark.the-variants.{Semicolon, Bars, Close, In, Then, Else, End, When}
 use Rattle.scan.specs.declared.Token.{Token}
-use Rattle.scan.specs.declared.Token.the-variants.{Opens, Marks, Names, Stray, Finished}
+use Rattle.scan.specs.declared.Token.the-variants.{Opens, Marks, Names, Foreign, Stray, Finished}
 use Rattle.scan.specs.declared.Past.{Past}
 use Rattle.scan.specs.declared.Past.the-variants.{At, Not}
 use Rattle.scan.specs.declared.Called.{Called}
@@ -29,6 +29,11 @@ openingIs Loop = G.loop
 openingIs Present = G.present
 openingIs Suspend = G.suspend
 openingIs Bracket = G.bracket
+openingIs Halt = G.halt
+openingIs Sustain = G.sustain
+openingIs Await = G.await
+openingIs Abort = G.abort
+openingIs Weak = G.weak
 
 abbrev pub markIs : Mark → G.Mark
 markIs Semicolon = G.semicolon
@@ -45,6 +50,7 @@ abbrev pub tokenIs : Token → List ℕ → List G.Token
 tokenIs (Opens o) w = G.opening (openingIs o) ∷ []
 tokenIs (Marks m) w = G.mark (markIs m) ∷ []
 tokenIs Names w = G.name w ∷ []
+tokenIs Foreign w = G.foreign ∷ []
 tokenIs Stray w = G.stray ∷ []
 tokenIs Finished w = []
 
@@ -52,11 +58,16 @@ tokenIs Finished w = []
 unfoldable pub rest : List ℕ → ℕ → List G.Token
 rest x at = tokens (drop at x)
 
+-- where they begin
+unfoldable pub starts : List ℕ → ℕ → List ℕ
+starts x at = beginningsAfter at G.none (drop at x)
+
 -- the first byte from `at` on that is no blank
 pub record Skipped (x : List ℕ) (at r : ℕ) : Type 0 where
   pub from : at ≤ r
   pub to : r ≤ length x
   pub same : rest x at ≡ rest x r
+  pub sameStarts : starts x at ≡ starts x r
   pub solid : r < length x → isBlank (getD x r 0) ≡ false
 
 -- a word stands from `at` to r
@@ -64,6 +75,7 @@ pub record Worded (x : List ℕ) (at r : ℕ) : Type 0 where
   pub from : at < r
   pub to : r ≤ length x
   pub moves : rest x at ≡ wordToken (take (r - at) (drop at x)) ∷ rest x r
+  pub begins : starts x at ≡ at ∷ starts x r
 
 -- a token t stands from `at` on and ends at r
 pub record Lexed (x : List ℕ) (at r : ℕ) (t : G.Token) : Type 0 where
@@ -80,8 +92,18 @@ abbrev pub ScannedAs : List ℕ → ℕ → ℕ → ℕ → Token → Type 0
 ScannedAs x at start end (Opens o) = Lexed x at end (G.opening (openingIs o))
 ScannedAs x at start end (Marks m) = Lexed x at end (G.mark (markIs m))
 ScannedAs x at start end Names = NameAt x at start end
+ScannedAs x at start end Foreign = Lexed x at end G.foreign
 ScannedAs x at start end Stray = Lexed x at end G.stray
 ScannedAs x at start end Finished = rest x at ≡ []
+
+-- the token begins at start; where there is none, start is the text's length
+abbrev pub BeginsAs : List ℕ → ℕ → ℕ → ℕ → Token → Type 0
+BeginsAs x at start end (Opens o) = starts x at ≡ start ∷ starts x end
+BeginsAs x at start end (Marks m) = starts x at ≡ start ∷ starts x end
+BeginsAs x at start end Names = starts x at ≡ start ∷ starts x end
+BeginsAs x at start end Foreign = starts x at ≡ start ∷ starts x end
+BeginsAs x at start end Stray = starts x at ≡ start ∷ starts x end
+BeginsAs x at start end Finished = (starts x at ≡ []) × (start ≡ length x)
 
 -- the marks by number
 abbrev pub numberOf : G.Mark → ℕ

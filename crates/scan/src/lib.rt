@@ -1,12 +1,12 @@
 // Tokens of a text: words, signs and other bytes.
 ghost use mathlib.Core.Path.{_≡_};
 ghost use mathlib.Core.Bool.{true, false};
-ghost use mathlib.Core.List.{[], _∷_};
+ghost use mathlib.Core.List.{[], _∷_, _++_};
 ghost use Prim.Native.Nat.{_+_, _<_, _≤_};
 ghost use lib.ListN.{length, getD};
-ghost use Rattle.grammar.specs.Tokens.{classOf, isLetter, isInWord, isBlank, signOf, wordToken, nameOr, among, innerWords, sameBytes};
+ghost use Rattle.grammar.specs.Tokens.{classOf, isLetter, isDigit, isInWord, isBlank, signOf, wordToken, isCount, nameOr, among, dialectWords, innerWords, foreignWords, sameBytes};
 ghost use Rattle.grammar.specs.Tokens as G;
-ghost use Rattle.scan.specs.Scanning.{markIs, tokenIs, rest, Skipped, Worded, ScannedAs, numberOf, PastMark, CalledAs, none};
+ghost use Rattle.scan.specs.Scanning.{markIs, tokenIs, rest, Skipped, Worded, ScannedAs, BeginsAs, numberOf, PastMark, CalledAs, none};
 
 // The words and the sign that a statement begins with.
 pub enum Opening {
@@ -20,6 +20,11 @@ pub enum Opening {
     Present,
     Suspend,
     Bracket,
+    Halt,
+    Sustain,
+    Await,
+    Abort,
+    Weak,
 }
 
 // The words and signs that stand within a statement or between two.
@@ -34,11 +39,13 @@ pub enum Mark {
     When,
 }
 
-// A token: by what it opens or marks, a name, a stray word or byte, or that the text is over.
+// A token: by what it opens or marks, a name, a word of the full language or a count, a stray word or byte, or that the text is
+// over.
 pub enum Token {
     Opens(Opening),
     Marks(Mark),
     Names,
+    Foreign,
     Stray,
     Finished,
 }
@@ -69,11 +76,18 @@ fn is_letter(byte: u8) -> bool
     ((b'A' <= byte) & (byte <= b'Z')) | ((b'a' <= byte) & (byte <= b'z'))
 }
 
+// Whether a byte is a digit.
+fn is_digit(byte: u8) -> bool
+    ensures { λ r. ⌜ r ≡ isDigit byte ⌝ }
+{
+    (b'0' <= byte) & (byte <= b'9')
+}
+
 // Whether a byte belongs to a word.
 fn is_in_word(byte: u8) -> bool
     ensures { λ r. ⌜ r ≡ isInWord byte ⌝ }
 {
-    (is_letter(byte) | ((b'0' <= byte) & (byte <= b'9'))) | (byte == b'_')
+    (is_letter(byte) | is_digit(byte)) | (byte == b'_')
 }
 
 // Whether a byte separates.
@@ -146,21 +160,55 @@ fn word_end(text: &[u8], at: usize) -> usize
     i
 }
 
+// Whether a word is a count: digits alone.
+fn is_count(word: &[u8]) -> bool
+    ensures { λ r. ⌜ r ≡ isCount (now (word .entry)) ⌝ }
+{
+    let mut i = 0;
+    while i < word.len() {
+        if !is_digit(word[i]) {
+            return false;
+        }
+        i += 1;
+    }
+    true
+}
+
 // What a word that is none of the language's is.
-fn name_or_stray(word: &[u8]) -> Token
+fn name_or_count(word: &[u8]) -> Token
     requires { ⌜ 0 < length (now word) ⌝ }
     ensures { λ r. ⌜ tokenIs r (now (word .entry)) ≡ nameOr (now (word .entry)) ∷ [] ⌝ }
 {
     if is_letter(word[0]) & (word.len() <= grammar::MAX_NAME) {
         return Token::Names;
     }
+    if is_count(word) {
+        return Token::Foreign;
+    }
     Token::Stray
 }
 
-// What a word within a statement, or one that is none of the language's, is.
+// What a word of the full language, or one that is none of the language's, is.
+fn foreign_word(word: &[u8]) -> Token
+    requires { ⌜ 0 < length (now word) ⌝ }
+    ensures { λ r. ⌜ tokenIs r (now (word .entry)) ≡ among foreignWords (now (word .entry)) ∷ [] ⌝ }
+{
+    if is_same(word, b"immediate") {
+        return Token::Foreign;
+    }
+    if is_same(word, b"every") {
+        return Token::Foreign;
+    }
+    if is_same(word, b"case") {
+        return Token::Foreign;
+    }
+    name_or_count(word)
+}
+
+// What a word within a statement, or one that is none of the kernel's or the dialect's, is.
 fn inner_word(word: &[u8]) -> Token
     requires { ⌜ 0 < length (now word) ⌝ }
-    ensures { λ r. ⌜ tokenIs r (now (word .entry)) ≡ among innerWords (now (word .entry)) ∷ [] ⌝ }
+    ensures { λ r. ⌜ tokenIs r (now (word .entry)) ≡ among (innerWords ++ foreignWords) (now (word .entry)) ∷ [] ⌝ }
 {
     if is_same(word, b"in") {
         return Token::Marks(Mark::In);
@@ -177,7 +225,30 @@ fn inner_word(word: &[u8]) -> Token
     if is_same(word, b"when") {
         return Token::Marks(Mark::When);
     }
-    name_or_stray(word)
+    foreign_word(word)
+}
+
+// What a word that opens a form of the dialect, or one that opens no statement of the kernel, is.
+fn dialect_word(word: &[u8]) -> Token
+    requires { ⌜ 0 < length (now word) ⌝ }
+    ensures { λ r. ⌜ tokenIs r (now (word .entry)) ≡ among (dialectWords ++ (innerWords ++ foreignWords)) (now (word .entry)) ∷ [] ⌝ }
+{
+    if is_same(word, b"halt") {
+        return Token::Opens(Opening::Halt);
+    }
+    if is_same(word, b"sustain") {
+        return Token::Opens(Opening::Sustain);
+    }
+    if is_same(word, b"await") {
+        return Token::Opens(Opening::Await);
+    }
+    if is_same(word, b"abort") {
+        return Token::Opens(Opening::Abort);
+    }
+    if is_same(word, b"weak") {
+        return Token::Opens(Opening::Weak);
+    }
+    inner_word(word)
 }
 
 // What a word is.
@@ -212,13 +283,13 @@ fn read_word(word: &[u8]) -> Token
     if is_same(word, b"suspend") {
         return Token::Opens(Opening::Suspend);
     }
-    inner_word(word)
+    dialect_word(word)
 }
 
 // One bar or two, where the first stands at `start`.
 fn bars_at(text: &[u8], start: usize) -> Scanned
     requires { ⌜ (start < length (now text)) × (classOf (getD (now text) start 0) ≡ G.bar) ⌝ }
-    ensures { λ r. ⌜ ScannedAs (now (text .entry)) start (r .start) (r .end) (r .token) ⌝ }
+    ensures { λ r. ⌜ ScannedAs (now (text .entry)) start (r .start) (r .end) (r .token) × BeginsAs (now (text .entry)) start (r .start) (r .end) (r .token) ⌝ }
 {
     let end = start + 1;
     if end < text.len() {
@@ -240,7 +311,7 @@ fn bars_at(text: &[u8], start: usize) -> Scanned
 // The next token from `at` on.
 pub fn next_token(text: &[u8], at: usize) -> Scanned
     requires { ⌜ at ≤ length (now text) ⌝ }
-    ensures { λ r. ⌜ ScannedAs (now (text .entry)) at (r .start) (r .end) (r .token) ⌝ }
+    ensures { λ r. ⌜ ScannedAs (now (text .entry)) at (r .start) (r .end) (r .token) × BeginsAs (now (text .entry)) at (r .start) (r .end) (r .token) ⌝ }
 {
     let start = skip(text, at);
     if start == text.len() {

@@ -12,10 +12,10 @@ use Rattle.grammar.specs.Tokens.{sameBytes}
 use Rattle.grammar.specs.Tree.{Name}
 use Rattle.grammar.specs.Names.{place, has, see}
 use Rattle.grammar.specs.Progress as P
-use Rattle.grammar.specs.Progress.{Progress, node, leave}
-use Rattle.grammar.specs.Limits.{maxLevels}
+use Rattle.grammar.specs.Progress.{Progress, node, leave, blank}
+use Rattle.grammar.specs.Limits.{maxSource, maxLevels}
 use Rattle.grammar.proofs.Writing.{place-end}
-use Rattle.sheet.specs.Sheet.{sheetRoom, part, Part, Entry, Listed, FoundAt, flag, Filled, Adds}
+use Rattle.sheet.specs.Sheet.{sheetRoom, signalCount, untrappedAt, trapCount, part, Part, Entry, Listed, FoundAt, flag, Filled, Adds}
 
 pub place-most : (ns : List Name) (s : Name) → place ns s ≤ length ns
 place-most [] s = omega arith
@@ -24,6 +24,13 @@ place-most (n ∷ ns) s = go (sameBytes n s) (place-most ns s)
     go : (c : Bool) → place ns s ≤ length ns → cond c 0 (suc (place ns s)) ≤ suc (length ns)
     go true h = omega arith
     go false h = omega arith
+
+-- a part of no letters
+pub empty-bounds : (x : List ℕ) (e : ℕ) → e ≤ length x → Part x e e
+empty-bounds x e h = record { order = omega arith; within = h }
+
+pub empty-part : (x : List ℕ) (e : ℕ) → part x e e ≡ []
+empty-part x e = let z : e - e ≡ 0 = omega arith in rw z
 
 -- names whose places in the sheet are the same
 same-entry : (x w w′ : List ℕ) (at : ℕ) (s : Name) → getD w′ at 0 ≡ getD w at 0 → getD w′ (at + 1) 0 ≡ getD w (at + 1) 0 → Entry x w at s → Entry x w′ at s
@@ -390,3 +397,19 @@ module _ (x w : List ℕ) (n : ℕ) (t : Name) (ts : List Name) (g : Progress) (
     where
       go : (j : ℕ) → 2051 ≤ j → 0 ≤ j → getD l1 j 0 ≡ getD w j 0
       go j a b = l-other j (λ z. omega arith)
+
+-- a sheet of zeros
+pub fresh : (x : List ℕ) → length x ≤ maxSource → (w : List ℕ) → (length w ≡ sheetRoom) × (getD w signalCount 0 ≡ 0) × (getD w untrappedAt 0 ≡ 0) × (getD w trapCount 0 ≡ 0) → Filled x w 0 [] blank
+fresh x short w z = record {
+  room = z .0;
+  short = short;
+  long = refl;
+  holds = λ q j a b. absurd (omega arith);
+  counted = λ q. z .1;
+  many = λ q. absurd (omega arith);
+  names = λ q. record { at = λ i h. absurd (omega arith) };
+  lost = z .2;
+  traps = z .3;
+  few = omega arith;
+  around = record { at = λ i h. absurd (omega arith) };
+}

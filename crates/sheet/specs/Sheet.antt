@@ -32,7 +32,7 @@ sheetRoom = firstSignal + 2 * maxSignals + 2 * maxLevels
 
 -- more nodes than a text within the length has: so far they are counted
 abbrev pub maxCounted : ℕ
-maxCounted = 40000
+maxCounted = 140000
 
 -- a part of the text
 abbrev pub part : List ℕ → ℕ → ℕ → Name

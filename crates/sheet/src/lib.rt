@@ -5,7 +5,7 @@
 // No function asks that the places on a sheet lie in the text: it tests them, which spares every reader above a promise about
 // the sheet. What it does is promised for sheets that hold what they should (`Filled`).
 ghost use mathlib.Core.Path.{_≡_};
-ghost use mathlib.Core.List.{List, [], _∷_};
+ghost use mathlib.Core.List.{List, _∷_};
 ghost use Prim.Native.Nat.{ℕ, _+_, _-_, _*_, _<_, _≤_};
 ghost use lib.ListN.{length};
 ghost use Rattle.esterel.specs.Limits.{signals as maxSignals};
@@ -14,7 +14,7 @@ ghost use Rattle.grammar.specs.Tokens as G;
 ghost use Rattle.grammar.specs.Tree.{Name};
 ghost use Rattle.grammar.specs.Names.{place, see};
 ghost use Rattle.grammar.specs.Progress as P;
-ghost use Rattle.sheet.specs.Sheet.{sheetRoom, maxCounted, part, Part, Listed, Adds, Filled, FoundAt};
+ghost use Rattle.sheet.specs.Sheet.{sheetRoom, maxCounted, part, Part, Adds, Filled, FoundAt};
 
 // Where things stand on a sheet: the table's bytes, three numbers, two places for each signal in order of appearance, and from
 // the end on two for each trap around, the nearest first.
@@ -177,7 +177,7 @@ pub fn put_named(
 }
 
 // The level of an exit. One without a trap is marked.
-fn level_of(text: &[u8], sheet: &mut [u16; ROOM], start: usize, stop: usize) -> u16
+pub fn level_of(text: &[u8], sheet: &mut [u16; ROOM], start: usize, stop: usize) -> u16
     ensures { λ r. ⌜ ((n : ℕ) (ts : List Name) (g : P.Progress) → Part (now (text .entry)) start stop → Filled (now (text .entry)) (now (sheet .entry)) n ts g → (r ≡ place ts (part (now (text .entry)) start stop)) × Filled (now (text .entry)) (now (sheet .exit)) n ts (P.leave ts (part (now (text .entry)) start stop) g)) ⌝ }
 {
     let traps = wide(sheet[TRAP_COUNT]);

@@ -7,23 +7,23 @@ use lib.ListN.{length, take}
 use lib.Seq.{length-take-le, take-all}
 use Rattle.esterel.specs.Table.{Verdict}
 use Rattle.grammar.specs.Limits.{maxSource}
-use Rattle.grammar.specs.Meaning.{VerdictOf, overlong, underivable, derived}
+use Rattle.grammar.specs.Meaning.{VerdictOf, overlong, faulty, derived}
 use Rattle.text.specs.declared.Reading.{Reading}
 use Rattle.text.specs.Reading.{ReadAs, short, judged}
 
 module _ (k : ℕ) (input : List ℕ) (more : maxSource < k) where
-  cut-verdict : k < length input → (v : Verdict) (n : ℕ) → VerdictOf (take k input) v n → VerdictOf input v n
-  cut-verdict h v n (overlong a) = overlong (omega arith)
-  cut-verdict h v n (underivable d) = overlong (omega arith)
-  cut-verdict h v n (derived t l d) = absurd (omega (arith, length-take-le k input (omega arith)))
+  cut-verdict : k < length input → (v : Verdict) (n at : ℕ) → VerdictOf (take k input) v n at → VerdictOf input v n at
+  cut-verdict h v n at (overlong a) = overlong (omega arith)
+  cut-verdict h v n at (faulty us l f) = absurd (omega (arith, length-take-le k input (omega arith)))
+  cut-verdict h v n at (derived t l d) = absurd (omega (arith, length-take-le k input (omega arith)))
 
-  verdict-of-front : (v : Verdict) (n : ℕ) → VerdictOf (take k input) v n → VerdictOf input v n
-  verdict-of-front v n j = go (decLt k (length input))
+  verdict-of-front : (v : Verdict) (n at : ℕ) → VerdictOf (take k input) v n at → VerdictOf input v n at
+  verdict-of-front v n at j = go (decLt k (length input))
     where
-      go : Dec (k < length input) → VerdictOf input v n
-      go (yes h) = cut-verdict h v n j
+      go : Dec (k < length input) → VerdictOf input v n at
+      go (yes h) = cut-verdict h v n at j
       go (no h) = rw (take-all k input (omega arith)) at j
 
   pub read-of-front : (old new : List ℕ) (r : Reading) → ReadAs (take k input) old new r → ReadAs input old new r
   read-of-front old new r (short h a) = short h a
-  read-of-front old new r (judged v n h j a) = judged v n h (verdict-of-front v n j) a
+  read-of-front old new r (judged v n at h j a) = judged v n at h (verdict-of-front v n at j) a

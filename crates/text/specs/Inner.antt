@@ -6,6 +6,7 @@ use lib.ListN.{getD}
 use Rattle.esterel.specs.Limits.{maxNodes, signals as maxSignals}
 use Rattle.grammar.specs.Tokens.{tokens}
 use Rattle.grammar.specs.Tree.{Tree}
+use Rattle.grammar.specs.Kernel.{expand}
 use Rattle.grammar.specs.Grammar.{Program}
 use Rattle.grammar.specs.Progress.{past, blank}
 use Rattle.sheet.specs.Sheet.{signalCount, Filled}
@@ -20,7 +21,7 @@ use Rattle.text.specs.declared.Parsed.the-variants.{Nodes, Unread}
 pub record Parsing (x w w′ : List ℕ) (n : ℕ) : Type 0 where
   pub tree : Tree
   pub derivation : Program tree (tokens x)
-  pub wrote : Filled x w 0 [] blank → Filled x w′ n [] (past [] tree blank)
+  pub wrote : Filled x w 0 [] blank → Filled x w′ n [] (past [] (expand tree) blank)
 
 -- or one that has no derivation
 abbrev pub ParsedAs : List ℕ → List ℕ → List ℕ → Parsed → Type 0
@@ -31,7 +32,7 @@ ParsedAs x w w′ Unread = (t : Tree) → Program t (tokens x) → ⊥
 pub record Written (w : List ℕ) (n : ℕ) : Type 0 where
   pub text : List ℕ
   pub tree : Tree
-  pub filled : Filled text w n [] (past [] tree blank)
+  pub filled : Filled text w n [] (past [] (expand tree) blank)
 
 -- and one whose table has all of it
 pub record Surveyable (w : List ℕ) (end : ℕ) : Type 0 where
@@ -41,6 +42,6 @@ pub record Surveyable (w : List ℕ) (end : ℕ) : Type 0 where
   pub few : nodes ≤ maxNodes
   pub counted : getD w signalCount 0 ≤ maxSignals
 
-abbrev pub refusalOf : Check → Reading
-refusalOf Passed = Refused 0 0
-refusalOf (CheckRefused number node) = Refused number node
+abbrev pub refusalOf : Check → ℕ → Reading
+refusalOf Passed place = Refused 0 0 place
+refusalOf (CheckRefused number node) place = Refused number node place

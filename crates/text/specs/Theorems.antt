@@ -1,15 +1,17 @@
--- What F-1 says of the call `read`, from its contract: the statements alone. The proofs are in proofs/Theorems.antt.
+-- What F-1 and F-9 say of the call `read`, from its contract: the statements alone. The proofs are in proofs/Theorems.antt.
 use Prim.Native.Nat.{ℕ, _*_, _≤_, _<_}
 use mathlib.Core.Path.{_≡_}
 use mathlib.Core.Logic.{_↔_}
-use mathlib.Core.List.{List, _++_}
+use mathlib.Core.Bool.{false}
+use mathlib.Core.List.{List, [], _++_}
 use lib.ListN.{length, take, drop}
 use Rattle.esterel.specs.Limits.{maxNodes}
 use Rattle.esterel.specs.Statement.{size}
 use Rattle.esterel.specs.Table.{refused, postfix}
 use Rattle.esterel.specs.Checks.{verdict}
 use Rattle.grammar.specs.Limits.{maxSource}
-use Rattle.grammar.specs.Tokens.{tokens}
+use Rattle.grammar.specs.Tokens.{Token, tokens, byteOf}
+use Rattle.grammar.specs.Faults.{Fault, numberOfFault, lostFrom, crowdedFrom}
 use Rattle.grammar.specs.Tree.{Tree}
 use Rattle.grammar.specs.Grammar.{Program}
 use Rattle.grammar.specs.Meaning.{signals, statementOf}
@@ -36,15 +38,28 @@ pub data Number : ℕ → ℕ → Type 0 where
 pub record OfRead : Type 0 where
   -- the contract leaves nothing open
   pub determined : (text old new new′ : List ℕ) (r r′ : Reading) → ReadAs text old new r → ReadAs text old new′ r′ → (new ≡ new′) × (r ≡ r′)
+  -- what is answered does not hang on the lent table, if it has room
+  pub sameAnswer :
+      (text old new old′ new′ : List ℕ) (r r′ : Reading) →
+      2 * maxNodes ≤ length old → 2 * maxNodes ≤ length old′ → ReadAs text old new r → ReadAs text old′ new′ r′ → r ≡ r′
   -- without a refusal the table written is that of the text's derivation, and the checker refuses it by 11 or not at all
   pub done : (text old new : List ℕ) (nodes n : ℕ) → ReadAs text old new (Done nodes n) → Wrote text old new nodes n
   pub onlyEleven :
       (text old new : List ℕ) (nodes n number node : ℕ) →
       ReadAs text old new (Done nodes n) → verdict (take (2 * nodes) new) ≡ refused number node → number ≡ 11
-  -- after a refusal the table is as it was
-  pub refused : (text old new : List ℕ) (number node : ℕ) → ReadAs text old new (Refused number node) → (new ≡ old) × Number number node × (node < maxNodes)
-  -- a text within the length is refused 14 exactly if the grammar has no derivation for it
-  pub fourteen :
+  -- after a refusal the table is as it was, and the place lies in the text or at its end
+  pub refused :
+      (text old new : List ℕ) (number node place : ℕ) → ReadAs text old new (Refused number node place) →
+      (new ≡ old) × Number number node × (node < maxNodes) × (place ≤ length text) × (place ≤ maxSource)
+  -- a text within the length is refused 14 or 20 exactly if the grammar has no derivation for it; and then at the first token with which it can't
+  -- go on, 20 if that is a word of the full language or a count
+  pub inGrammar :
       (text old new : List ℕ) (r : Reading) →
       2 * maxNodes ≤ length old → length text ≤ maxSource → ReadAs text old new r →
-      (r ≡ Refused 14 0) ↔ ((t : Tree) → Program t (tokens text) → ⊥)
+      ((us : List Token) × Fault (tokens text) us × (r ≡ Refused (numberOfFault us) 0 (byteOf text us))) ↔ ((t : Tree) → Program t (tokens text) → ⊥)
+  -- 15 is told at the name of the first exit without its trap, 16 at the name with which there are too many signals
+  pub fifteen :
+      (text old new : List ℕ) (t : Tree) (d : Program t (tokens text)) (node place : ℕ) → length text ≤ maxSource →
+      ReadAs text old new (Refused 15 node place) → place ≡ byteOf text (lostFrom [] d [])
+  pub sixteen :
+      (text old new : List ℕ) (node place : ℕ) → ReadAs text old new (Refused 16 node place) → place ≡ byteOf text (crowdedFrom [] false (tokens text))

@@ -1,6 +1,6 @@
 // Reads many texts: standard input holds them one after the other, each as its length in two bytes, lowest first, and its
-// bytes. For each a line is written: `ok`, the nodes, the signals and the bytes of the table; or the refusal. The expected output
-// comes from another program (compare/).
+// bytes. For each a line is written: `ok`, the nodes, the signals and the bytes of the table; or the refusal with its place. The
+// expected output comes from another program (compare/).
 use input::Input;
 use text::Reading;
 
@@ -25,7 +25,12 @@ fn read_one(text: &[u8]) -> bool {
             && output::write_number(signals)
             && write_bytes(&table[..2 * nodes])
             && output::write_word(b"\n"),
-        Reading::Refused { number, node } => output::write_refusal(number, node)
+        Reading::Refused {
+            number,
+            node,
+            place,
+        } => output::write_refusal(number, node)
+            && output::write_number(place)
             && output::write_word(b"\n"),
     }
 }

@@ -15,7 +15,7 @@ use Rattle.listing.specs.Rendering.{Rendering}
 use Rattle.listing.specs.declared.Rendered.the-variants.{Whole, TooShort}
 use Rattle.text.specs.Reading.{ReadAs}
 use Rattle.text.specs.declared.Reading.{Reading}
-use Rattle.text.specs.declared.Reading.the-variants.{Done}
+use Rattle.text.specs.declared.Reading.the-variants.{Done, Refused}
 use Rattle.text.proofs.Theorems.{of-read, written-long}
 use Rattle.text.proofs.Cut.{read-of-front}
 use Rattle.translate.specs.Translates.{ReadsInput}
@@ -29,6 +29,10 @@ module _ {b b′ t t′ : List ℕ} where
   table-within end nodes signals e x =
       let w = of-read .done (take (x .read) b′) t t′ nodes signals (I.of-read x) in
       omega (arith, written-long (take (x .read) b′) t t′ nodes signals w)
+
+  -- the place lies within the length of a text, and so in the buffer
+  pub place-within : (number node place : ℕ) → ReadsInput b b′ t t′ (Refused number node place) → place ≤ maxSource
+  place-within number node place x = of-read .refused (take (x .read) b′) t t′ number node place (I.of-read x) .4
 
 -- a line that was written lies within its buffer
 pub line-within : (text old new : List ℕ) (n : ℕ) → Rendering text old new (Whole n) → n ≤ length new

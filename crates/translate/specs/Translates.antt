@@ -18,5 +18,5 @@ ReadsInput b b′ t t′ reading = OfInput b b′ (λ input. ReadAs input t t′
 -- where a read fails, the table stays as it was
 abbrev pub Translates : (b b′ t t′ : List ℕ) → Translated → Type 0
 Translates b b′ t t′ (Table end) = (nodes signals : ℕ) × (end ≡ 2 * nodes) × ReadsInput b b′ t t′ (Done nodes signals)
-Translates b b′ t t′ (Refused number node) = ReadsInput b b′ t t′ (RefusedText number node)
+Translates b b′ t t′ (Refused number node place) = ReadsInput b b′ t t′ (RefusedText number node place)
 Translates b b′ t t′ Failed = Reads 0 b b′ FailedRead × (t′ ≡ t)

@@ -1,7 +1,8 @@
-// The translation program: reads a text of kernel Esterel from standard input and writes its table to standard output. Of a
-// text that is refused the line goes to standard error, as the listing has it, and nothing to standard output. What it reads is
-// `input`'s, what it makes of it `text`'s; this file only moves bytes.
-ghost use Prim.Native.Nat.{_<_};
+// The translation program: reads a text of Esterel from standard input and writes its table to standard output. Of a text that is
+// refused the line goes to standard error, as the listing has it, and then the line and column where the text is at fault, if it
+// is so at a place; and nothing to standard output. What it reads is `input`'s, what it makes of it `text`'s; this file only
+// moves bytes.
+ghost use Prim.Native.Nat.{_<_, _≤_};
 ghost use lib.ListN.{length};
 ghost use Rattle.grammar.specs.Limits.{maxSource};
 ghost use Rattle.translate.specs.Translates.{Translates};
@@ -10,8 +11,14 @@ use listing::Rendered;
 use text::Reading;
 
 enum Translated {
-    Table { length: usize },
-    Refused { number: u8, node: usize },
+    Table {
+        length: usize,
+    },
+    Refused {
+        number: u8,
+        node: usize,
+        place: usize,
+    },
     Failed,
 }
 
@@ -27,7 +34,15 @@ fn translate_input(buffer: &mut [u8], table: &mut [u8; 2 * esterel::MAX_NODES]) 
     let reading = text::read(&buffer[..length], table);
     match reading {
         Reading::Done { nodes, signals: _ } => Translated::Table { length: 2 * nodes },
-        Reading::Refused { number, node } => Translated::Refused { number, node },
+        Reading::Refused {
+            number,
+            node,
+            place,
+        } => Translated::Refused {
+            number,
+            node,
+            place,
+        },
     }
 }
 
@@ -45,13 +60,33 @@ fn tell_refusal(number: u8, node: usize) {
     io::write_all(libc::STDERR_FILENO, &line[..length]);
 }
 
+// The refusals of a text from this number on are at a place of it: 14, 15, 16 and 20.
+const FIRST_PLACED: u8 = 14;
+
+// The line and column of a place, to standard error.
+fn tell_place(text: &[u8], place: usize)
+    requires { ⌜ (place ≤ length (now text)) × (place ≤ maxSource) ⌝ }
+{
+    let found = spot::find_spot(text, place);
+    let mut line = [0u8; spot::LINE];
+    let length = spot::write_spot(found.line, found.column, &mut line);
+    io::write_all(libc::STDERR_FILENO, &line[..length]);
+}
+
 fn main() {
     // One byte more than a text may have decides refusal 14, so no more is read.
     let mut buffer = [0u8; grammar::MAX_SOURCE + 1];
     let mut table = [0u8; 2 * esterel::MAX_NODES];
     let translated = translate_input(&mut buffer, &mut table);
-    if let Translated::Refused { number, node } = translated {
+    if let Translated::Refused {
+        number,
+        node,
+        place,
+    } = translated {
         tell_refusal(number, node);
+        if FIRST_PLACED <= number {
+            tell_place(&buffer, place);
+        }
         return;
     }
     let Translated::Table { length } = translated else {

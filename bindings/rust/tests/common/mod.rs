@@ -2,10 +2,10 @@
 
 #![allow(dead_code)] // each test file uses a part of this
 
-use bavzhrono::{analyse, narrow, render, resume, start, tick};
+use bavzhrono::{analyse, narrow, read, read_place, render, resume, start, table_of, tick};
 use bavzhrono::{
-    Analysis, Closed, CodeSet, Completion, Mark, Refusal, Tick, BLOCK, MAX_NODES, MAX_TEXT,
-    SIGNALS, TICK_ANSWERS,
+    Analysis, Closed, CodeSet, Completion, Mark, Placed, Reading, Refusal, Tick, BLOCK, MAX_NODES,
+    MAX_TEXT, SIGNALS, TICK_ANSWERS,
 };
 
 pub const W1: &[u8] = &[2, 0, 3, 7, 9, 0, 8, 0];
@@ -36,6 +36,9 @@ pub const WITH_SHORT_BUFFERS: [(&[u8], u32); 8] = [
 
 pub const W1_LISTING: &str =
     "ok 4 1 8\n0 2 0 2 3 1 1\n1 3 7 1 1 0 0\n2 9 0 2 3 1 1\n3 8 0 2 2 0 0\n";
+
+/// The bytes of the table that a text is read into.
+pub const TABLE_NEED: usize = 2 * MAX_NODES;
 
 /// What stands in every lent byte before a call.
 pub const FILL: u8 = 0xa5;
@@ -134,6 +137,41 @@ pub fn assert_refused(table: &[u8], number: u32, node: usize) {
         bavzhrono::listing(table),
         format!("refused {number} {node}\n")
     );
+}
+
+/// Into a table that just suffices and into a longer one, of which only the front changes. The text
+/// has no place of a fault.
+pub fn assert_read(text: &str, table: &[u8], signals: usize) {
+    let nodes = table.len() / 2;
+    for more in [0, 5] {
+        let mut lent = vec![FILL; TABLE_NEED + more];
+        let mut expected = lent.clone();
+        expected[..table.len()].copy_from_slice(table);
+        let reading = read(text.as_bytes(), &mut lent);
+        assert_eq!(reading, Ok(Reading { nodes, signals }), "{text}");
+        assert_eq!(lent, expected, "{text}");
+    }
+    assert_eq!(table_of(text.as_bytes()).as_deref(), Ok(table), "{text}");
+    assert_eq!(read_place(text.as_bytes()), None, "{text}");
+}
+
+/// Refused with the number and the node, and at the place. The table does not change.
+pub fn assert_not_read(text: impl AsRef<[u8]>, number: u32, node: usize, place: usize) {
+    let text = text.as_ref();
+    let shown = String::from_utf8_lossy(&text[..text.len().min(60)]);
+    let mut lent = [FILL; TABLE_NEED];
+    assert_eq!(read(text, &mut lent), refused(number, node), "{shown}");
+    assert_eq!(lent, [FILL; TABLE_NEED], "{shown}");
+    assert_eq!(table_of(text), refused(number, node), "{shown}");
+    let refusal = Refusal { number, node };
+    let placed = Some(Placed { refusal, place });
+    assert_eq!(read_place(text), placed, "{shown}");
+}
+
+/// Refused where the caret stands, which is not of the text.
+pub fn assert_refused_at(marked: impl AsRef<str>, number: u32) {
+    let (before, after) = marked.as_ref().split_once('^').expect("a caret");
+    assert_not_read([before, after].concat(), number, 0, before.len());
 }
 
 /// Sequences whose second is a sequence, with a pause as the first of each and at the end.

@@ -25,7 +25,7 @@ pub struct Group {
     pub random: bool,
 }
 
-pub const GROUPS: [Group; 47] = [
+pub const GROUPS: [Group; 52] = [
     Group {
         name: "Table W and the edges",
         run: tables::edges,
@@ -152,6 +152,11 @@ pub const GROUPS: [Group; 47] = [
         random: false,
     },
     Group {
+        name: token_lists::IN_DIALECT,
+        run: token_lists::in_dialect,
+        random: false,
+    },
+    Group {
         name: token_lists::RIGHT,
         run: token_lists::right,
         random: false,
@@ -160,6 +165,11 @@ pub const GROUPS: [Group; 47] = [
         name: token_lists::LONGER,
         run: token_lists::longer,
         random: false,
+    },
+    Group {
+        name: "texts of tokens that are drawn, right up to the last and beyond",
+        run: token_lists::drawn,
+        random: true,
     },
     Group {
         name: "printed programs, around all limits",
@@ -174,6 +184,21 @@ pub const GROUPS: [Group; 47] = [
     Group {
         name: "printed programs with a byte spoilt, or cut off",
         run: texts::spoilt_bytes,
+        random: true,
+    },
+    Group {
+        name: "printed programs of the dialect, around all limits",
+        run: texts::printed_in_dialect,
+        random: true,
+    },
+    Group {
+        name: "printed programs of the dialect with a token spoilt",
+        run: texts::spoilt_tokens_in_dialect,
+        random: true,
+    },
+    Group {
+        name: "printed programs of the dialect with a byte spoilt, or cut off",
+        run: texts::spoilt_bytes_in_dialect,
         random: true,
     },
     Group {

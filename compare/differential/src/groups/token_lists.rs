@@ -5,67 +5,105 @@ use compare::text::automaton::Automaton;
 use compare::text::parser::parse;
 use compare::text::tokens::tokens;
 
+use super::texts::compare_text;
 use crate::tally::{Difference, Tally};
-use crate::trials::Reading;
 
-/// All words and signs, two names, a word that is too long, a single bar, and a byte that
-/// no text has.
-const LETTERS: [&str; 23] = [
-    "nothing", "pause", "signal", "in", "end", "emit", "present", "then", "else", "suspend",
-    "when", "loop", "trap", "exit", ";", "||", "[", "]", "A", "B", TOO_LONG, "|", "\r",
-];
+/// All words and signs of the kernel, two names, a word that is too long, a single bar, and
+/// a byte that no text has.
+const KERNEL: &str = "nothing pause signal in end emit present then else suspend when loop trap \
+     exit ; || [ ] A B a23456789_123456789_123456789_123 | \r";
 
-const TOO_LONG: &str = "a23456789_123456789_123456789_123";
+/// The words of F-9, a count, and a word that is neither a count nor a name.
+const DIALECT: &str = "halt sustain await abort weak immediate every case 3 3a";
 
 pub const ALL: &str = "6,728,904 texts: all of up to 5 tokens over 23 letters";
 const ALL_TOKENS: usize = 5;
 
+pub const IN_DIALECT: &str = "1,222,981 texts: all of up to 4 tokens over 33 letters";
+const DIALECT_TOKENS: usize = 4;
+
 pub const RIGHT: &str =
-    "421,752 texts: all of up to 7 tokens over 23 letters, right up to the last";
+    "2,751,409 texts: all of up to 7 tokens over 33 letters, right up to the last";
 const RIGHT_TOKENS: usize = 7;
 
 /// The letters of each, and the most tokens.
-const FEW: [(&[&str], usize); 4] = [
-    (&["[", "||", "]", ";", "pause"], 14),
-    (
-        &[
-            "loop", "present", "A", "then", "else", "end", "nothing", ";",
-        ],
-        12,
-    ),
-    (&["trap", "A", "B", "in", "exit", "end", ";", "emit"], 13),
-    (
-        &[
-            "signal", "present", "emit", "suspend", "when", "A", "B", "in", "then", "else", "end",
-        ],
-        11,
-    ),
+const FEW: [(&str, usize); 7] = [
+    ("[ || ] ; pause", 14),
+    ("loop present A then else end nothing ;", 12),
+    ("trap A B in exit end ; emit", 13),
+    ("signal present emit suspend when A B in then else end", 11),
+    ("weak abort halt when A end ; 3", 13),
+    ("trap A in exit abort when end case", 14),
+    ("suspend await sustain abort when A B end ;", 11),
 ];
 pub const LONGER: &str =
-    "324,402 texts: all of up to 11 to 14 tokens over 5 to 11 letters, right up to the last";
+    "886,994 texts: all of up to 11 to 14 tokens over 5 to 11 letters, right up to the last";
+
+/// Tokens of a text that is drawn, and such texts.
+const DRAWN_TOKENS: usize = 60;
+const DRAWN: usize = 3000;
+
+fn letters(words: &str) -> Vec<&str> {
+    words.split(' ').collect()
+}
+
+/// Of the kernel and of the dialect.
+fn all_letters() -> Vec<&'static str> {
+    [letters(KERNEL), letters(DIALECT)].concat()
+}
 
 pub fn all(tally: &mut Tally, _random: &mut Random) -> Result<(), Difference> {
-    let mut visit = |text: &[u8]| tally.compare(&Reading::new(text)).map(|_| true);
-    lists(&LETTERS, ALL_TOKENS, &mut visit)
+    every(tally, &letters(KERNEL), ALL_TOKENS)
+}
+
+pub fn in_dialect(tally: &mut Tally, _random: &mut Random) -> Result<(), Difference> {
+    every(tally, &all_letters(), DIALECT_TOKENS)
+}
+
+fn every(tally: &mut Tally, letters: &[&str], most: usize) -> Result<(), Difference> {
+    let mut visit = |text: &[u8]| compare_text(tally, text).map(|_| true);
+    lists(letters, most, &mut visit)
 }
 
 pub fn right(tally: &mut Tally, _random: &mut Random) -> Result<(), Difference> {
-    let mut visit = |text: &[u8]| {
-        tally.compare(&Reading::new(text))?;
-        Ok(can_go_on(text))
-    };
-    lists(&LETTERS, RIGHT_TOKENS, &mut visit)
+    every_right(tally, &all_letters(), RIGHT_TOKENS)
 }
 
 pub fn longer(tally: &mut Tally, _random: &mut Random) -> Result<(), Difference> {
-    for (letters, most) in FEW {
-        let mut visit = |text: &[u8]| {
-            tally.compare(&Reading::new(text))?;
-            Ok(can_go_on(text))
-        };
-        lists(letters, most, &mut visit)?;
+    let mut few = FEW.iter();
+    few.try_for_each(|(words, most)| every_right(tally, &letters(words), *most))
+}
+
+fn every_right(tally: &mut Tally, letters: &[&str], most: usize) -> Result<(), Difference> {
+    let mut visit = |text: &[u8]| {
+        compare_text(tally, text)?;
+        Ok(can_go_on(text))
+    };
+    lists(letters, most, &mut visit)
+}
+
+/// Texts that grow by any token with which they can go on. Those with which they can't are
+/// tried as well, with one more token after them.
+pub fn drawn(tally: &mut Tally, random: &mut Random) -> Result<(), Difference> {
+    let letters = all_letters();
+    for _ in 0..DRAWN {
+        let mut text = Vec::new();
+        for _ in 0..DRAWN_TOKENS {
+            let longer = with_letter(&text, random.pick(&letters));
+            if can_go_on(&longer) {
+                text = longer;
+            } else {
+                let further = with_letter(&longer, random.pick(&letters));
+                compare_text(tally, &further)?;
+            }
+        }
+        compare_text(tally, &text)?;
     }
     Ok(())
+}
+
+fn with_letter(text: &[u8], letter: &&str) -> Vec<u8> {
+    [text, letter.as_bytes(), b" "].concat()
 }
 
 /// Tells of a text whether longer ones that begin with it are to be visited.
@@ -76,7 +114,7 @@ fn lists(letters: &[&str], most: usize, visit: Visit) -> Result<(), Difference> 
     let mut pending = vec![(0, Vec::new())];
     while let Some((count, text)) = pending.pop() {
         if visit(&text)? && count < most {
-            let longer = |letter: &&str| (count + 1, [&text[..], letter.as_bytes(), b" "].concat());
+            let longer = |letter| (count + 1, with_letter(&text, letter));
             pending.extend(letters.iter().map(longer));
         }
     }
@@ -95,25 +133,38 @@ fn can_go_on(text: &[u8]) -> bool {
 
 #[cfg(test)]
 mod tests {
+    use compare::support::chart::Chart;
+    use compare::text::grammar::Grammar;
+
     use super::*;
 
-    fn count(letters: &[&str], most: usize, goes_on: fn(&[u8]) -> bool) -> usize {
-        let mut texts = 0;
-        let mut visit = |text: &[u8]| {
-            texts += 1;
-            Ok(goes_on(text))
-        };
-        lists(letters, most, &mut visit).expect("nothing is compared");
+    /// The texts of up to so many more tokens that are right up to the last.
+    fn count(chart: &mut Chart, letters: &[&str], more: usize) -> usize {
+        let mut texts = 1;
+        for letter in letters.iter().filter(|_| more > 0) {
+            if chart.take(letter.as_bytes()) {
+                texts += count(chart, letters, more - 1);
+                chart.give_back();
+            } else {
+                texts += 1;
+            }
+        }
         texts
     }
 
     #[test]
     fn the_names_give_the_numbers_of_texts() {
-        assert_eq!(TOO_LONG.len(), 33);
-        let all = (0..=ALL_TOKENS as u32).map(|tokens| LETTERS.len().pow(tokens));
-        assert_eq!(all.sum::<usize>(), 6_728_904);
-        assert_eq!(count(&LETTERS, RIGHT_TOKENS, can_go_on), 421_752);
-        let longer = FEW.map(|(letters, most)| count(letters, most, can_go_on));
-        assert_eq!(longer.iter().sum::<usize>(), 324_402);
+        assert!(letters(KERNEL).iter().any(|letter| letter.len() == 33));
+        let all = |letters: &[&str], most: usize| -> usize {
+            let counts = (0..=most as u32).map(|tokens| letters.len().pow(tokens));
+            counts.sum()
+        };
+        assert_eq!(all(&letters(KERNEL), ALL_TOKENS), 6_728_904);
+        assert_eq!(all(&all_letters(), DIALECT_TOKENS), 1_222_981);
+        let grammar = Grammar::new();
+        let right = |letters: &[&str], most| count(&mut Chart::new(&grammar), letters, most);
+        assert_eq!(right(&all_letters(), RIGHT_TOKENS), 2_751_409);
+        let longer = FEW.map(|(words, most)| right(&letters(words), most));
+        assert_eq!(longer.iter().sum::<usize>(), 886_994);
     }
 }

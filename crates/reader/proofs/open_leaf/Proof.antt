@@ -1,6 +1,5 @@
 -- `reader::open_leaf` meets its contract: a name.
-use Rattle.grammar.specs.Machine.{anEmit, anExit}
-use Rattle.reader.proofs.Openings.{name-missing, emit-named, exit-named}
+use Rattle.reader.proofs.Openings.{name-missing, leaf-named}
 use borrow.Author.Needs.{needs}
 use Rattle.reader.proofs.open_leaf.Statement.{statement}
 use Rattle.reader.proofs.open_leaf.Tie as tie
@@ -15,10 +14,10 @@ enum-told : tie.Need-enum-told
 enum-told c = search needs
 
 returns : tie.Need-returns
-returns c = let h = rw (c .enum-told .given .1) at (c .before .before .next-name .ensures) in ((λ e. name-missing anEmit h), (λ e. name-missing anExit h))
+returns c = let h = rw (c .enum-told .given .1) at (c .before .before .next-name .ensures) in λ w l. name-missing w h
 
 returns-2 : tie.Need-returns-2
-returns-2 c = let d = rw (c .before .start .given .1) at (c .before .before .before .next-name .ensures) in ((λ e. rw e (emit-named d)), (λ e. rw e (exit-named d)))
+returns-2 c = let d = rw (c .before .start .given .1) at (c .before .before .before .next-name .ensures) in λ w l. leaf-named d _ w l
 
 pub open-leaf-spec : {M : Type 1} → statement M
 open-leaf-spec =

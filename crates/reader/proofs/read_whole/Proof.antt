@@ -1,4 +1,4 @@
--- `reader::read_whole` meets its contract: the node of a whole statement.
+-- `reader::read_whole` meets its contract: the nodes of a whole statement.
 use mathlib.Core.Path.{refl}
 use Rattle.reader.proofs.Readers.{whole-unread}
 use borrow.Author.Needs.{needs}
@@ -15,7 +15,7 @@ put-leaf-requires : tie.Need-put-leaf-requires
 put-leaf-requires c κs = search needs
 
 returns-2 : tie.Need-returns-2
-returns-2 c = rw (c .before .before .before .opened .given .1) (rw (c .put-leaf .ensures .0) (refl, let a = c .put-leaf .ensures .1 in rw (c .put-leaf .ensures .0) at a))
+returns-2 c = rw (c .before .before .before .opened .given .1) (_, refl, c .put-leaf .ensures .1, c .put-leaf .ensures .2)
 
 pub read-whole-spec : {M : Type 1} → statement M
 read-whole-spec = tie.close (tie.spec enum-known-opened returns put-leaf-requires returns-2)

@@ -49,11 +49,11 @@ is-same-requires-5 c κs = search needs
 returns-5 : tie.Need-returns-5
 returns-5 c = rw (sym (c .before .before .before .before .before .before .before .before .before .before .before .before .before .is-same .ensures) ∙ c .before .before .before .before .before .before .before .before .before .before .before .before .if1 .left, sym (c .before .before .before .before .before .before .before .before .before .before .is-same2 .ensures) ∙ c .before .before .before .before .before .before .before .before .before .if2 .left, sym (c .before .before .before .before .before .before .before .is-same3 .ensures) ∙ c .before .before .before .before .before .before .if3 .left, sym (c .before .before .before .before .is-same4 .ensures) ∙ c .before .before .before .if4 .left, sym (c .before .is-same5 .ensures) ∙ c .if5 .taken)
 
-name-or-stray-requires : tie.Need-name-or-stray-requires
-name-or-stray-requires c κs = search needs
+foreign-word-requires : tie.Need-foreign-word-requires
+foreign-word-requires c κs = search needs
 
 returns-6 : tie.Need-returns-6
-returns-6 c = rw (sym (c .before .before .before .before .before .before .before .before .before .before .before .before .before .before .is-same .ensures) ∙ c .before .before .before .before .before .before .before .before .before .before .before .before .before .if1 .left, sym (c .before .before .before .before .before .before .before .before .before .before .before .is-same2 .ensures) ∙ c .before .before .before .before .before .before .before .before .before .before .if2 .left, sym (c .before .before .before .before .before .before .before .before .is-same3 .ensures) ∙ c .before .before .before .before .before .before .before .if3 .left, sym (c .before .before .before .before .before .is-same4 .ensures) ∙ c .before .before .before .before .if4 .left, sym (c .before .before .is-same5 .ensures) ∙ c .before .if5 .left) (c .name-or-stray .ensures)
+returns-6 c = rw (sym (c .before .before .before .before .before .before .before .before .before .before .before .before .before .before .is-same .ensures) ∙ c .before .before .before .before .before .before .before .before .before .before .before .before .before .if1 .left, sym (c .before .before .before .before .before .before .before .before .before .before .before .is-same2 .ensures) ∙ c .before .before .before .before .before .before .before .before .before .before .if2 .left, sym (c .before .before .before .before .before .before .before .before .is-same3 .ensures) ∙ c .before .before .before .before .before .before .before .if3 .left, sym (c .before .before .before .before .before .is-same4 .ensures) ∙ c .before .before .before .before .if4 .left, sym (c .before .before .is-same5 .ensures) ∙ c .before .if5 .left) (c .foreign-word .ensures)
 
 pub inner-word-spec : {M : Type 1} → statement M
 inner-word-spec =
@@ -74,5 +74,5 @@ inner-word-spec =
     slice-aggregate-is-same-5
     is-same-requires-5
     returns-5
-    name-or-stray-requires
+    foreign-word-requires
     returns-6)

@@ -11,10 +11,10 @@ enum-told : tie.Need-enum-told
 enum-told c = search needs
 
 returns : tie.Need-returns
-returns c = finished (c .before .before .before .before .args .text .now) (c .before .before .before .before .args .at) (c .before .before .next-token .result .start) (c .before .before .next-token .result .end) (c .enum-told .given .1) (c .before .before .next-token .ensures)
+returns c = finished (c .before .before .before .before .args .text .now) (c .before .before .before .before .args .at) (c .before .before .next-token .result .start) (c .before .before .next-token .result .end) (c .enum-told .given .1) (c .before .before .next-token .ensures .0)
 
 returns-2 : tie.Need-returns-2
-returns-2 c = unfinished (c .before .before .before .args .text .now) (c .before .before .before .args .at) (c .before .next-token .result .start) (c .before .next-token .result .end) (c .before .next-token .result .token) (c .match .keys2) (c .before .next-token .ensures)
+returns-2 c = unfinished (c .before .before .before .args .text .now) (c .before .before .before .args .at) (c .before .next-token .result .start) (c .before .next-token .result .end) (c .before .next-token .result .token) (c .match .keys2) (c .before .next-token .ensures .0)
 
 pub is-finished-spec : {M : Type 1} → statement M
 is-finished-spec = tie.close (tie.spec next-token-requires enum-told returns returns-2)

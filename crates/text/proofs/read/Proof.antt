@@ -1,9 +1,11 @@
 -- `text::read` meets its contract: the checks in their order.
 use mathlib.Core.Path.{refl}
 use borrow.Author.Tests.{leb-true, leb-false}
-use Rattle.grammar.specs.Meaning.{overlong, underivable, derived}
+use Rattle.grammar.specs.Meaning.{overlong, derived}
+use Rattle.sheet.proofs.Sheets.{fresh}
 use Rattle.text.specs.Reading.{short, judged}
-use Rattle.text.proofs.Settling.{fresh, test-fails, test-holds}
+use Rattle.text.proofs.Parsing.{unread}
+use Rattle.text.proofs.Settling.{test-fails, test-holds}
 use borrow.Author.Needs.{needs}
 use Rattle.text.proofs.read.Statement.{statement}
 use Rattle.text.proofs.read.Tie as tie
@@ -36,10 +38,10 @@ refused-requires-2 : tie.Need-refused-requires-2
 refused-requires-2 c κs = search needs
 
 returns-2 : tie.Need-returns-2
-returns-2 c = let q = test-fails 14 _ (c .before .before .before .pass-if2 .ensures) (c .before .before .match2 .keys2) (c .refused2 .ensures) in rw (q .1) (judged _ _ (leb-true _ _ (test-holds 3 _ (c .before .before .before .before .before .before .pass-if .ensures) (c .before .before .before .before .enum-told .given .1))) (overlong (leb-false _ _ (q .0))) (refl, refl))
+returns-2 c = let q = test-fails 14 _ (c .before .before .before .pass-if2 .ensures) (c .before .before .match2 .keys2) (c .refused2 .ensures) in rw (q .1) (judged _ _ _ (leb-true _ _ (test-holds 3 _ (c .before .before .before .before .before .before .pass-if .ensures) (c .before .before .before .before .enum-told .given .1))) (overlong (leb-false _ _ (q .0))) (refl, refl))
 
 parse-requires : tie.Need-parse-requires
-parse-requires c κs = leb-true _ _ (test-holds 14 _ (c .before .before .before .pass-if2 .ensures) (c .before .enum-told3 .given .1))
+parse-requires c κs = (leb-true _ _ (test-holds 14 _ (c .before .before .before .pass-if2 .ensures) (c .before .enum-told3 .given .1)))
 
 enum-known-parsed : tie.Need-enum-known-parsed
 enum-known-parsed c = search needs
@@ -47,17 +49,20 @@ enum-known-parsed c = search needs
 enum-told-5 : tie.Need-enum-told-5
 enum-told-5 c = search needs
 
+find-fault-requires : tie.Need-find-fault-requires
+find-fault-requires c κs = (leb-true _ _ (test-holds 14 _ (c .before .before .before .before .before .before .pass-if2 .ensures) (c .before .before .before .before .enum-told3 .given .1)))
+
 returns-3 : tie.Need-returns-3
-returns-3 c = let h = rw (c .enum-told5 .given .1) at (c .before .before .parse .ensures) in judged _ _ (leb-true _ _ (test-holds 3 _ (c .before .before .before .before .before .before .before .before .before .pass-if .ensures) (c .before .before .before .before .before .before .before .enum-told .given .1))) (underivable h) (refl, refl)
+returns-3 c = let h = rw (c .before .enum-told5 .given .1) at (c .before .before .before .parse .ensures) in unread (c .before .before .before .before .before .before .before .before .before .before .before .before .before .args .text .now) (c .before .before .before .before .before .before .before .before .before .before .before .before .before .args .table .now) _ _ (leb-true _ _ (test-holds 3 _ (c .before .before .before .before .before .before .before .before .before .before .pass-if .ensures) (c .before .before .before .before .before .before .before .before .enum-told .given .1))) (leb-true _ _ (test-holds 14 _ (c .before .before .before .before .before .before .before .pass-if2 .ensures) (c .before .before .before .before .before .enum-told3 .given .1))) h (c .find-fault .ensures)
 
 settle-requires : tie.Need-settle-requires
-settle-requires c κs = let d = rw (c .before .before .before .parsed .given .1) at (c .before .before .before .before .before .parse .ensures) in (record { text = (c .before .before .before .before .before .before .before .before .before .before .before .before .before .before .before .args .text .now); tree = d .tree; filled = d .wrote (fresh (c .before .before .before .before .before .before .before .before .before .before .before .before .before .before .before .args .text .now) (leb-true _ _ (test-holds 14 _ (c .before .before .before .before .before .before .before .before .before .pass-if2 .ensures) (c .before .before .before .before .before .before .before .enum-told3 .given .1))) _ (refl, refl, refl, refl)) }, leb-true _ _ (test-holds 3 _ (c .before .before .before .before .before .before .before .before .before .before .before .before .pass-if .ensures) (c .before .before .before .before .before .before .before .before .before .before .enum-told .given .1)))
+settle-requires c κs = let p = rw (c .before .before .before .parsed .given .1) at (c .before .before .before .before .before .parse .ensures) in (record { text = (c .before .before .before .before .before .before .before .before .before .before .before .before .before .before .before .args .text .now); tree = p .tree; filled = (p .wrote (fresh (c .before .before .before .before .before .before .before .before .before .before .before .before .before .before .before .args .text .now) (leb-true _ _ (test-holds 14 _ (c .before .before .before .before .before .before .before .before .before .pass-if2 .ensures) (c .before .before .before .before .before .before .before .enum-told3 .given .1))) _ (refl, refl, refl, refl))) }, (leb-true _ _ (test-holds 3 _ (c .before .before .before .before .before .before .before .before .before .before .before .before .pass-if .ensures) (c .before .before .before .before .before .before .before .before .before .before .enum-told .given .1))), (leb-true _ _ (test-holds 14 _ (c .before .before .before .before .before .before .before .before .before .pass-if2 .ensures) (c .before .before .before .before .before .before .before .enum-told3 .given .1))))
 
 same-length : tie.Need-same-length
 same-length c = search needs
 
 returns-4 : tie.Need-returns-4
-returns-4 c = let d = rw (c .before .before .before .before .before .before .parsed .given .1) at (c .before .before .before .before .before .before .before .before .parse .ensures) in judged _ _ (leb-true _ _ (test-holds 3 _ (c .before .before .before .before .before .before .before .before .before .before .before .before .before .before .before .pass-if .ensures) (c .before .before .before .before .before .before .before .before .before .before .before .before .before .enum-told .given .1))) (derived (d .tree) (leb-true _ _ (test-holds 14 _ (c .before .before .before .before .before .before .before .before .before .before .before .before .pass-if2 .ensures) (c .before .before .before .before .before .before .before .before .before .before .enum-told3 .given .1))) (d .derivation)) (c .before .before .settle .ensures (c .before .before .before .before .before .before .before .before .before .before .before .before .before .before .before .before .before .before .args .text .now) (d .tree) (d .wrote (fresh (c .before .before .before .before .before .before .before .before .before .before .before .before .before .before .before .before .before .before .args .text .now) (leb-true _ _ (test-holds 14 _ (c .before .before .before .before .before .before .before .before .before .before .before .before .pass-if2 .ensures) (c .before .before .before .before .before .before .before .before .before .before .enum-told3 .given .1))) _ (refl, refl, refl, refl))))
+returns-4 c = let p = rw (c .before .before .before .before .before .before .parsed .given .1) at (c .before .before .before .before .before .before .before .before .parse .ensures) in judged _ _ _ (leb-true _ _ (test-holds 3 _ (c .before .before .before .before .before .before .before .before .before .before .before .before .before .before .before .pass-if .ensures) (c .before .before .before .before .before .before .before .before .before .before .before .before .before .enum-told .given .1))) (derived (p .tree) (leb-true _ _ (test-holds 14 _ (c .before .before .before .before .before .before .before .before .before .before .before .before .pass-if2 .ensures) (c .before .before .before .before .before .before .before .before .before .before .enum-told3 .given .1))) (p .derivation)) (c .before .before .settle .ensures (p .tree) (p .derivation) (p .wrote (fresh (c .before .before .before .before .before .before .before .before .before .before .before .before .before .before .before .before .before .before .args .text .now) (leb-true _ _ (test-holds 14 _ (c .before .before .before .before .before .before .before .before .before .before .before .before .pass-if2 .ensures) (c .before .before .before .before .before .before .before .before .before .before .enum-told3 .given .1))) _ (refl, refl, refl, refl))))
 
 pub read-spec : {M : Type 1} → statement M
 read-spec =
@@ -76,6 +81,7 @@ read-spec =
     parse-requires
     enum-known-parsed
     enum-told-5
+    find-fault-requires
     returns-3
     settle-requires
     same-length

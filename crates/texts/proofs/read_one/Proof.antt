@@ -52,6 +52,9 @@ enum-known-reading-2 c = search needs
 write-refusal-requires : tie.Need-write-refusal-requires
 write-refusal-requires c κs = search needs
 
+write-number-requires-3 : tie.Need-write-number-requires-3
+write-number-requires-3 c κs = search needs
+
 slice-aggregate-write-word-3 : tie.Need-slice-aggregate-write-word-3
 slice-aggregate-write-word-3 c = search needs
 
@@ -72,4 +75,4 @@ returns-4 c = search needs
 
 pub read-one-spec : {M : Type 1} → statement M
 read-one-spec =
-    tie.close (tie.spec slice-aggregate-read read-requires enum-known-reading slice-aggregate-write-word write-word-requires write-number-requires write-number-requires-2 mul-table array-share-prefix-table slice-aggregate-write-bytes write-bytes-requires slice-aggregate-write-word-2 write-word-requires-2 enum-known-reading-2 write-refusal-requires slice-aggregate-write-word-3 write-word-requires-3 returns returns-2 returns-3 returns-4)
+    tie.close (tie.spec slice-aggregate-read read-requires enum-known-reading slice-aggregate-write-word write-word-requires write-number-requires write-number-requires-2 mul-table array-share-prefix-table slice-aggregate-write-bytes write-bytes-requires slice-aggregate-write-word-2 write-word-requires-2 enum-known-reading-2 write-refusal-requires write-number-requires-3 slice-aggregate-write-word-3 write-word-requires-3 returns returns-2 returns-3 returns-4)

@@ -36,8 +36,8 @@ read-requires-2 c κs = search needs
 enum-known-reading : tie.Need-enum-known-reading
 enum-known-reading c = search needs
 
-mul-t16 : tie.Need-mul-t16
-mul-t16 c = omega (arith, of-read .done _ _ _ _ _ (rw (c .before .reading .given .1) at (c .before .before .before .read2 .ensures)) .fits)
+mul-t17 : tie.Need-mul-t17
+mul-t17 c = omega (arith, of-read .done _ _ _ _ _ (rw (c .before .reading .given .1) at (c .before .before .before .read2 .ensures)) .fits)
 
 enum-known-reading-2 : tie.Need-enum-known-reading-2
 enum-known-reading-2 c = search needs
@@ -67,7 +67,7 @@ translate-input-spec =
     slice-aggregate-read
     read-requires-2
     enum-known-reading
-    mul-t16
+    mul-t17
     enum-known-reading-2
     same-length-2
     returns-2

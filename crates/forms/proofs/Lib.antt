@@ -1,0 +1,4 @@
+pub mod Exits
+pub mod Sets
+pub mod Letters
+pub mod Forms

@@ -1,0 +1,1 @@
+// The theory of the dialect's forms is in specs/ and proofs/.
