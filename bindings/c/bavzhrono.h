@@ -157,7 +157,7 @@
  * The functions keep no state of their own and allocate nothing: any number of threads may call
  * them at once, each with buffers of its own to be written.
  * stack: up to about 110 KiB
- * bavzhrono_read, bavzhrono_read_place: up to about 940 KiB
+ * bavzhrono_read, bavzhrono_read_place: up to about 1590 KiB
  * bavzhrono_tick: up to about 490 KiB
  */
 #ifndef BAVZHRONO_H

@@ -275,11 +275,11 @@ fn too_many_emits() -> String {
     emits(257).replace("S256", "^S256")
 }
 
-/// In a thread with 8 MiB of stack.
+/// In a thread with little more stack than the header for C tells.
 fn assert_not_read_in_a_thread(text: String, number: u32, place: usize) {
     assert!(text.len() <= MAX_SOURCE);
     let call = move || assert_not_read(text, number, 0, place);
-    let thread = thread::Builder::new().stack_size(8 << 20).spawn(call);
+    let thread = thread::Builder::new().stack_size(1650 << 10).spawn(call);
     let outcome = thread.expect("a thread starts").join();
     outcome.expect("the text is refused at its place");
 }
@@ -321,6 +321,14 @@ fn levels_that_are_never_closed_do_not_exhaust_the_stack() {
             assert_not_read_in_a_thread(text, number, place);
         }
     }
+}
+
+/// As many levels in second branches as go with 2,731 levels: the dearest that were found.
+#[test]
+fn the_dearest_text_does_not_exhaust_the_stack() {
+    let branches = "[halt||".repeat(2_275);
+    let brackets = "[".repeat(MAX_SOURCE - branches.len());
+    assert_not_read_in_a_thread(branches + &brackets, 14, MAX_SOURCE);
 }
 
 #[test]

@@ -50,8 +50,8 @@ use Rattle.tied.specs.declared.Narrowed.{Narrowed}
 use Rattle.tied.specs.declared.Narrowed.the-variants.{Done as DoneNarrow}
 use Rattle.tied.specs.declared.Narrowed.the-variants.{Refused as RefusedNarrow}
 use Rattle.tied.proofs.OfNarrow.{ofNarrow}
-use Rattle.abi.specs.Exported.{returned, answerAfter, Tells, tellAnalysed, tellReaction, tellRendered, tellReading, tellPlace, tellTick, tellFetched, tellSpan, tellNarrowed, shortAnswer, Exported, PlacedAs, PlacingC, LocatingC}
-use Rattle.abi.specs.Theorems.{Ran, TickShown, NoTick, IsRefused, Demand1OfExports}
+use Rattle.abi.specs.Exported.{returned, answerAfter, Tells, tellAnalysed, tellReaction, tellRendered, tellReading, tellPlace, tellTick, tellFetched, tellSpan, tellNarrowed, shortAnswer, Exported, ReadingC, PlacedAs, PlacingC, LocatingC}
+use Rattle.abi.specs.Theorems.{Ran, TickShown, NoTick, AnswerOf, PlaceShown, NoPlace, SameRefusal, IsRefused, Demand1OfExports}
 use Rattle.abi.specs.declared.Told.{Told}
 use Rattle.abi.specs.declared.Told.the-variants.{Refusal}
 
@@ -272,27 +272,42 @@ part-refused file p e k answer answer′ r o h = go (decLt (length answer) 3)
     go (yes l) = let (same, told) = o .short l in (l, told .returns, told .answered)
     go (no l) = let (x, call, told) = o .whole (omega arith) in absurd (omega (arith, told .returns))
 
--- the place of a refusal
+-- the place of a refusal: the call itself refuses nothing
+place-returned : (x : Reading) → returned (tellPlace x) ≡ 0
+place-returned (DoneText nodes n) = refl
+place-returned (RefusedText number node place) = refl
+
 place-refused : (text answer answer′ : List ℕ) (r : ℕ) → PlacingC text answer answer′ r → 0 < r → (length answer < 3) × (r ≡ returned (Refusal 3 0)) × (answer′ ≡ answer)
 place-refused text answer answer′ r o h = go (decLt (length answer) 3)
   where
-    none : (x : Reading) → returned (tellPlace x) ≡ 0
-    none (DoneText nodes n) = refl
-    none (RefusedText number node place) = refl
-
     go : Dec (length answer < 3) → (length answer < 3) × (r ≡ returned (Refusal 3 0)) × (answer′ ≡ answer)
     go (yes l) = let (same, told) = o .short l in (l, told .returns, told .answered)
-    go (no l) = let (x, call, told) = o .whole (omega arith) in absurd (omega (arith, told .returns, none x))
+    go (no l) = let (x, call, told) = o .whole (omega arith) in absurd (omega (arith, told .returns, place-returned x))
 
-place-done : (text answer answer′ : List ℕ) → PlacingC text answer answer′ 0 → (x : Reading) × PlacedAs text x × ((table table′ : List ℕ) (y : Reading) → 2 * maxNodes ≤ length table → ReadAs text table table′ y → y ≡ x) × (answer′ ≡ answerAfter (tellPlace x) answer)
-place-done text answer answer′ o = go (decLt (length answer) 3)
-  where
-    go : Dec (length answer < 3) → (x : Reading) × PlacedAs text x × ((table table′ : List ℕ) (y : Reading) → 2 * maxNodes ≤ length table → ReadAs text table table′ y → y ≡ x) × (answer′ ≡ answerAfter (tellPlace x) answer)
-    go (yes l) = let (same, told) = o .short l in absurd (omega (arith, told .returns))
-    go (no l) =
-        let (x, call, told) = o .whole (omega arith) in
-        let (table, table′, room, told′) = call in
-        (x, call, (λ other other′ y h r. of-read .sameAnswer text other other′ table table′ y x h room r told′), told .answered)
+-- what is told of a text with one table that has room is told with each
+answer-of : (text : List ℕ) (x : Reading) → PlacedAs text x → AnswerOf text x
+answer-of text x call =
+    let (table, table′, room, told) = call in
+    (call, (λ other other′ y h r. of-read .sameAnswer text other other′ table table′ y x h room r told))
+
+place-done : (text answer answer′ : List ℕ) (x : Reading) → PlacedAs text x → answer′ ≡ answerAfter (tellPlace x) answer → PlaceShown text answer answer′ ⊎ NoPlace text answer answer′
+place-done text answer answer′ (DoneText nodes n) call e = inr (nodes, n, answer-of text (DoneText nodes n) call, e)
+place-done text answer answer′ (RefusedText number node place) call e = inl (number, node, place, answer-of text (RefusedText number node place) call, e)
+
+-- beside what `read` returns
+module _ (text table table′ figures figures′ : List ℕ) (r : ℕ) where
+  same-refusal : (x : Reading) → ReadAs text table table′ x → r ≡ returned (tellReading x) → figures′ ≡ answerAfter (tellPlace x) figures → SameRefusal r figures figures′
+  same-refusal (DoneText nodes n) o z e = record { refusal = λ h. absurd (omega arith); zeros = λ _. e }
+  same-refusal (RefusedText number node place) o z e =
+      let (some, known) = number-known (of-read .refused text table table′ number node place o .1) in
+      record { refusal = λ h. (number, node, place, omega arith, sym z, e); zeros = λ k. absurd (omega arith) }
+
+  same-place : {answer answer′ : List ℕ} {s : ℕ} → 2 * maxNodes ≤ length table → 3 ≤ length answer → 3 ≤ length figures → ReadingC text table answer table′ answer′ r → PlacingC text figures figures′ s → (s ≡ 0) × SameRefusal r figures figures′
+  same-place room h k o p =
+      let (x, read, told) = o .whole h in
+      let (y, placed, shown) = p .whole k in
+      let e = answer-of text y placed .1 table table′ x room read in
+      (shown .returns ∙ place-returned y, same-refusal x read (told .returns) (shown .answered ∙ ap (λ z. answerAfter (tellPlace z) figures) (sym e)))
 
 pub demand1OfExports : Demand1OfExports
 demand1OfExports =
@@ -319,7 +334,11 @@ demand1OfExports =
       readRefused = λ text table answer table′ answer′ r o h.
           refused-is Passed _ _ tellReading _ answer answer′ 20 read-known (read-own text table table′ answer answer′) r o h;
       placeRefused = place-refused;
-      placeDone = place-done;
+      placeDone = λ text answer answer′ o.
+          (let (x, call, z, e) = done-told Passed _ _ tellPlace (λ number node. Unit {0}) answer answer′ 3 (none-known 3 (omega arith)) o in
+          place-done text answer answer′ x call e);
+      samePlace = λ text table answer table′ answer′ figures figures′ r s room h k o p.
+          same-place text table table′ figures figures′ r room h k o p;
       readDone = λ text table answer table′ answer′ o.
           (let (x, call, z, e) = done-told Passed _ _ tellReading (λ number node. Unit {0}) answer answer′ 20 read-known o in
           read-done text table table′ answer answer′ x call z e);

@@ -1,5 +1,5 @@
 -- Demand 1 of the exported functions: what follows from their contracts. The statements alone; the proofs are in proofs/Theorems.antt.
-use Prim.Native.Nat.{ℕ, _*_, _/_, _%_, _≤_, _<_}
+use Prim.Native.Nat.{ℕ, _+_, _*_, _/_, _%_, _≤_, _<_}
 use mathlib.Core.Path.{_≡_}
 use mathlib.Core.Logic.{_⊎_}
 use mathlib.Core.List.{List, [], _∷_}
@@ -34,7 +34,7 @@ use Rattle.blocks.specs.declared.Fetched.the-variants.{Refused as RefusedFetch}
 use Rattle.tied.specs.Calls.{Narrowing}
 use Rattle.tied.specs.declared.Narrowed.the-variants.{Done as DoneNarrow}
 use Rattle.tied.specs.declared.Narrowed.the-variants.{Refused as RefusedNarrow}
-use Rattle.abi.specs.Exported.{returned, answerAfter, tellPlace, shortAnswer, Analysing, StartingC, ResumingC, RenderingC, ReadingC, PlacedAs, PlacingC, TickingC, FetchingC, LocatingC, NarrowingC}
+use Rattle.abi.specs.Exported.{returned, shortAnswer, Analysing, StartingC, ResumingC, RenderingC, ReadingC, PlacedAs, PlacingC, TickingC, FetchingC, LocatingC, NarrowingC}
 use Rattle.abi.specs.declared.Told.the-variants.{Refusal}
 
 -- after 0 the call has closed with these figures
@@ -49,6 +49,24 @@ TickShown t answers answers′ answer answer′ =
 abbrev pub NoTick : (t answers answers′ answer answer′ : List ℕ) → Type 0
 NoTick t answers answers′ answer answer′ =
     (nodes loops : ℕ) × TellsTick t answers answers′ (Accepted nodes loops) × (answers′ ≡ answers) × (answer′ ≡ onto (0 ∷ nodes ∷ loops ∷ []) answer)
+
+-- x is what `read` answers of a text, whatever table with room it is lent
+abbrev pub AnswerOf : (text : List ℕ) → Reading → Type 0
+AnswerOf text x =
+    PlacedAs text x × ((table table′ : List ℕ) (y : Reading) → 2 * maxNodes ≤ length table → ReadAs text table table′ y → y ≡ x)
+
+-- after 0 the place of a refused text is told, or that the text is read
+abbrev pub PlaceShown : (text answer answer′ : List ℕ) → Type 0
+PlaceShown text answer answer′ =
+    (number node place : ℕ) × AnswerOf text (RefusedText number node place) × (answer′ ≡ onto (number ∷ node ∷ place ∷ []) answer)
+
+abbrev pub NoPlace : (text answer answer′ : List ℕ) → Type 0
+NoPlace text answer answer′ = (nodes signals : ℕ) × AnswerOf text (DoneText nodes signals) × (answer′ ≡ onto (0 ∷ 0 ∷ 0 ∷ []) answer)
+
+-- the figures tell the refusal that another function returned as r, with its place; zeros, if that returned 0
+pub record SameRefusal (r : ℕ) (answer answer′ : List ℕ) : Type 0 where
+  pub refusal : 0 < r → (number node place : ℕ) × (number < 256) × (number + 256 * node ≡ r) × (answer′ ≡ onto (number ∷ node ∷ place ∷ []) answer)
+  pub zeros : r ≡ 0 → answer′ ≡ onto (0 ∷ 0 ∷ 0 ∷ []) answer
 
 -- a function that returned r, and not 0, was refused: r is number + 256 * node of the call's own refusal or, where the answer is too
 -- short, of the first that fails of the checks up to 3, and no number is above `most`. The answer has not changed
@@ -131,12 +149,15 @@ pub record Demand1OfExports : Type 0 where
       (text table answer table′ answer′ : List ℕ) →
       ReadingC text table answer table′ answer′ 0 →
       (nodes signals : ℕ) × ReadAs text table table′ (DoneText nodes signals) × (answer′ ≡ onto (nodes ∷ signals ∷ 0 ∷ []) answer)
-  -- its figures are zeros, or what `read` answers of that text, whatever table with room it is lent
   pub placeDone :
       (text answer answer′ : List ℕ) →
-      PlacingC text answer answer′ 0 →
-      (x : Reading) × PlacedAs text x × ((table table′ : List ℕ) (y : Reading) → 2 * maxNodes ≤ length table → ReadAs text table table′ y → y ≡ x) ×
-      (answer′ ≡ answerAfter (tellPlace x) answer)
+      PlacingC text answer answer′ 0 → PlaceShown text answer answer′ ⊎ NoPlace text answer answer′
+  -- of one text the two functions tell the same, where the lent buffers have room: bavzhrono_read returned r, bavzhrono_read_place s
+  pub samePlace :
+      (text table answer table′ answer′ figures figures′ : List ℕ) (r s : ℕ) →
+      2 * maxNodes ≤ length table → 3 ≤ length answer → 3 ≤ length figures →
+      ReadingC text table answer table′ answer′ r → PlacingC text figures figures′ s →
+      (s ≡ 0) × SameRefusal r figures figures′
   pub tickDone :
       (t answers answer answers′ answer′ : List ℕ) →
       TickingC t answers answer answers′ answer′ 0 → TickShown t answers answers′ answer answer′ ⊎ NoTick t answers answers′ answer answer′

@@ -11,6 +11,7 @@ use Rattle.grammar.specs.Tokens as G
 use Rattle.grammar.specs.Tokens.{tokens, byteOf}
 use Rattle.grammar.specs.Faults.{numberOfFault}
 use Rattle.grammar.specs.Machine.{alone, top, within, State, expect, have, wantName, wantIn, wantBranch, wantEnd, wantAbort, Next, to, no-way, next, stuck, finish, run, parse}
+use Rattle.grammar.proofs.Viability.{fault-stuck}
 use Rattle.scan.specs.Scanning.{rest, starts, openingIs, markIs, tokenIs}
 use Rattle.scan.specs.declared.Token.{Token}
 use Rattle.scan.specs.declared.Token.the-variants.{Opens, Marks, Names, Foreign, Stray, Finished}
@@ -73,7 +74,7 @@ finished-stuck (wantAbort b k) us e = cc
 
 pub way-ends : (x w : List ℕ) (m : Mode) (h at start : ℕ) → OnWay x w m h at → rest x at ≡ [] → (starts x at ≡ []) × (start ≡ length x) → FaultTold x 14 start
 way-ends x w m h at start o e b us f =
-    let g : run (o .state) [] ≡ stuck us = rw e at (sym (o .moved) ∙ f) in
+    let g : run (o .state) [] ≡ stuck us = rw e at (sym (o .moved) ∙ fault-stuck (tokens x) us f) in
     let i : us ≡ [] = finished-stuck (o .state) us g in
     rw i (refl, b .1 ∙ sym (byte-end x at (o .reached) e (b .0)))
 
@@ -82,14 +83,14 @@ module _ {x w : List ℕ} {m : Mode} {h at start e : ℕ} {token : Token} {w′ 
   stepped = d _ (t .is) (t .told) (o .state) (o .kept)
 
   pub way-stops : r .mode ≡ Stuck → (number : ℕ) → ((v : List ℕ) (u : G.Token) (us : List G.Token) → tokenIs token v ≡ u ∷ [] → number ≡ numberOfFault (u ∷ us)) → FaultTold x number start
-  way-stops q number f us g = go (next (o .state) (t .is)) refl stepped
+  way-stops q number f us g = go (next (o .state) (t .is)) refl stepped (fault-stuck (tokens x) us g)
     where
-      go : (n : Next) → next (o .state) (t .is) ≡ n → Stepped n w′ r → (number ≡ numberOfFault us) × (start ≡ byteOf x us)
-      go (to s) i (goes-to k) = absurd (not-stuck s (sym q ∙ k .mode))
-      go no-way i (goes-nowhere k) =
+      go : (n : Next) → next (o .state) (t .is) ≡ n → Stepped n w′ r → parse (tokens x) ≡ stuck us → (number ≡ numberOfFault us) × (start ≡ byteOf x us)
+      go (to s) i (goes-to k) y = absurd (not-stuck s (sym q ∙ k .mode))
+      go no-way i (goes-nowhere k) h′ =
           let a : run (o .state) (t .is ∷ rest x e) ≡ stuck (t .is ∷ rest x e) = rw i in
           let b : parse (tokens x) ≡ run (o .state) (t .is ∷ rest x e) = o .moved ∙ ap (run (o .state)) (t .moves) in
-          let c : us ≡ t .is ∷ rest x e = same-stuck us (t .is ∷ rest x e) (sym g ∙ b ∙ a) in
+          let c : us ≡ t .is ∷ rest x e = same-stuck us (t .is ∷ rest x e) (sym h′ ∙ b ∙ a) in
           let y : us ≡ rest x at = c ∙ sym (t .moves) in
           (f _ (t .is) (rest x e) (t .told) ∙ ap numberOfFault (sym c), sym (byte-next x at start e (o .reached) (t .begins)) ∙ ap (byteOf x) (sym y))
 

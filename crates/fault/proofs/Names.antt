@@ -10,7 +10,7 @@ use borrow.Author.Tests.{le-ltb, ltb-true, ltb-false}
 use types.Run.{OneOf, miss}
 use denote.Enum.Declared.{tagOf}
 use Rattle.esterel.specs.Limits.{signals as maxSignals}
-use Rattle.grammar.specs.Limits.{maxLevels}
+use Rattle.grammar.specs.Limits.{maxSource, maxLevels}
 use Rattle.grammar.specs.Tokens as G
 use Rattle.grammar.specs.Tokens.{tokens, byteOf}
 use Rattle.grammar.specs.Tree.{Name as Word}
@@ -19,6 +19,10 @@ use Rattle.grammar.specs.Progress as P
 use Rattle.grammar.specs.Faults.{opensSignal, marksSignal, crowdedFrom}
 use Rattle.grammar.specs.Kernel.{added}
 use Rattle.grammar.specs.Search.{Want, no-name, aTrap, anExit, wants, opened, closed, Closable, look, Room}
+use Rattle.grammar.proofs.Completeness.{complete}
+use Rattle.grammar.proofs.Depth.{few-levels}
+use Rattle.grammar.proofs.Letters.{lettered}
+use Rattle.grammar.proofs.Exits.{look-finds, look-fits}
 use Rattle.scan.specs.Scanning.{rest, starts, openingIs, markIs, tokenIs}
 use Rattle.scan.specs.declared.Token.{Token}
 use Rattle.scan.specs.declared.Token.the-variants.{Opens, Marks, Names, Foreign, Stray, Finished}
@@ -35,7 +39,7 @@ use Rattle.fault.specs.declared.Wanted.{Wanted}
 use Rattle.fault.specs.declared.Wanted.the-variants.{NoName}
 use Rattle.fault.specs.declared.Passed.{Passed}
 use Rattle.fault.specs.declared.Passed.the-variants.{On, Lost}
-use Rattle.fault.specs.Walking.{met, Levels, wantIs, PassedTo, PassedAs, passed-on, is-lost, beforeSignal, Uncrowded, CrowdedAs, crowded, uncrowded, Looked, Looking, Counting}
+use Rattle.fault.specs.Walking.{met, Levels, wantIs, PassedTo, PassedAs, passed-on, is-lost, beforeSignal, Uncrowded, CrowdedAs, crowded, uncrowded, Looked, Looking, Counting, ExitTold}
 use Rattle.fault.proofs.Reaching.{TokenAt, reached-first, reached-next, byte-next, byte-end}
 
 -- levels
@@ -225,6 +229,11 @@ look-ends x w want at start k e b h =
     let o = k .looked h in
     let s : look no-name [] (tokens x) ≡ look want (o .levels) [] = o .same ∙ ap (look want (o .levels)) e in
     rw s (b .1 ∙ sym (byte-end x at (k .reached) e (b .0)))
+
+-- what is found so is the first exit of a derivation
+pub exit-told : (x : List ℕ) (place : ℕ) → length x ≤ maxSource → (Room no-name [] (tokens x) → place ≡ byteOf x (look no-name [] (tokens x))) → ExitTold x place
+exit-told x place h f t d =
+    f (look-fits t (tokens x) d (few-levels x t h (complete t (tokens x) d))) ∙ ap (byteOf x) (look-finds t (tokens x) d (lettered x))
 
 -- what is told of the token
 passed-so : {x : List ℕ} {want : Want} {t : G.Token} {w′ : List ℕ} {ls : List Word} {next : Wanted} → PassedAs x want t w′ ls (On next) → PassedTo x want t w′ ls (wantIs next)

@@ -7,12 +7,13 @@ use lib.ListN.{length, getD, set}
 use Rattle.grammar.specs.Limits.{maxSource}
 use Rattle.grammar.specs.Tokens as G
 use Rattle.grammar.specs.Tokens.{tokens, beginnings, byteOf}
-use Rattle.grammar.specs.Tree.{Name as Word}
-use Rattle.grammar.specs.Faults.{numberOfFault, opensSignal, marksSignal, crowdedFrom}
+use Rattle.grammar.specs.Tree.{Tree, Name as Word}
+use Rattle.grammar.specs.Grammar.{Program}
+use Rattle.grammar.specs.Faults.{Fault, numberOfFault, lostFrom, opensSignal, marksSignal, crowdedFrom}
 use Rattle.grammar.specs.Progress.{Progress}
 use Rattle.grammar.specs.Search.{Want, no-name, aTrap, anExit, look, Room}
 use Rattle.sheet.specs.Sheet.{Filled}
-use Rattle.grammar.specs.Machine.{alone, after, Frame, branch, body, thenBranch, elseBranch, suspended, aborted, Open, top, within, Wanting, anEmit, anExit, aSignal, aTrap, aPresent, aSuspend, aSustain, anAwait, anAbort, State, expect, have, wantName, wantIn, wantBranch, wantEnd, wantAbort, Next, to, no-way, next, stuck, run, parse, height as opens}
+use Rattle.grammar.specs.Machine.{alone, after, Frame, branch, body, thenBranch, elseBranch, suspended, aborted, Open, top, within, Wanting, anEmit, anExit, aSignal, aTrap, aPresent, aSuspend, aSustain, anAwait, anAbort, State, expect, have, wantName, wantIn, wantBranch, wantEnd, wantAbort, Next, to, no-way, next, run, parse, height as opens}
 use Rattle.scan.specs.Scanning.{rest, starts, tokenIs}
 use Rattle.scan.specs.declared.Token.{Token}
 use Rattle.fault.specs.declared.Named.{Named}
@@ -116,9 +117,13 @@ pub record OnWay (x w : List ℕ) (m : Mode) (h at : ℕ) : Type 0 where
   pub within : at ≤ length x
   pub reached : Reached x at
 
--- the fault that is told: where the machine is stuck
+-- the fault that is told: the first token with which the text can't go on
 abbrev pub FaultTold : List ℕ → ℕ → ℕ → Type 0
-FaultTold x number place = (us : List G.Token) → parse (tokens x) ≡ stuck us → (number ≡ numberOfFault us) × (place ≡ byteOf x us)
+FaultTold x number place = (us : List G.Token) → Fault (tokens x) us → (number ≡ numberOfFault us) × (place ≡ byteOf x us)
+
+-- the place that is told of a text of the grammar: the name of the first exit without its trap
+abbrev pub ExitTold : List ℕ → ℕ → Type 0
+ExitTold x place = (t : Tree) (d : Program t (tokens x)) → place ≡ byteOf x (lostFrom [] d [])
 
 -- nothing was written, and signals ns were met
 abbrev pub met : List Word → Progress

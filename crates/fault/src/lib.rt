@@ -1,6 +1,6 @@
 // Where a text that is refused is at fault: at the first word, sign or other byte with which it can't go on, at the name of an
 // exit without its trap, or at the name with which its signals are too many. Each search goes over the tokens once and does
-// not recurse, so that it also goes where the readers (crates/reader) give up: a text may be nested deeper than they go.
+// not recurse: a text that is outside the grammar may be nested deeper than the readers (crates/reader) go.
 ghost use mathlib.Core.Path.{_≡_};
 ghost use mathlib.Core.List.{List, [], _∷_};
 ghost use Prim.Native.Nat.{ℕ, _<_, _≤_};
@@ -17,10 +17,10 @@ ghost use Rattle.scan.specs.declared.Token.the-variants as SV;
 ghost use Rattle.scan.specs.Scanning.{openingIs, markIs, tokenIs};
 ghost use Rattle.grammar.specs.Names.{has, see};
 ghost use Rattle.grammar.specs.Faults.{numberOfFault, opensSignal, marksSignal, crowdedFrom};
-ghost use Rattle.grammar.specs.Search.{no-name, wants, opened, closed, Closable, look, Room as Fits};
+ghost use Rattle.grammar.specs.Search.{wants, opened, closed, Closable, Room as Fits};
 ghost use Rattle.esterel.specs.Limits.{signals as maxSignals};
 ghost use Rattle.sheet.specs.Sheet.{part, Part, Filled};
-ghost use Rattle.fault.specs.Walking.{Stacked, topByte, Pushed, Stepped, Steps, StepsOn, FaultTold, met, Levels, wantIs, PassedAs, beforeSignal, CrowdedAs};
+ghost use Rattle.fault.specs.Walking.{Stacked, topByte, Pushed, Stepped, Steps, StepsOn, FaultTold, ExitTold, met, Levels, wantIs, PassedAs, beforeSignal, CrowdedAs};
 ghost use Rattle.fault.specs.declared.Mode.the-variants as MV;
 use scan::Mark;
 use scan::Opening;
@@ -55,7 +55,7 @@ pub struct Walk {
 }
 
 // What is open, a byte for each: a bracket in its first branch or in a later one, a body, a then branch, an else branch, a
-// suspend, an abort.
+// suspend, an abort; or nothing. `at_bars` and `at_end` compare: brackets come first, then what `end` closes.
 const FIRST: u8 = 0;
 
 const BRANCH: u8 = 1;
@@ -101,7 +101,7 @@ fn stuck() -> Walk
     }
 }
 
-// There is one.
+// There is a way on: what may come next, and how many statements are open then.
 fn goes(mode: Mode, height: usize) -> Walk
     ensures { λ r. ⌜ (r .mode ≡ mode) × (r .height ≡ height) ⌝ }
 {
@@ -480,10 +480,10 @@ fn pass(
     }
 }
 
-// Where the name of the first exit without its trap stands, in a text of the grammar.
+// Where the name of the first exit without its trap stands, in a text of the grammar: at its end if there is none.
 pub fn find_exit(text: &[u8]) -> usize
     requires { ⌜ length (now text) ≤ maxSource ⌝ }
-    ensures { λ r. ⌜ (Fits no-name [] (tokens (now (text .entry))) → r ≡ byteOf (now (text .entry)) (look no-name [] (tokens (now (text .entry))))) ⌝ }
+    ensures { λ r. ⌜ ExitTold (now (text .entry)) r ⌝ }
 {
     let mut levels = [0u16; sheet::ROOM];
     let mut wanted = Wanted::NoName;
@@ -567,7 +567,7 @@ fn is_crowded(
     is_crowding(text, names, start, end)
 }
 
-// Where the name stands with which there are too many signals.
+// Where the name stands with which there are too many signals: at the end of the text if there is none.
 pub fn find_signal(text: &[u8]) -> usize
     requires { ⌜ length (now text) ≤ maxSource ⌝ }
     ensures { λ r. ⌜ r ≡ byteOf (now (text .entry)) (crowdedFrom [] false (tokens (now (text .entry)))) ⌝ }

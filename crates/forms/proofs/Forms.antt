@@ -8,12 +8,14 @@ use lib.Dec.{eqb·zero-suc}
 use borrow.Author.Tests.{ne-eqb}
 use Rattle.codes.proofs.Members.{only-in, upTo-in}
 use Rattle.esterel.specs.Codes.{Codes, only, union, given, withoutEnded, larger, caught}
+use Rattle.esterel.specs.Statement.{leaf, one, two, exit, trap, sequence, parallel}
 use Rattle.esterel.specs.Sets.{startSet}
 use Rattle.grammar.specs.Tree as T
 use Rattle.grammar.specs.Tree.{Tree, Name}
-use Rattle.grammar.specs.Kernel.{added, awaitLoop, expand}
+use Rattle.grammar.specs.Kernel.{Kernel, leaf as leafOf, one as oneOf, two as twoOf, added, awaitLoop, expand}
+use Rattle.grammar.specs.Names.{place}
 use Rattle.grammar.specs.Meaning.{resolve}
-use Rattle.forms.specs.Forms.{Lettered, OfForms}
+use Rattle.forms.specs.Forms.{lift, awaiting, guardedBy, Lettered, OfForms}
 use Rattle.forms.proofs.Exits.{lifts}
 use Rattle.forms.proofs.Sets.{Inserted, of-lift}
 use Rattle.forms.proofs.Letters.{of-text}
@@ -66,10 +68,48 @@ weak-aborts ns ts s p h k =
     ap₂ (λ q b. abortSet (startSet q) b k) (lifts ns ts p h) (waits ns (added ∷ ts) s) ∙ body-again (of-lift 0 (resolve ns ts (expand p))) k
 
 -- a suspend has the start set of its body
-aborts : (ns ts : List Name) (w : T.Strength) (s : Name) (p : Tree) → Lettered p → (k : ℕ) →
+either-aborts : (ns ts : List Name) (w : T.Strength) (s : Name) (p : Tree) → Lettered p → (k : ℕ) →
     startSet (resolve ns ts (expand (T.abort w s p))) k ≡ startSet (resolve ns ts (expand p)) k
-aborts ns ts T.strong s p h k = weak-aborts ns ts s p h k
-aborts ns ts T.weak s p h k = weak-aborts ns ts s p h k
+either-aborts ns ts T.strong s p h k = weak-aborts ns ts s p h k
+either-aborts ns ts T.weak s p h k = weak-aborts ns ts s p h k
+
+-- a start set looks at no signal's number
+unnumbered : (ns ns′ ts : List Name) (p : Kernel) → startSet (resolve ns ts p) ≡ startSet (resolve ns′ ts p)
+unnumbered ns ns′ ts (leafOf T.nothing) = refl
+unnumbered ns ns′ ts (leafOf T.pause) = refl
+unnumbered ns ns′ ts (leafOf (T.emit s)) = refl
+unnumbered ns ns′ ts (leafOf (T.exit t)) = refl
+unnumbered ns ns′ ts (oneOf (T.signal s) p) = unnumbered ns ns′ ts p
+unnumbered ns ns′ ts (oneOf (T.suspend s) p) = unnumbered ns ns′ ts p
+unnumbered ns ns′ ts (oneOf T.loop p) = ap withoutEnded (unnumbered ns ns′ ts p)
+unnumbered ns ns′ ts (oneOf (T.trap t) p) = ap caught (unnumbered ns ns′ (t ∷ ts) p)
+unnumbered ns ns′ ts (twoOf (T.present s) p q) = ap₂ union (unnumbered ns ns′ ts p) (unnumbered ns ns′ ts q)
+unnumbered ns ns′ ts (twoOf T.sequence p q) =
+    ap₂ (λ a b. union (withoutEnded a) (given (a 0) b)) (unnumbered ns ns′ ts p) (unnumbered ns ns′ ts q)
+unnumbered ns ns′ ts (twoOf T.parallel p q) = ap₂ larger (unnumbered ns ns′ ts p) (unnumbered ns ns′ ts q)
+
+aborts : (ns ns′ ts : List Name) (w : T.Strength) (s : Name) (p : Tree) → Lettered p → (k : ℕ) →
+    startSet (resolve ns ts (expand (T.abort w s p))) k ≡ startSet (resolve ns′ ts (expand p)) k
+aborts ns ns′ ts w s p h k = either-aborts ns ts w s p h k ∙ ap (λ (a : Codes). a k) (unnumbered ns ns′ ts (expand p))
+
+-- an abort as a statement: all but its body is so by definition
+abort-is : (ns ts : List Name) (w : T.Strength) (s : Name) (p : Tree) → Lettered p →
+    resolve ns ts (expand (T.abort w s p)) ≡
+    one trap (two parallel (two sequence (guardedBy w (place ns s) (lift 0 (resolve ns ts (expand p)))) (leaf (exit 0))) (awaiting (place ns s)))
+abort-is ns ts T.strong s p h = rw (lifts ns ts p h)
+abort-is ns ts T.weak s p h = rw (lifts ns ts p h)
 
 pub of-forms : OfForms
-of-forms = record { lifts = lifts; halts = halts; sustains = sustains; awaits = awaits; aborts = aborts; ofText = of-text }
+of-forms =
+    record {
+      lifts = lifts;
+      haltIs = λ ns ts. refl;
+      sustainIs = λ ns ts s. refl;
+      awaitIs = λ ns ts s. refl;
+      abortIs = abort-is;
+      halts = halts;
+      sustains = sustains;
+      awaits = awaits;
+      aborts = aborts;
+      ofText = of-text;
+    }

@@ -121,6 +121,19 @@ a-count : VerdictOf (ascii "await 3 S") (refused 20 0) 0 6
 unfolding tokens classOf beginnings byteOf
 a-count = unread (ascii "await 3 S") _ (omega arith) refl
 
+at-once : VerdictOf (ascii "await immediate S") (refused 20 0) 0 6
+unfolding tokens classOf beginnings byteOf
+at-once = unread (ascii "await immediate S") _ (omega arith) refl
+
+foreign-first : VerdictOf (ascii "every") (refused 20 0) 0 0
+unfolding tokens classOf beginnings byteOf
+foreign-first = unread (ascii "every") _ (omega arith) refl
+
+-- a count may be longer than a name
+long-count : VerdictOf (ascii "emit 123456789012345678901234567890123") (refused 20 0) 0 5
+unfolding tokens classOf beginnings byteOf
+long-count = unread (ascii "emit 123456789012345678901234567890123") _ (omega arith) refl
+
 before-point : VerdictOf (ascii "emit 3.5") (refused 20 0) 0 5
 unfolding tokens classOf beginnings byteOf
 before-point = unread (ascii "emit 3.5") _ (omega arith) refl

@@ -1,4 +1,5 @@
 pub mod Runs
+pub mod Words
 pub mod Beginnings
 pub mod Completeness
 pub mod Soundness
@@ -8,13 +9,15 @@ pub mod Nesting
 pub mod Weighing
 pub mod Depth
 pub mod Stops
+pub mod Spelling
 pub mod Viability
+pub mod GoingOn
 pub mod Letters
 pub mod Exits
+pub mod Lost
 pub mod Writing
 pub mod Clipping
 pub mod Order
-pub mod Spelling
 pub mod Printing
 pub mod Saying
 pub mod Theorems

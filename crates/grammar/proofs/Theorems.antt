@@ -27,7 +27,7 @@ use Rattle.grammar.specs.Grammar.{Program}
 use Rattle.grammar.specs.Machine.{Outcome, accepted, stuck, parse}
 use Rattle.grammar.specs.Clipping.{clip}
 use Rattle.grammar.specs.Meaning.{signals, untrapped, resolve, statementOf, checkNesting, verdictOfTree, placeOf, VerdictOf, overlong, faulty, derived}
-use Rattle.grammar.specs.Theorems.{OneDerivation, InGrammar, Refusal, exitUntrapped, outsideGrammar, ofFullLanguage, manySignals, manyNodes, deepNode, manyTraps, OfTexts, Nesting, RoundTrip, OnlyExpressible}
+use Rattle.grammar.specs.Theorems.{OneDerivation, PassesGrammar, Refusal, exitUntrapped, outsideGrammar, ofFullLanguage, manySignals, manyNodes, deepNode, manyTraps, OfTexts, Nesting, RoundTrip, OnlyExpressible}
 use Rattle.grammar.specs.Printing.{named, print, spell, printed, metIn, Expressible}
 use Rattle.grammar.proofs.Spelling.{spelled, spellable, plain, expanded, derivation}
 use Rattle.grammar.proofs.Printing.{nameList, long, signals-named, all-trapped, resolved}
@@ -208,12 +208,12 @@ module _ (text : List ℕ) where
       let s : t ≡ u = one-tree t u (tokens text) d e in
       (ap verdictOfTree s, ap (λ (a : Tree). length (signals a)) s, same-place text t u d e)
 
-  passes-derived : length text ≤ maxSource → (t : Tree) → Program t (tokens text) → InGrammar text
+  passes-derived : length text ≤ maxSource → (t : Tree) → Program t (tokens text) → PassesGrammar text
   passes-derived h t d v n at node (overlong a) = absurd (omega arith)
   passes-derived h t d v n at node (faulty us a f) = absurd (f .underivable t d)
   passes-derived h t d v n at node (derived u l g) = ((λ e. tree-refused u 14 node e .not14 refl), (λ e. tree-refused u 20 node e .not20 refl))
 
-  derived-passes : length text ≤ maxSource → InGrammar text → (t : Tree) × Program t (tokens text)
+  derived-passes : length text ≤ maxSource → PassesGrammar text → (t : Tree) × Program t (tokens text)
   derived-passes l h = go (parse (tokens text)) refl
     where
       go : (o : Outcome) → parse (tokens text) ≡ o → (t : Tree) × Program t (tokens text)
@@ -224,12 +224,31 @@ module _ (text : List ℕ) where
           by (inl f) = h _ _ _ 0 (faulty us l (fault-at (tokens text) us e)) .0 (ap (λ (k : ℕ). refused k 0) f)
           by (inr f) = h _ _ _ 0 (faulty us l (fault-at (tokens text) us e)) .1 (ap (λ (k : ℕ). refused k 0) f)
 
-  twenty-fault : length text ≤ maxSource → (v : Verdict) (n at : ℕ) → VerdictOf text v n at → v ≡ refused 20 0 → (us : List Token) × Fault (tokens text) (foreign ∷ us)
-  twenty-fault h v n at (overlong a) e = absurd (omega arith)
-  twenty-fault h v n at (faulty us a f) e =
+  twenty-fault : (v : Verdict) (n at : ℕ) → VerdictOf text v n at → v ≡ refused 20 0 → (length text ≤ maxSource) × (n ≡ 0) × ((us : List Token) × Fault (tokens text) (foreign ∷ us) × (at ≡ byteOf text (foreign ∷ us)))
+  twenty-fault v n at (overlong a) e = absurd (omega (arith, same-number 14 0 20 0 e))
+  twenty-fault v n at (faulty us a f) e =
       let (more, g) = is-twenty us (same-number (numberOfFault us) 0 20 0 e) in
-      (more, subst (λ (l : List Token). Fault (tokens text) l) g f)
-  twenty-fault h v n at (derived t l d) e = absurd (tree-refused t 20 0 e .not20 refl)
+      (a, refl, (more, subst (λ (l : List Token). Fault (tokens text) l) g f, ap (byteOf text) g))
+  twenty-fault v n at (derived t l d) e = absurd (tree-refused t 20 0 e .not20 refl)
+
+  is-overlong : (v : Verdict) (n at : ℕ) → maxSource < length text → VerdictOf text v n at → (v ≡ refused 14 0) × (at ≡ maxSource)
+  is-overlong v n at h (overlong a) = (refl, refl)
+  is-overlong v n at h (faulty us a f) = absurd (omega arith)
+  is-overlong v n at h (derived t l d) = absurd (omega arith)
+
+  no-place : (v : Verdict) (number node n at : ℕ) → VerdictOf text v n at → v ≡ refused number node → number < 14 → at ≡ 0
+  no-place v number node n at (overlong a) e h = let z : 14 ≡ number = same-number 14 0 number node e in absurd (omega arith)
+  no-place v number node n at (faulty us a f) e h = absurd (by (told-so us))
+    where
+      by : (numberOfFault us ≡ 14) ⊎ (numberOfFault us ≡ 20) → ⊥
+      by (inl g) = omega (arith, same-number (numberOfFault us) 0 number node e)
+      by (inr g) = omega (arith, same-number (numberOfFault us) 0 number node e)
+  no-place v number node n at (derived t l d) e h = go (untrapped [] (expand t)) (ltb maxSignals (length (signals t))) e
+    where
+      go : (b c : Bool) → cond b (refused 15 0) (cond c (refused 16 0) (checkNesting (read (postfix (statementOf t))))) ≡ refused number node → cond b (byteOf text (lostFrom [] d [])) (cond c (byteOf text (crowdedFrom [] false (tokens text))) 0) ≡ 0
+      go true c f = let z : 15 ≡ number = same-number 15 0 number node f in absurd (omega arith)
+      go false true f = let z : 16 ≡ number = same-number 16 0 number node f in absurd (omega arith)
+      go false false f = refl
 
   refusal : (v : Verdict) (number node n at : ℕ) → VerdictOf text v n at → v ≡ refused number node → Refusal number node
   refusal v number node n at (overlong a) e = fault-number [] number node e
@@ -246,7 +265,12 @@ of-texts = record {
   decided = judged;
   oneVerdict = one-verdict;
   inGrammar = λ text h. (derived-passes text h, λ d. passes-derived text h (d .0) (d .1));
-  twenty = λ text h. ((λ j. twenty-fault text h (refused 20 0) (j .0) (j .1) (j .2) refl), (λ f. (0, byteOf text (foreign ∷ f .0), faulty (foreign ∷ f .0) h (f .1))));
+  twenty = λ text n at. (
+    (λ j. twenty-fault text (refused 20 0) n at j refl),
+    (λ f. rw (f .1, f .2 .2) (faulty (foreign ∷ f .2 .0) (f .0) (f .2 .1))),
+  );
+  overlong = is-overlong;
+  unplaced = λ text number node n at j h. no-place text (refused number node) number node n at j refl h;
   refusals = λ text number node n at j. refusal text (refused number node) number node n at j refl;
   program = λ text p n at j. let d = of-derivation text (passed p) p n at j refl in (d .0, d .1, d .2 .is, d .3);
   onlyEleven = λ text p n at number node j e. let d = of-derivation text (passed p) p n at j refl in only-eleven (d .0) p number node (d .2) e;

@@ -4,32 +4,53 @@ use mathlib.Core.Logic.{_⊎_, inl, inr}
 use mathlib.Core.List.{List, [], _∷_, _++_, append-assoc, append-nil}
 use Prim.Native.Nat.{ℕ}
 use native.Mathlib.Omega.{arith}
-use Rattle.grammar.specs.Tokens.{Token, opening, mark, name, nothing, signal, trap, abort, weak, bars, close, in-mark, then, end, when}
+use Rattle.grammar.specs.Tokens.{Token, opening, mark, name, Opening, Mark, nothing, signal, trap, abort, weak, bars, close, in-mark, then, end, when}
 use Rattle.grammar.specs.Tree as T
 use Rattle.grammar.specs.Tree.{Tree, Name}
 use Rattle.grammar.specs.Grammar.{Program}
 use Rattle.grammar.specs.Machine.{Before, alone, after, Open, top, within, branch, body, thenBranch, elseBranch, suspended, aborted, Wanting, anEmit, anExit, aSignal, aTrap, aPresent, aSuspend, aSustain, anAwait, anAbort, State, expect, have, wantName, wantIn, wantBranch, wantEnd, wantAbort, Next, to, no-way, next, Outcome, accepted, stuck, finish, takeStep, run, parse}
 use Rattle.grammar.specs.Faults.{CanGoOn, Fault}
+use Rattle.grammar.specs.Printing.{nameOf}
 use Rattle.grammar.specs.Theorems.{OneFault}
 use Rattle.grammar.proofs.Completeness.{complete}
 use Rattle.grammar.proofs.Soundness.{sound}
 use Rattle.grammar.proofs.Stops.{refuses}
+use Rattle.grammar.proofs.Spelling.{Spellable}
 
--- a name of one letter, for what is still to be named
-blankName : Name
-blankName = 65 ∷ []
+-- a name for what is still to be named
+abbrev blankName : Name
+blankName = nameOf 0
 
+-- some tokens, which a text spells, lead from a state to a program
 pub record Ending (s : State) : Type 0 where
   pub tokens : List Token
   pub tree : Tree
   pub reads : run s tokens ≡ accepted tree
+  pub spellable : Spellable tokens
 
--- before an ending of the next state
-prefixed : {s s' : State} (t : Token) → next s t ≡ to s' → Ending s' → Ending s
-prefixed t e d = record {
-  tokens = t ∷ (d .tokens);
+-- before an ending of the next state: an opening, a mark, or the name
+opened : {s s' : State} (o : Opening) → next s (opening o) ≡ to s' → Ending s' → Ending s
+opened o e d = record {
+  tokens = opening o ∷ (d .tokens);
   tree = d .tree;
   reads = rw e (d .reads);
+  spellable = d .spellable;
+}
+
+marked : {s s' : State} (m : Mark) → next s (mark m) ≡ to s' → Ending s' → Ending s
+marked m e d = record {
+  tokens = mark m ∷ (d .tokens);
+  tree = d .tree;
+  reads = rw e (d .reads);
+  spellable = d .spellable;
+}
+
+called : {s s' : State} → next s (name blankName) ≡ to s' → Ending s' → Ending s
+called e d = record {
+  tokens = name blankName ∷ (d .tokens);
+  tree = d .tree;
+  reads = rw e (d .reads);
+  spellable = ((0, refl), d .spellable);
 }
 
 -- what closes the open statements
@@ -38,38 +59,39 @@ closing top p = record {
   tokens = [];
   tree = p;
   reads = refl;
+  spellable = tt;
 }
 closing (within (branch alone) b k) p =
-    prefixed (mark bars) refl (prefixed (opening nothing) refl (prefixed (mark close) refl (closing k _)))
-closing (within (branch (after l)) b k) p = prefixed (mark close) refl (closing k _)
-closing (within (body u) b k) p = prefixed (mark end) refl (closing k _)
-closing (within (thenBranch s) b k) p = prefixed (mark end) refl (closing k _)
-closing (within (elseBranch s q) b k) p = prefixed (mark end) refl (closing k _)
-closing (within suspended b k) p = prefixed (mark when) refl (prefixed (name blankName) refl (closing k _))
-closing (within (aborted w) b k) p = prefixed (mark when) refl (prefixed (name blankName) refl (prefixed (mark end) refl (closing k _)))
+    marked bars refl (opened nothing refl (marked close refl (closing k _)))
+closing (within (branch (after l)) b k) p = marked close refl (closing k _)
+closing (within (body u) b k) p = marked end refl (closing k _)
+closing (within (thenBranch s) b k) p = marked end refl (closing k _)
+closing (within (elseBranch s q) b k) p = marked end refl (closing k _)
+closing (within suspended b k) p = marked when refl (called refl (closing k _))
+closing (within (aborted w) b k) p = marked when refl (called refl (marked end refl (closing k _)))
 
 expecting : (b : Before) (k : Open) → Ending (expect b k)
-expecting b k = prefixed (opening nothing) refl (closing k _)
+expecting b k = opened nothing refl (closing k _)
 
 naming : (w : Wanting) (b : Before) (k : Open) → Ending (wantName w b k)
-naming anEmit b k = prefixed (name blankName) refl (closing k _)
-naming anExit b k = prefixed (name blankName) refl (closing k _)
-naming aSignal b k = prefixed (name blankName) refl (prefixed (mark in-mark) refl (expecting alone (within (body (T.signal blankName)) b k)))
-naming aTrap b k = prefixed (name blankName) refl (prefixed (mark in-mark) refl (expecting alone (within (body (T.trap blankName)) b k)))
-naming aPresent b k = prefixed (name blankName) refl (prefixed (mark then) refl (expecting alone (within (thenBranch blankName) b k)))
-naming (aSuspend p) b k = prefixed (name blankName) refl (closing k _)
-naming aSustain b k = prefixed (name blankName) refl (closing k _)
-naming anAwait b k = prefixed (name blankName) refl (closing k _)
-naming (anAbort w p) b k = prefixed (name blankName) refl (prefixed (mark end) refl (closing k _))
+naming anEmit b k = called refl (closing k _)
+naming anExit b k = called refl (closing k _)
+naming aSignal b k = called refl (marked in-mark refl (expecting alone (within (body (T.signal blankName)) b k)))
+naming aTrap b k = called refl (marked in-mark refl (expecting alone (within (body (T.trap blankName)) b k)))
+naming aPresent b k = called refl (marked then refl (expecting alone (within (thenBranch blankName) b k)))
+naming (aSuspend p) b k = called refl (closing k _)
+naming aSustain b k = called refl (closing k _)
+naming anAwait b k = called refl (closing k _)
+naming (anAbort w p) b k = called refl (marked end refl (closing k _))
 
-ending : (s : State) → Ending s
+pub ending : (s : State) → Ending s
 ending (expect b k) = expecting b k
 ending (have p k) = closing k p
 ending (wantName w b k) = naming w b k
-ending (wantIn u b k) = prefixed (mark in-mark) refl (expecting alone (within (body u) b k))
-ending (wantBranch s b k) = prefixed (mark then) refl (expecting alone (within (thenBranch s) b k))
-ending (wantEnd p b k) = prefixed (mark end) refl (closing k _)
-ending (wantAbort b k) = prefixed (opening abort) refl (expecting alone (within (aborted T.weak) b k))
+ending (wantIn u b k) = marked in-mark refl (expecting alone (within (body u) b k))
+ending (wantBranch s b k) = marked then refl (expecting alone (within (thenBranch s) b k))
+ending (wantEnd p b k) = marked end refl (closing k _)
+ending (wantAbort b k) = opened abort refl (expecting alone (within (aborted T.weak) b k))
 
 -- where the machine stops: it passes xs, whatever follows, to a state that has no way on
 pub record Stops (s : State) (ts rest : List Token) : Type 0 where
@@ -182,6 +204,14 @@ same-fault a (t ∷ b) (u ∷ c) us vs e g h i j =
 
 pub one-fault : (ts us vs : List Token) → Fault ts us → Fault ts vs → us ≡ vs
 one-fault ts us vs f g = same-fault [] (f .before) (g .before) us vs (sym (f .split) ∙ g .split) (f .goesOn) (g .goesOn) (f .stops) (g .stops)
+
+-- and it is where the machine is stuck
+pub fault-stuck : (ts us : List Token) → Fault ts us → parse ts ≡ stuck us
+fault-stuck ts us f = go (parse ts) refl
+  where
+    go : (o : Outcome) → parse ts ≡ o → parse ts ≡ stuck us
+    go (accepted t) e = absurd (f .underivable t (sound t ts e))
+    go (stuck vs) e = e ∙ ap stuck (one-fault ts vs us (fault-at ts vs e) f)
 
 pub of-faults : OneFault
 of-faults = record { either = fault-or-tree; oneFault = one-fault }

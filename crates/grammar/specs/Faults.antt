@@ -58,7 +58,7 @@ lostFrom ts (a-sequence d e) later = lostFrom ts d (lostFrom ts e later)
 lostFrom ts (a-pair d e) later = lostFrom ts d (lostFrom ts e later)
 lostFrom ts (a-branch d e) later = lostFrom ts d (lostFrom ts e later)
 
--- The tokens whose name, right after them, is a signal's.
+-- Whether the name right after a word or sign is a signal's.
 abbrev pub opensSignal : Opening → Bool
 opensSignal nothing = false
 opensSignal pause = false

@@ -1,4 +1,4 @@
--- The same in the kernel, still with names, and what the forms of the everyday dialect stand for there (F-9): Berry's definitions.
+-- Statements of the kernel, still with names, and what the forms of the everyday dialect stand for there (F-9): Berry's definitions.
 use Rattle.grammar.specs.Tree as T
 use Rattle.grammar.specs.Tree.{Tree, Name, Leaf, Unary, Binary}
 use mathlib.Core.List.{[]}

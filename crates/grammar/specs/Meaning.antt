@@ -72,17 +72,17 @@ abbrev pub checkNesting : Verdict → Verdict
 checkNesting (refused number node) = refused number node
 checkNesting (passed p) = refuseAt 8 (firstNode tooDeep (placesOf p) 0) (refuseAt 9 (firstNode tooManyTraps (placesOf p) 0) (passed p))
 
+-- what is told of a tree by 15, by 16, or by neither
+abbrev pub byNames : {A : Type 0} → Tree → (lost crowded neither : A) → A
+byNames t lost crowded neither = cond (untrapped [] (expand t)) lost (cond (ltb maxSignals (length (signals t))) crowded neither)
+
 -- 15, 16, then the checks of the statement's table: 1, 8 and 9
 abbrev pub verdictOfTree : Tree → Verdict
-verdictOfTree t =
-    cond (untrapped [] (expand t)) (refused 15 0)
-    (cond (ltb maxSignals (length (signals t))) (refused 16 0) (checkNesting (read (postfix (statementOf t)))))
+verdictOfTree t = byNames t (refused 15 0) (refused 16 0) (checkNesting (read (postfix (statementOf t))))
 
 -- the byte where a derivation of a text is at fault: the name of an exit, or of a signal, for 15 and 16
 abbrev pub placeOf : (text : List ℕ) {t : Tree} → Program t (tokens text) → ℕ
-placeOf text {t = t} d =
-    cond (untrapped [] (expand t)) (byteOf text (lostFrom [] d []))
-    (cond (ltb maxSignals (length (signals t))) (byteOf text (crowdedFrom [] false (tokens text))) 0)
+placeOf text {t = t} d = byNames t (byteOf text (lostFrom [] d [])) (byteOf text (crowdedFrom [] false (tokens text))) 0
 
 -- The verdict of a text, the number of its signals, and the byte where it is at fault, which is 0 where none is named. A text over the length is
 -- refused 14, at the first byte over it; one that has no derivation 14 or 20; any other is told what its derivation's tree is told.

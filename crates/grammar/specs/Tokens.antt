@@ -78,7 +78,7 @@ isLetter b = (leb (code "A") b && leb b (code "Z")) || (leb (code "a") b && leb 
 abbrev pub isDigit : ℕ → Bool
 isDigit b = leb (code "0") b && leb b (code "9")
 
--- a count is a run of digits
+-- digits alone: a word that is so is a count
 abbrev pub isCount : List ℕ → Bool
 isCount [] = true
 isCount (b ∷ w) = isDigit b && isCount w

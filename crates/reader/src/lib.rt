@@ -207,6 +207,9 @@ fn open(text: &[u8], at: usize) -> Opened
     }
 }
 
+// The forms of the dialect as nodes, of which the longest, an abort, adds 11. Each of these functions asks that 16 more can be
+// counted, and the one that they share, for the await loop, 12: more than they need, and one number for all.
+
 // `halt`: a loop of pause.
 fn put_halt(nodes: usize, sheet: &mut [u16; sheet::ROOM]) -> usize
     requires { ⌜ nodes + 16 ≤ maxCounted ⌝ }

@@ -63,6 +63,6 @@ unread x old number place room short h f = go (parse (tokens x)) refl
     go : (o : Outcome) → parse (tokens x) ≡ o → ReadAs x old old (Refused number 0 place)
     go (accepted t) e = absurd (h t (sound t (tokens x) e))
     go (stuck us) e =
-        let p = f us e in
+        let p = f us (fault-at (tokens x) us e) in
         let z : Refused number 0 place ≡ Refused (numberOfFault us) 0 (byteOf x us) = rw (p .0, p .1) in
         judged (refused (numberOfFault us) 0) 0 (byteOf x us) room (faulty us short (fault-at (tokens x) us e)) (z, refl)

@@ -9,13 +9,11 @@ use lib.Dec.{ltb}
 use lib.ListN.{length, getD, take, drop}
 use lib.Seq.{take-at}
 use borrow.Author.Tests.{lt-ltb, le-ltb, ltb-true, ltb-false}
-use Rattle.grammar.specs.Limits.{maxSource}
 use Rattle.grammar.specs.Tree.{Tree}
 use Rattle.grammar.specs.Tokens.{tokens, byteOf}
 use Rattle.grammar.specs.Kernel.{expand}
 use Rattle.grammar.specs.Grammar.{Program}
 use Rattle.grammar.specs.Faults.{crowdedFrom}
-use Rattle.grammar.specs.Search.{no-name, look, Room}
 use Rattle.esterel.specs.Limits.{maxNodes, signals as maxSignals}
 use Rattle.esterel.specs.Statement.{size}
 use Rattle.esterel.specs.Codes.{empty}
@@ -27,11 +25,8 @@ use Rattle.grammar.specs.Meaning.{signals, untrapped, statementOf, checkNesting
 use Rattle.grammar.specs.Progress.{past, blank}
 use Rattle.grammar.specs.Clipping.{lowBytes, clip}
 use Rattle.grammar.proofs.Writing.{written, longer-same}
-use Rattle.grammar.proofs.Completeness.{complete}
-use Rattle.grammar.proofs.Depth.{few-levels}
-use Rattle.grammar.proofs.Letters.{lettered}
-use Rattle.grammar.proofs.Exits.{look-finds, look-fits}
 use Rattle.grammar.proofs.Clipping.{low-postfix, size-clip, same-first, deep-blind, traps-blind, none-first, first-none, caught, clip-same}
+use Rattle.fault.specs.Walking.{ExitTold}
 use Rattle.sheet.specs.Sheet.{signalCount, untrappedAt, Filled, flag}
 use Rattle.table.specs.Program.{programIn, programOf, Readable}
 use Rattle.table.specs.Check.{passIf, refuseFound, placesCheck}
@@ -48,10 +43,8 @@ use Rattle.text.proofs.Bytes.{take-low, take-is}
 
 -- where a derivation is at fault
 module _ (x : List ℕ) (t : Tree) (d : Program t (tokens x)) where
-  pub place-lost : length x ≤ maxSource → untrapped [] (expand t) ≡ true → (place : ℕ) → (Room no-name [] (tokens x) → place ≡ byteOf x (look no-name [] (tokens x))) → place ≡ placeOf x d
-  place-lost h e place f =
-      let g : place ≡ byteOf x (look no-name [] (tokens x)) = f (look-fits t (tokens x) d (few-levels x t h (complete t (tokens x) d))) in
-      rw e (g ∙ ap (byteOf x) (look-finds t (tokens x) d (lettered x)))
+  pub place-lost : untrapped [] (expand t) ≡ true → (place : ℕ) → ExitTold x place → place ≡ placeOf x d
+  place-lost e place f = rw e (f t d)
 
   pub place-many : untrapped [] (expand t) ≡ false → ltb maxSignals (length (signals t)) ≡ true → byteOf x (crowdedFrom [] false (tokens x)) ≡ placeOf x d
   place-many e f = rw (e, f)
@@ -116,11 +109,11 @@ module _ (x w : List ℕ) (n : ℕ) (t : Tree) (c : Filled x w n [] (past [] (ex
     refuse-with : (number node place : ℕ) (m : ℕ) (old : List ℕ) → place ≡ placeOf x d → verdictOfTree t ≡ refused number node → Told (verdictOfTree t) m (placeOf x d) old old (Refused number node place)
     refuse-with number node place m old p e = rw (e, p) (refl, refl)
 
-    pub told-lost : (a : ℕ) → a ≡ getD w untrappedAt 0 → (a ≡ 0 → ⊥) → (old : List ℕ) (place : ℕ) → (Room no-name [] (tokens x) → place ≡ byteOf x (look no-name [] (tokens x))) → Told (verdictOfTree t) (length (signals t)) (placeOf x d) old old (Refused 15 0 place)
+    pub told-lost : (a : ℕ) → a ≡ getD w untrappedAt 0 → (a ≡ 0 → ⊥) → (old : List ℕ) (place : ℕ) → ExitTold x place → Told (verdictOfTree t) (length (signals t)) (placeOf x d) old old (Refused 15 0 place)
     told-lost a is h old place f = go (untrapped [] (expand t)) refl
       where
         go : (b : Bool) → untrapped [] (expand t) ≡ b → Told (verdictOfTree t) (length (signals t)) (placeOf x d) old old (Refused 15 0 place)
-        go true e = refuse-with 15 0 place (length (signals t)) old (place-lost x t d (c .short) e place f) (rw e)
+        go true e = refuse-with 15 0 place (length (signals t)) old (place-lost x t d e place f) (rw e)
         go false e = absurd (h (is ∙ lost-is ∙ ap flag e))
 
     module _ (a : ℕ) (a-is : a ≡ getD w untrappedAt 0) (a-none : a ≡ 0) (m : ℕ) (m-is : m ≡ getD w signalCount 0) where

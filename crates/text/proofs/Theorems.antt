@@ -2,33 +2,34 @@
 use mathlib.Core.Path.{_≡_, refl, sym, ap, _∙_}
 use mathlib.Core.Logic.{_↔_, _⊎_, inl, inr}
 use mathlib.Core.Bool.{Bool, true, false, cond}
-use mathlib.Core.List.{List, []}
+use mathlib.Core.List.{List, [], _∷_}
 use Prim.Native.Nat.{ℕ, _*_, _≤_, _<_}
 use native.Mathlib.Omega.{arith}
 use lib.Dec.{ltb}
 use lib.ListN.{length, take, drop, length-append}
 use lib.Seq.{take-at}
+use borrow.Author.Tests.{ltb-true}
 use Rattle.esterel.specs.Limits.{maxNodes, signals as maxSignals}
 use Rattle.esterel.specs.Statement.{Stmt, size}
 use Rattle.esterel.specs.Table.{Verdict, passed, refused, read, postfix}
 use Rattle.esterel.specs.Checks.{verdict}
 use Rattle.esterel.proofs.Reading.{length-postfix}
 use Rattle.grammar.specs.Limits.{maxSource}
-use Rattle.grammar.specs.Tokens.{Token, tokens, byteOf}
+use Rattle.grammar.specs.Tokens.{Token, foreign, tokens, byteOf}
 use Rattle.grammar.specs.Tree.{Tree}
 use Rattle.grammar.specs.Grammar.{Program}
 use Rattle.grammar.specs.Kernel.{expand}
 use Rattle.grammar.specs.Faults.{Fault, numberOfFault, lostFrom, crowdedFrom}
 use Rattle.grammar.specs.Meaning.{signals, untrapped, statementOf, checkNesting, verdictOfTree, VerdictOf, overlong, faulty, derived}
 use Rattle.grammar.specs.Theorems.{Refusal, outsideGrammar, ofFullLanguage, exitUntrapped, manySignals, manyNodes, deepNode, manyTraps}
-use Rattle.grammar.proofs.Completeness.{one-tree}
 use Rattle.grammar.proofs.Viability.{of-faults}
 use Rattle.grammar.proofs.Beginnings.{within-text}
-use Rattle.grammar.proofs.Theorems.{of-texts, program-few, told-so, same-place, table-refused}
+use Rattle.grammar.proofs.Lost.{at-names}
+use Rattle.grammar.proofs.Theorems.{of-texts, program-few, told-so, table-refused}
 use Rattle.text.specs.declared.Reading.{Reading}
 use Rattle.text.specs.declared.Reading.the-variants.{Done, Refused}
 use Rattle.text.specs.Reading.{Told, ReadAs, short, judged}
-use Rattle.text.specs.Theorems.{Wrote, Number, shortTable, ofText, OfRead}
+use Rattle.text.specs.Theorems.{Wrote, AtExit, AtSignal, Number, shortTable, ofText, OfRead}
 
 -- what is told by one verdict
 one-told : (v : Verdict) (n at : ℕ) (old new new′ : List ℕ) (r r′ : Reading) → Told v n at old new r → Told v n at old new′ r′ → (new ≡ new′) × (r ≡ r′)
@@ -134,13 +135,52 @@ is-refused text old new number node place (judged (refused k i) m at h j a) =
     let l = inside text (refused k i) m at j in
     (a .1, ofText r, below r, omega (arith, e .2, l .0), omega (arith, e .2, l .1))
 
--- 14 and 20
-in-grammar : (text old new : List ℕ) (r : Reading) → 2 * maxNodes ≤ length old → length text ≤ maxSource → ReadAs text old new r → ((us : List Token) × Fault (tokens text) us × (r ≡ Refused (numberOfFault us) 0 (byteOf text us))) ↔ ((t : Tree) → Program t (tokens text) → ⊥)
-in-grammar text old new r room h c = ((λ f. f .1 .underivable), (λ d. from d (of-faults .either (tokens text))))
+-- 14 and 20: a text with a fault is told so
+at-fault : (text old new : List ℕ) (r : Reading) (us : List Token) → 2 * maxNodes ≤ length old → length text ≤ maxSource → Fault (tokens text) us → ReadAs text old new r → r ≡ Refused (numberOfFault us) 0 (byteOf text us)
+at-fault text old new r us room h f c =
+    determined text old new old r (Refused (numberOfFault us) 0 (byteOf text us)) c (judged (refused (numberOfFault us) 0) 0 (byteOf text us) room (faulty us h f) (refl, refl)) .1
+
+-- and one with a derivation is told neither
+no-fault : (text old new : List ℕ) (number place : ℕ) → (number ≡ 14) ⊎ (number ≡ 20) → length text ≤ maxSource → ReadAs text old new (Refused number 0 place) → (t : Tree) → Program t (tokens text) → ⊥
+no-fault text old new number place (inl e) h (short l a) t d = omega (arith, e, same-refusal number 0 place 3 0 0 (a .0) .0)
+no-fault text old new number place (inr e) h (short l a) t d = omega (arith, e, same-refusal number 0 place 3 0 0 (a .0) .0)
+no-fault text old new number place n h (judged (passed p) m at l j a) t d = not-done (sym (a .0))
+no-fault text old new number place n h (judged (refused k i) m at l j a) t d = by n (of-texts .inGrammar text h .1 (t, d) (refused k i) m at i j)
   where
-    from : ((t : Tree) → Program t (tokens text) → ⊥) → ((us : List Token) × Fault (tokens text) us) ⊎ ((t : Tree) × Program t (tokens text)) → (us : List Token) × Fault (tokens text) us × (r ≡ Refused (numberOfFault us) 0 (byteOf text us))
-    from d (inl f) = (f .0, f .1, determined text old new old r (Refused (numberOfFault (f .0)) 0 (byteOf text (f .0))) c (judged (refused (numberOfFault (f .0)) 0) 0 (byteOf text (f .0)) room (faulty (f .0) h (f .1)) (refl, refl)) .1)
+    same : number ≡ k
+    same = same-refusal number 0 place k i at (a .0) .0
+
+    by : (number ≡ 14) ⊎ (number ≡ 20) → ((refused k i ≡ refused 14 i → ⊥) × (refused k i ≡ refused 20 i → ⊥)) → ⊥
+    by (inl e) g = g .0 (ap (λ (z : ℕ). refused z i) (sym same ∙ e))
+    by (inr e) g = g .1 (ap (λ (z : ℕ). refused z i) (sym same ∙ e))
+
+in-grammar : (text old new : List ℕ) (r : Reading) → 2 * maxNodes ≤ length old → length text ≤ maxSource → ReadAs text old new r → ((number : ℕ) × (place : ℕ) × ((number ≡ 14) ⊎ (number ≡ 20)) × (r ≡ Refused number 0 place)) ↔ ((t : Tree) → Program t (tokens text) → ⊥)
+in-grammar text old new r room h c = ((λ f. no-fault text old new (f .0) (f .1) (f .2) h (rw (f .3) at c)), (λ d. from d (of-faults .either (tokens text))))
+  where
+    from : ((t : Tree) → Program t (tokens text) → ⊥) → ((us : List Token) × Fault (tokens text) us) ⊎ ((t : Tree) × Program t (tokens text)) → (number : ℕ) × (place : ℕ) × ((number ≡ 14) ⊎ (number ≡ 20)) × (r ≡ Refused number 0 place)
+    from d (inl f) = (numberOfFault (f .0), byteOf text (f .0), told-so (f .0), at-fault text old new r (f .0) room h (f .1) c)
     from d (inr t) = absurd (d (t .0) (t .1))
+
+twenty-told : (text old new : List ℕ) (place : ℕ) → ReadAs text old new (Refused 20 0 place) → (length text ≤ maxSource) × ((us : List Token) × Fault (tokens text) (foreign ∷ us))
+twenty-told text old new place (short l a) = absurd (omega (arith, same-refusal 20 0 place 3 0 0 (a .0) .0))
+twenty-told text old new place (judged (passed p) m at l j a) = not-done (sym (a .0))
+twenty-told text old new place (judged (refused k i) m at l j a) =
+    let e = same-refusal 20 0 place k i at (a .0) in
+    let f = of-texts .twenty text m at .0 (rw (← e .0, ← e .1) at j) in
+    (f .0, (f .2 .0, f .2 .1))
+
+twenty : (text old new : List ℕ) (r : Reading) → 2 * maxNodes ≤ length old → ReadAs text old new r → ((place : ℕ) × (r ≡ Refused 20 0 place)) ↔ ((length text ≤ maxSource) × ((us : List Token) × Fault (tokens text) (foreign ∷ us)))
+twenty text old new r room c = ((λ f. twenty-told text old new (f .0) (rw (f .1) at c)), (λ f. (byteOf text (foreign ∷ f .1 .0), at-fault text old new r (foreign ∷ f .1 .0) room (f .0) (f .1 .1) c)))
+
+too-long : (text old new : List ℕ) (r : Reading) → 2 * maxNodes ≤ length old → maxSource < length text → ReadAs text old new r → r ≡ Refused 14 0 maxSource
+too-long text old new r room h c = determined text old new old r (Refused 14 0 maxSource) c (judged (refused 14 0) 0 maxSource room (overlong h) (refl, refl)) .1
+
+no-place : (text old new : List ℕ) (number node place : ℕ) → ReadAs text old new (Refused number node place) → number < 14 → place ≡ 0
+no-place text old new number node place (short l a) h = same-refusal number node place 3 0 0 (a .0) .2
+no-place text old new number node place (judged (passed p) m at l j a) h = not-done (sym (a .0))
+no-place text old new number node place (judged (refused k i) m at l j a) h =
+    let e = same-refusal number node place k i at (a .0) in
+    e .2 ∙ of-texts .unplaced text k i m at j (omega (arith, e .0))
 
 -- 15 and 16: by the checks of the tree
 not-number : {A : Type 0} (a b : ℕ) → (a ≡ b → ⊥) → {node i : ℕ} → refused a node ≡ refused b i → A
@@ -172,29 +212,35 @@ of-fault us number node f g e = by (told-so us)
     by (inl z) = absurd (f (sym same ∙ z))
     by (inr z) = absurd (g (sym same ∙ z))
 
-lost-place : (text : List ℕ) (t : Tree) (d : Program t (tokens text)) (v : Verdict) (n at node : ℕ) → VerdictOf text v n at → v ≡ refused 15 node → at ≡ byteOf text (lostFrom [] d [])
-lost-place text t d v n at node (overlong a) e = not-number 14 15 (λ z. omega arith) e
-lost-place text t d v n at node (faulty us l f) e = absurd (f .underivable t d)
-lost-place text t d v n at node (derived u l g) e = same-place text u t g d ∙ rw (tree-lost t node (ap verdictOfTree (one-tree t u (tokens text) d g) ∙ e))
+lost-place : (text : List ℕ) (v : Verdict) (n at node : ℕ) → VerdictOf text v n at → v ≡ refused 15 node → AtExit text at
+lost-place text v n at node (overlong a) e = not-number 14 15 (λ z. omega arith) e
+lost-place text v n at node (faulty us l f) e = of-fault us 15 node (λ z. omega arith) (λ z. omega arith) e
+lost-place text v n at node (derived t l d) e =
+    let u : untrapped [] (expand t) ≡ true = tree-lost t node e in
+    let (before, m, us, split, first) = at-names .lost (tokens text) t d u in
+    record { tree = t; derivation = d; before = before; exitName = m; rest = us; split = split; first = first; placeIs = rw u (ap (byteOf text) first) }
 
-many-place : (text : List ℕ) (v : Verdict) (n at node : ℕ) → VerdictOf text v n at → v ≡ refused 16 node → at ≡ byteOf text (crowdedFrom [] false (tokens text))
+many-place : (text : List ℕ) (v : Verdict) (n at node : ℕ) → VerdictOf text v n at → v ≡ refused 16 node → AtSignal text at
 many-place text v n at node (overlong a) e = not-number 14 16 (λ z. omega arith) e
 many-place text v n at node (faulty us l f) e = of-fault us 16 node (λ z. omega arith) (λ z. omega arith) e
-many-place text v n at node (derived u l g) e = let m = tree-many u node e in rw (m .0, m .1)
+many-place text v n at node (derived t l d) e =
+    let m = tree-many t node e in
+    let (before, s, us, split, first, few, many) = at-names .crowded (tokens text) t d (ltb-true maxSignals (length (signals t)) (m .1)) in
+    record { before = before; signalName = s; rest = us; split = split; few = few; many = many; placeIs = rw (m .0, m .1) (ap (byteOf text) first) }
 
-fifteen : (text old new : List ℕ) (t : Tree) (d : Program t (tokens text)) (node place : ℕ) → length text ≤ maxSource → ReadAs text old new (Refused 15 node place) → place ≡ byteOf text (lostFrom [] d [])
-fifteen text old new t d node place l (short h a) = let e = same-refusal 15 node place 3 0 0 (a .0) in absurd (omega (arith, e .0))
-fifteen text old new t d node place l (judged (passed p) m at h j a) = not-done (sym (a .0))
-fifteen text old new t d node place l (judged (refused k i) m at h j a) =
+fifteen : (text old new : List ℕ) (node place : ℕ) → ReadAs text old new (Refused 15 node place) → AtExit text place
+fifteen text old new node place (short h a) = let e = same-refusal 15 node place 3 0 0 (a .0) in absurd (omega (arith, e .0))
+fifteen text old new node place (judged (passed p) m at h j a) = not-done (sym (a .0))
+fifteen text old new node place (judged (refused k i) m at h j a) =
     let e = same-refusal 15 node place k i at (a .0) in
-    e .2 ∙ lost-place text t d (refused k i) m at i j (ap (λ (z : ℕ). refused z i) (sym (e .0)))
+    rw (e .2) (lost-place text (refused k i) m at i j (ap (λ (z : ℕ). refused z i) (sym (e .0))))
 
-sixteen : (text old new : List ℕ) (node place : ℕ) → ReadAs text old new (Refused 16 node place) → place ≡ byteOf text (crowdedFrom [] false (tokens text))
+sixteen : (text old new : List ℕ) (node place : ℕ) → ReadAs text old new (Refused 16 node place) → AtSignal text place
 sixteen text old new node place (short h a) = let e = same-refusal 16 node place 3 0 0 (a .0) in absurd (omega (arith, e .0))
 sixteen text old new node place (judged (passed p) m at h j a) = not-done (sym (a .0))
 sixteen text old new node place (judged (refused k i) m at h j a) =
     let e = same-refusal 16 node place k i at (a .0) in
-    e .2 ∙ many-place text (refused k i) m at i j (ap (λ (z : ℕ). refused z i) (sym (e .0)))
+    rw (e .2) (many-place text (refused k i) m at i j (ap (λ (z : ℕ). refused z i) (sym (e .0))))
 
 pub of-read : OfRead
 of-read = record {
@@ -204,8 +250,12 @@ of-read = record {
   onlyEleven = only-eleven;
   refused = is-refused;
   inGrammar = in-grammar;
+  atFault = at-fault;
+  twenty = twenty;
+  overlong = too-long;
   fifteen = fifteen;
   sixteen = sixteen;
+  unplaced = no-place;
 }
 
 -- the numbers as numbers

@@ -89,7 +89,7 @@ fn check_nesting(sheet: &[u16; sheet::ROOM], end: usize) -> Check
     survey.check
 }
 
-// The refusal that a check answers. It is not asked of one that passed.
+// The refusal that a check answers, with its place in the text. It is not asked of a check that passed.
 fn refused(check: Check, place: usize) -> Reading
     ensures { λ r. ⌜ r ≡ refusalOf check place ⌝ }
 {
