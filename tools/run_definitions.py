@@ -6,16 +6,19 @@
 
 Each vector becomes a theorem `what the definitions give ≡ what is expected`, proved by refl, so that the checker has to
 compute the definitions. All is written to a temporary repository, which has copies of crates/codes, crates/esterel,
-crates/grammar, crates/starts, crates/blocks and crates/tied, and of what it stands on. The theorem listing17 is the vector in line 17 of the listings; edges are numbered as
-they stand below.
+crates/grammar, crates/starts, crates/blocks and crates/tied, and of what it stands on. The theorem listing17 is the vector
+in line 17 of the listings; edges are numbered as they stand below.
+
 A text's derivation cannot be computed: its tree is the one that the machine of crates/grammar finds, of which it is proved
-that it finds exactly the derivations, and that it is stuck at the first token with which the text can't go on; where an exit has no
-trap, its name is found by the search of crates/grammar, which is proved to find the one that the derivation names. Texts of F-1 that
-use a word of F-9 as a name, or have a count, are passed over: the files of F-9 have such. Of a tick that is shown, the rules are run with its list (tick17); where table and list are
-small, all lists that come before it are run too, in their order, until one leads there (first17). Whether a list leads there is
-asked by a test here, which is proved to say what `Leads` does; so is the test whether a node stands at two places of a trail, which tells
-of each instant of a run (run17) what is entered twice. Of the 65,536 editions of a file of blocks (block17) only those that its blocks name
-are tried, from the highest down: no other is whole, which crates/blocks proves.
+that it finds exactly the derivations, and that it is stuck at the first token with which the text can't go on; where an exit
+has no trap, its name is found by the search of crates/grammar, which is proved to find the one that the derivation names.
+Texts of F-1 that use a word of F-9 as a name, or have a count, are passed over: the files of F-9 have such.
+
+Of a tick that is shown, the rules are run with its list (tick17); where table and list are small, all lists that come before
+it are run too, in their order, until one leads there (first17). Whether a list leads there is asked by a test here, which is
+proved to say what `Leads` does; so is the test whether a node stands at two places of a trail, which tells of each instant of
+a run (run17) what is entered twice. Of the 65,536 editions of a file of blocks (block17) only those that its blocks name are
+tried, from the highest down: no other is whole, which crates/blocks proves.
 """
 import argparse, collections, json, os, random, re, shutil, subprocess, sys, tempfile, time
 from pathlib import Path
@@ -115,7 +118,7 @@ placed text (M.accepted t) =
 placed text (M.stuck us) = refusedAt (numberOfFault us) (byteOf text us)
 
 abbrev pub readPlace : List ℕ → Shown
-readPlace text = placed text (M.parse (tokens text))
+readPlace text = cond (ltb maxSource (length text)) (refusedAt 14 maxSource) (placed text (M.parse (tokens text)))
 
 -- F-2: whether a run took all answers and gave code 0. Where it says so, the list is one that `Leads` (crates/starts), and the other way
 -- round.

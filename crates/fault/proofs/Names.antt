@@ -46,22 +46,39 @@ use Rattle.fault.proofs.Reaching.{TokenAt, reached-first, reached-next,
 pub level-entered : (x : List ℕ) {w w′ : List ℕ} (at : ℕ) → ((n : ℕ) (ts : List Word) (g : P.Progress) → Part x at at → length ts < maxLevels → Filled x w n ts g → Filled x w′ n (part x at at ∷ ts) g) → (ls : List Word) → at ≤ length x → length ls < maxLevels → Levels x w ls → Levels x w′ (added ∷ ls)
 level-entered x at f ls h i l = let q = f 0 ls (met []) (empty-bounds x at h) i l in rw (empty-part x at) at q
 
-pub other-opening : (o : Opening) → OneOf (0 ∷ 1 ∷ 2 ∷ 8 ∷ 9 ∷ 10 ∷ 11 ∷ 12 ∷ 14 ∷ []) (tagOf opening-type o) → (no-name ≡ wants (openingIs o)) × ((ls : List Word) → opened (openingIs o) ls ≡ ls)
-other-opening O.Nothing h = (refl, λ ls. refl)
-other-opening O.Pause h = (refl, λ ls. refl)
-other-opening O.Emit h = (refl, λ ls. refl)
-other-opening O.Exit h = absurd (miss (0 ∷ 1 ∷ 2 ∷ 8 ∷ 9 ∷ 10 ∷ 11 ∷ 12 ∷ 14 ∷ []) 3 tt h)
-other-opening O.Signal h = absurd (miss (0 ∷ 1 ∷ 2 ∷ 8 ∷ 9 ∷ 10 ∷ 11 ∷ 12 ∷ 14 ∷ []) 4 tt h)
-other-opening O.Trap h = absurd (miss (0 ∷ 1 ∷ 2 ∷ 8 ∷ 9 ∷ 10 ∷ 11 ∷ 12 ∷ 14 ∷ []) 5 tt h)
-other-opening O.Loop h = absurd (miss (0 ∷ 1 ∷ 2 ∷ 8 ∷ 9 ∷ 10 ∷ 11 ∷ 12 ∷ 14 ∷ []) 6 tt h)
-other-opening O.Present h = absurd (miss (0 ∷ 1 ∷ 2 ∷ 8 ∷ 9 ∷ 10 ∷ 11 ∷ 12 ∷ 14 ∷ []) 7 tt h)
-other-opening O.Suspend h = (refl, λ ls. refl)
-other-opening O.Bracket h = (refl, λ ls. refl)
-other-opening O.Halt h = (refl, λ ls. refl)
-other-opening O.Sustain h = (refl, λ ls. refl)
-other-opening O.Await h = (refl, λ ls. refl)
-other-opening O.Abort h = absurd (miss (0 ∷ 1 ∷ 2 ∷ 8 ∷ 9 ∷ 10 ∷ 11 ∷ 12 ∷ 14 ∷ []) 13 tt h)
-other-opening O.Weak h = (refl, λ ls. refl)
+pub not-closed : (o : Opening) → OneOf (0 ∷ 1 ∷ 2 ∷ 3 ∷ 5 ∷ 8 ∷ 9 ∷ 10 ∷ 11 ∷ 12 ∷ 14 ∷ []) (tagOf opening-type o) → (ls : List Word) → opened (openingIs o) ls ≡ ls
+not-closed O.Nothing h = λ ls. refl
+not-closed O.Pause h = λ ls. refl
+not-closed O.Emit h = λ ls. refl
+not-closed O.Exit h = λ ls. refl
+not-closed O.Signal h = absurd (miss (0 ∷ 1 ∷ 2 ∷ 3 ∷ 5 ∷ 8 ∷ 9 ∷ 10 ∷ 11 ∷ 12 ∷ 14 ∷ []) 4 tt h)
+not-closed O.Trap h = λ ls. refl
+not-closed O.Loop h = absurd (miss (0 ∷ 1 ∷ 2 ∷ 3 ∷ 5 ∷ 8 ∷ 9 ∷ 10 ∷ 11 ∷ 12 ∷ 14 ∷ []) 6 tt h)
+not-closed O.Present h = absurd (miss (0 ∷ 1 ∷ 2 ∷ 3 ∷ 5 ∷ 8 ∷ 9 ∷ 10 ∷ 11 ∷ 12 ∷ 14 ∷ []) 7 tt h)
+not-closed O.Suspend h = λ ls. refl
+not-closed O.Bracket h = λ ls. refl
+not-closed O.Halt h = λ ls. refl
+not-closed O.Sustain h = λ ls. refl
+not-closed O.Await h = λ ls. refl
+not-closed O.Abort h = absurd (miss (0 ∷ 1 ∷ 2 ∷ 3 ∷ 5 ∷ 8 ∷ 9 ∷ 10 ∷ 11 ∷ 12 ∷ 14 ∷ []) 13 tt h)
+not-closed O.Weak h = λ ls. refl
+
+pub no-name-after : (o : Opening) → OneOf (0 ∷ 1 ∷ 2 ∷ 4 ∷ 6 ∷ 7 ∷ 8 ∷ 9 ∷ 10 ∷ 11 ∷ 12 ∷ 13 ∷ 14 ∷ []) (tagOf opening-type o) → no-name ≡ wants (openingIs o)
+no-name-after O.Nothing h = refl
+no-name-after O.Pause h = refl
+no-name-after O.Emit h = refl
+no-name-after O.Exit h = absurd (miss (0 ∷ 1 ∷ 2 ∷ 4 ∷ 6 ∷ 7 ∷ 8 ∷ 9 ∷ 10 ∷ 11 ∷ 12 ∷ 13 ∷ 14 ∷ []) 3 tt h)
+no-name-after O.Signal h = refl
+no-name-after O.Trap h = absurd (miss (0 ∷ 1 ∷ 2 ∷ 4 ∷ 6 ∷ 7 ∷ 8 ∷ 9 ∷ 10 ∷ 11 ∷ 12 ∷ 13 ∷ 14 ∷ []) 5 tt h)
+no-name-after O.Loop h = refl
+no-name-after O.Present h = refl
+no-name-after O.Suspend h = refl
+no-name-after O.Bracket h = refl
+no-name-after O.Halt h = refl
+no-name-after O.Sustain h = refl
+no-name-after O.Await h = refl
+no-name-after O.Abort h = refl
+no-name-after O.Weak h = refl
 
 pub other-mark : (m : Mark) → OneOf (0 ∷ 1 ∷ 2 ∷ 3 ∷ 4 ∷ 5 ∷ 7 ∷ []) (tagOf mark-type m) → (ls : List Word) → closed (markIs m) ls ≡ ls
 other-mark K.Semicolon h ls = refl

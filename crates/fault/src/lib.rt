@@ -4,7 +4,7 @@
 ghost use mathlib.Core.Path.{_≡_};
 ghost use mathlib.Core.List.{List, [], _∷_};
 ghost use Prim.Native.Nat.{ℕ, _<_, _≤_};
-ghost use mathlib.Core.Bool.{false, not};
+ghost use mathlib.Core.Bool.{false, not, cond};
 ghost use lib.Dec.{ltb};
 ghost use lib.ListN.{length};
 ghost use Rattle.grammar.specs.Limits.{maxSource, maxLevels};
@@ -388,31 +388,40 @@ fn enter_level(levels: &mut [u16; sheet::ROOM], at: usize)
     sheet::enter_trap(levels, at, at);
 }
 
-// At a word or sign that opens a statement; whose name comes next.
-fn open_level(levels: &mut [u16; sheet::ROOM], opening: Opening, at: usize) -> Wanted
-    ensures { λ r. ⌜ (wantIs r ≡ wants (openingIs opening)) × ((x : List ℕ) (ls : List Name) → at ≤ length x → length ls < maxLevels → Levels x (now (levels .entry)) ls → Levels x (now (levels .exit)) (opened (openingIs opening) ls)) ⌝ }
+// Whether `end` closes what a word opens, and it is no trap, whose name comes first.
+fn is_closed_by_end(opening: Opening) -> bool
+    ensures { λ r. ⌜ ((ls : List Name) → opened (openingIs opening) ls ≡ cond «r» (added ∷ ls) ls) ⌝ }
+{
+    match opening {
+        Opening::Signal => true,
+        Opening::Loop => true,
+        Opening::Present => true,
+        Opening::Abort => true,
+        _ => false,
+    }
+}
+
+// Whose name comes after a word or sign.
+fn name_after(opening: Opening) -> Wanted
+    ensures { λ r. ⌜ wantIs r ≡ wants (openingIs opening) ⌝ }
 {
     match opening {
         Opening::Trap => Wanted::TrapName,
         Opening::Exit => Wanted::ExitName,
-        Opening::Signal => {
-            enter_level(levels, at);
-            Wanted::NoName
-        }
-        Opening::Loop => {
-            enter_level(levels, at);
-            Wanted::NoName
-        }
-        Opening::Present => {
-            enter_level(levels, at);
-            Wanted::NoName
-        }
-        Opening::Abort => {
-            enter_level(levels, at);
-            Wanted::NoName
-        }
         _ => Wanted::NoName,
     }
+}
+
+// At a word or sign that opens a statement; whose name comes next.
+fn open_level(levels: &mut [u16; sheet::ROOM], opening: Opening, at: usize) -> Wanted
+    ensures { λ r. ⌜ (wantIs r ≡ wants (openingIs opening)) × ((x : List ℕ) (ls : List Name) → at ≤ length x → length ls < maxLevels → Levels x (now (levels .entry)) ls → Levels x (now (levels .exit)) (opened (openingIs opening) ls)) ⌝ }
+{
+    let wanted = name_after(opening);
+    if is_closed_by_end(opening) {
+        enter_level(levels, at);
+        return wanted;
+    }
+    wanted
 }
 
 // At a word or sign within a statement or between two.
