@@ -38,7 +38,15 @@ use Rattle.tied.specs.declared.Narrowed.{Narrowed}
 use Rattle.tied.specs.declared.Narrowed.the-variants.{Done as DoneNarrow}
 use Rattle.tied.specs.declared.Narrowed.the-variants.{Refused as RefusedNarrow}
 use Rattle.tied.proofs.OfNarrow.{ofNarrow}
-use Rattle.abi.specs.Exported.{returned, answerAfter, Small, Tells, tellAnalysed, tellReaction, tellRendered, tellReading, tellPlace, tellTick, tellFetched, tellNarrowed, shortAnswer, Exported}
+use Rattle.planning.specs.Planning.{Plans, Hands}
+use Rattle.planning.specs.declared.Planned.{Planned}
+use Rattle.planning.specs.declared.Planned.the-variants.{Entries}
+use Rattle.planning.specs.declared.Planned.the-variants.{Refused as RefusedPlan}
+use Rattle.planning.specs.declared.Longest.{Longest}
+use Rattle.planning.specs.declared.Longest.the-variants.{Reached}
+use Rattle.planning.specs.declared.Longest.the-variants.{Refused as RefusedLongest}
+use Rattle.planning.proofs.Theorems.{ofMostEntries, ofFindLongest}
+use Rattle.abi.specs.Exported.{returned, answerAfter, Small, Tells, tellAnalysed, tellReaction, tellRendered, tellReading, tellPlace, tellTick, tellFetched, tellNarrowed, tellPlanned, tellLongest, shortAnswer, Exported}
 use Rattle.abi.specs.declared.Told.{Told}
 
 pub three : (l : List ℕ) (a b c : ℕ) → 3 ≤ length l → set (set (set l 0 a) 1 b) 2 c ≡ (a ∷ b ∷ c ∷ []) ++ drop 3 l
@@ -88,6 +96,14 @@ small-fetched file p old new (RefusedFetch number node) o = omega (arith, of-fet
 pub small-narrowed : (t ties old new : List ℕ) (r : Narrowed) → Narrowing t ties old new r → Small (tellNarrowed r)
 small-narrowed t ties old new (DoneNarrow n) o = tt
 small-narrowed t ties old new (RefusedNarrow number node) o = omega (arith, ofNarrow .refusals t ties old new number node o .2)
+
+pub small-planned : (t : List ℕ) (r : Planned) → Plans t r → Small (tellPlanned r)
+small-planned t (Entries n) o = tt
+small-planned t (RefusedPlan number node) o = omega (arith, ofMostEntries .refusals t number node o .2)
+
+pub small-longest : (t old new : List ℕ) (r : Longest) → Hands t old new r → Small (tellLongest r)
+small-longest t old new (Reached n l) o = tt
+small-longest t old new (RefusedLongest number node) o = omega (arith, ofFindLongest .refusals t old new number node o .2)
 
 -- it changes no answer
 short-same : (before : Check) (answer : List ℕ) → answer ≡ answerAfter (shortAnswer before) answer

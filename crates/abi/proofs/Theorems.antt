@@ -50,7 +50,15 @@ use Rattle.tied.specs.declared.Narrowed.{Narrowed}
 use Rattle.tied.specs.declared.Narrowed.the-variants.{Done as DoneNarrow}
 use Rattle.tied.specs.declared.Narrowed.the-variants.{Refused as RefusedNarrow}
 use Rattle.tied.proofs.OfNarrow.{ofNarrow}
-use Rattle.abi.specs.Exported.{returned, answerAfter, Tells, tellAnalysed, tellReaction, tellRendered, tellReading, tellPlace, tellTick, tellFetched, tellSpan, tellNarrowed, shortAnswer, Exported, ReadingC, PlacedAs, PlacingC, LocatingC}
+use Rattle.planning.specs.Planning.{Plans, Hands}
+use Rattle.planning.specs.declared.Planned.{Planned}
+use Rattle.planning.specs.declared.Planned.the-variants.{Entries}
+use Rattle.planning.specs.declared.Planned.the-variants.{Refused as RefusedPlan}
+use Rattle.planning.specs.declared.Longest.{Longest}
+use Rattle.planning.specs.declared.Longest.the-variants.{Reached}
+use Rattle.planning.specs.declared.Longest.the-variants.{Refused as RefusedLongest}
+use Rattle.planning.proofs.Theorems.{ofMostEntries, ofFindLongest}
+use Rattle.abi.specs.Exported.{returned, answerAfter, Tells, tellAnalysed, tellReaction, tellRendered, tellReading, tellPlace, tellTick, tellFetched, tellSpan, tellNarrowed, tellPlanned, tellLongest, shortAnswer, Exported, ReadingC, PlacedAs, PlacingC, LocatingC}
 use Rattle.abi.specs.Theorems.{Ran, TickShown, NoTick, AnswerOf, PlaceShown, NoPlace, SameRefusal, IsRefused, Demand1OfExports}
 use Rattle.abi.specs.declared.Told.{Told}
 use Rattle.abi.specs.declared.Told.the-variants.{Refusal}
@@ -127,6 +135,9 @@ tick-known t = first-known 10 (omega arith) t
 
 narrow-known : (t : List ℕ) → Known 19 (shortAnswer (lengthCheck t))
 narrow-known t = first-known 19 (omega arith) t
+
+plan-known : (t : List ℕ) → Known 11 (shortAnswer (lengthCheck t))
+plan-known t = first-known 11 (omega arith) t
 
 none-known : (most : ℕ) → 3 ≤ most → Known most (shortAnswer Passed)
 none-known most m = short-known most m Passed (λ number node e. (let z : _≡_ {A = ℕ} 0 1 = cc in absurd (omega arith)))
@@ -265,6 +276,28 @@ module _ (t ties old new answer answer′ : List ℕ) where
   narrow-done (DoneNarrow n) o z e = (n, o, e)
   narrow-done (RefusedNarrow number node) o z e = absurd (omega (arith, ofNarrow .refusals t ties old new number node o .0))
 
+module _ (t answer answer′ : List ℕ) where
+  plan-own : (x : Planned) → Plans t x → 0 < returned (tellPlanned x) → Own (lengthCheck t) (Unit {0}) (Plans t) tellPlanned (λ number node. Plans t (RefusedPlan number node)) answer answer′ 11 (plan-known t) x
+  plan-own (Entries n) o h = absurd (omega arith)
+  plan-own (RefusedPlan number node) o h =
+      let (some, known, below) = ofMostEntries .refusals t number node o in
+      record { known = record { number = number; node = node; is = refl; some = some; known = known; within = below }; refuses = o; same = tt }
+
+  plan-done : (x : Planned) → Plans t x → returned (tellPlanned x) ≡ 0 → answer′ ≡ answerAfter (tellPlanned x) answer → (n : ℕ) × Plans t (Entries n) × (answer′ ≡ onto (n ∷ 0 ∷ 0 ∷ []) answer)
+  plan-done (Entries n) o z e = (n, o, e)
+  plan-done (RefusedPlan number node) o z e = absurd (omega (arith, ofMostEntries .refusals t number node o .0))
+
+module _ (t old new answer answer′ : List ℕ) where
+  longest-own : (x : Longest) → Hands t old new x → 0 < returned (tellLongest x) → Own (lengthCheck t) (new ≡ old) (Hands t old new) tellLongest (λ number node. Hands t old new (RefusedLongest number node)) answer answer′ 11 (plan-known t) x
+  longest-own (Reached n l) o h = absurd (omega arith)
+  longest-own (RefusedLongest number node) o h =
+      let (some, known, below, same) = ofFindLongest .refusals t old new number node o in
+      record { known = record { number = number; node = node; is = refl; some = some; known = known; within = below }; refuses = o; same = same }
+
+  longest-done : (x : Longest) → Hands t old new x → returned (tellLongest x) ≡ 0 → answer′ ≡ answerAfter (tellLongest x) answer → (n l : ℕ) × Hands t old new (Reached n l) × (answer′ ≡ onto (n ∷ l ∷ 0 ∷ []) answer)
+  longest-done (Reached n l) o z e = (n, l, o, e)
+  longest-done (RefusedLongest number node) o z e = absurd (omega (arith, ofFindLongest .refusals t old new number node o .0))
+
 part-refused : (file : List ℕ) (p e k : ℕ) (answer answer′ : List ℕ) (r : ℕ) → LocatingC file p e k answer answer′ r → 0 < r → (length answer < 3) × (r ≡ returned (Refusal 3 0)) × (answer′ ≡ answer)
 part-refused file p e k answer answer′ r o h = go (decLt (length answer) 3)
   where
@@ -357,6 +390,16 @@ demand1OfExports =
       narrowDone = λ t ties sets answer sets′ answer′ o.
           (let (x, call, z, e) = done-told (lengthCheck t) _ _ tellNarrowed (λ number node. Unit {0}) answer answer′ 19 (narrow-known t) o in
           narrow-done t ties sets sets′ answer answer′ x call z e);
+      firstTickRefused = λ t answer answer′ r o h.
+          refused-is (lengthCheck t) _ _ tellPlanned _ answer answer′ 11 (plan-known t) (plan-own t answer answer′) r o h .1;
+      firstTickDone = λ t answer answer′ o.
+          (let (x, call, z, e) = done-told (lengthCheck t) _ _ tellPlanned (λ number node. Unit {0}) answer answer′ 11 (plan-known t) o in
+          plan-done t answer answer′ x call z e);
+      firstTickAnswersRefused = λ t answers answer answers′ answer′ r o h.
+          refused-is (lengthCheck t) _ _ tellLongest _ answer answer′ 11 (plan-known t) (longest-own t answers answers′ answer answer′) r o h;
+      firstTickAnswersDone = λ t answers answer answers′ answer′ o.
+          (let (x, call, z, e) = done-told (lengthCheck t) _ _ tellLongest (λ number node. Unit {0}) answer answer′ 11 (plan-known t) o in
+          longest-done t answers answers′ answer answer′ x call z e);
       partRefused = part-refused;
       partDone = λ file p e k answer answer′ o.
           (let (x, call, z, a) = done-told Passed _ _ tellSpan (λ number node. Unit {0}) answer answer′ 3 (none-known 3 (omega arith)) o in (x, call, a));

@@ -39,6 +39,13 @@ use Rattle.tied.specs.Calls.{Narrowing}
 use Rattle.tied.specs.declared.Narrowed.{Narrowed}
 use Rattle.tied.specs.declared.Narrowed.the-variants.{Done as DoneNarrow}
 use Rattle.tied.specs.declared.Narrowed.the-variants.{Refused as RefusedNarrow}
+use Rattle.planning.specs.Planning.{Plans, Hands}
+use Rattle.planning.specs.declared.Planned.{Planned}
+use Rattle.planning.specs.declared.Planned.the-variants.{Entries}
+use Rattle.planning.specs.declared.Planned.the-variants.{Refused as RefusedPlan}
+use Rattle.planning.specs.declared.Longest.{Longest}
+use Rattle.planning.specs.declared.Longest.the-variants.{Reached}
+use Rattle.planning.specs.declared.Longest.the-variants.{Refused as RefusedLongest}
 use Rattle.abi.specs.declared.Told.{Told}
 use Rattle.abi.specs.declared.Told.the-variants.{Figures, Refusal}
 
@@ -105,6 +112,15 @@ abbrev pub tellNarrowed : Narrowed → Told
 tellNarrowed (DoneNarrow nodes) = Figures nodes 0 0
 tellNarrowed (RefusedNarrow number node) = Refusal number node
 
+-- F-10: the number, and with its answers their number
+abbrev pub tellPlanned : Planned → Told
+tellPlanned (Entries n) = Figures n 0 0
+tellPlanned (RefusedPlan number node) = Refusal number node
+
+abbrev pub tellLongest : Longest → Told
+tellLongest (Reached n l) = Figures n l 0
+tellLongest (RefusedLongest number node) = Refusal number node
+
 -- an answer of fewer than three entries fails check 3, which comes after the call's checks before it
 abbrev pub shortAnswer : (before : Check) → Told
 shortAnswer Passed = Refusal 3 0
@@ -157,3 +173,10 @@ LocatingC file p e k answer answer′ r = Exported Passed (Unit {0}) (Locating f
 
 abbrev pub NarrowingC : (t ties sets answer sets′ answer′ : List ℕ) → ℕ → Type 0
 NarrowingC t ties sets answer sets′ answer′ r = Exported (lengthCheck t) (sets′ ≡ sets) (Narrowing t ties sets sets′) tellNarrowed answer answer′ r
+
+-- no other buffer is written
+abbrev pub PlanningC : (t answer answer′ : List ℕ) → ℕ → Type 0
+PlanningC t answer answer′ r = Exported (lengthCheck t) (Unit {0}) (Plans t) tellPlanned answer answer′ r
+
+abbrev pub HandingC : (t answers answer answers′ answer′ : List ℕ) → ℕ → Type 0
+HandingC t answers answer answers′ answer′ r = Exported (lengthCheck t) (answers′ ≡ answers) (Hands t answers answers′) tellLongest answer answer′ r

@@ -34,7 +34,12 @@ use Rattle.blocks.specs.declared.Fetched.the-variants.{Refused as RefusedFetch}
 use Rattle.tied.specs.Calls.{Narrowing}
 use Rattle.tied.specs.declared.Narrowed.the-variants.{Done as DoneNarrow}
 use Rattle.tied.specs.declared.Narrowed.the-variants.{Refused as RefusedNarrow}
-use Rattle.abi.specs.Exported.{returned, shortAnswer, Analysing, StartingC, ResumingC, RenderingC, ReadingC, PlacedAs, PlacingC, TickingC, FetchingC, LocatingC, NarrowingC}
+use Rattle.planning.specs.Planning.{Plans, Hands}
+use Rattle.planning.specs.declared.Planned.the-variants.{Entries}
+use Rattle.planning.specs.declared.Planned.the-variants.{Refused as RefusedPlan}
+use Rattle.planning.specs.declared.Longest.the-variants.{Reached}
+use Rattle.planning.specs.declared.Longest.the-variants.{Refused as RefusedLongest}
+use Rattle.abi.specs.Exported.{returned, shortAnswer, Analysing, StartingC, ResumingC, RenderingC, ReadingC, PlacedAs, PlacingC, TickingC, FetchingC, LocatingC, NarrowingC, PlanningC, HandingC}
 use Rattle.abi.specs.declared.Told.the-variants.{Refusal}
 
 -- after 0 the call has closed with these figures
@@ -130,6 +135,14 @@ pub record Demand1OfExports : Type 0 where
       (t ties sets answer sets′ answer′ : List ℕ) (r : ℕ) →
       NarrowingC t ties sets answer sets′ answer′ r → 0 < r →
       (sets′ ≡ sets) × IsRefused 19 (lengthCheck t) (λ number node. Narrowing t ties sets sets′ (RefusedNarrow number node)) answer answer′ r
+  pub firstTickRefused :
+      (t answer answer′ : List ℕ) (r : ℕ) →
+      PlanningC t answer answer′ r → 0 < r →
+      IsRefused 11 (lengthCheck t) (λ number node. Plans t (RefusedPlan number node)) answer answer′ r
+  pub firstTickAnswersRefused :
+      (t answers answer answers′ answer′ : List ℕ) (r : ℕ) →
+      HandingC t answers answer answers′ answer′ r → 0 < r →
+      (answers′ ≡ answers) × IsRefused 11 (lengthCheck t) (λ number node. Hands t answers answers′ (RefusedLongest number node)) answer answer′ r
   -- where 0 is returned, the call was not refused, and its figures stand in the answer
   pub analyseDone :
       (t k a s m answer k′ a′ s′ m′ answer′ : List ℕ) →
@@ -173,3 +186,11 @@ pub record Demand1OfExports : Type 0 where
       (t ties sets answer sets′ answer′ : List ℕ) →
       NarrowingC t ties sets answer sets′ answer′ 0 →
       (n : ℕ) × Narrowing t ties sets sets′ (DoneNarrow n) × (answer′ ≡ onto (n ∷ 0 ∷ 0 ∷ []) answer)
+  pub firstTickDone :
+      (t answer answer′ : List ℕ) →
+      PlanningC t answer answer′ 0 →
+      (n : ℕ) × Plans t (Entries n) × (answer′ ≡ onto (n ∷ 0 ∷ 0 ∷ []) answer)
+  pub firstTickAnswersDone :
+      (t answers answer answers′ answer′ : List ℕ) →
+      HandingC t answers answer answers′ answer′ 0 →
+      (n l : ℕ) × Hands t answers answers′ (Reached n l) × (answer′ ≡ onto (n ∷ l ∷ 0 ∷ []) answer)

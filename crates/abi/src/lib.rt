@@ -6,12 +6,14 @@ ghost use Prim.Native.Nat.{_≤_, _<_};
 ghost use lib.ListN.{length};
 ghost use Rattle.table.specs.Check.{lengthCheck};
 ghost use Rattle.analysis.specs.Passes.{onto};
-ghost use Rattle.abi.specs.Exported.{maxNode, returned, Small, Tells, tellAnalysed, tellReaction, tellRendered, tellReading, tellPlace, tellTick, tellFetched, tellSpan, tellNarrowed, shortAnswer, Analysing, StartingC, ResumingC, RenderingC, ReadingC, PlacingC, TickingC, FetchingC, LocatingC, NarrowingC};
+ghost use Rattle.abi.specs.Exported.{maxNode, returned, Small, Tells, tellAnalysed, tellReaction, tellRendered, tellReading, tellPlace, tellTick, tellFetched, tellSpan, tellNarrowed, tellPlanned, tellLongest, shortAnswer, Analysing, StartingC, ResumingC, RenderingC, ReadingC, PlacingC, TickingC, FetchingC, LocatingC, NarrowingC, PlanningC, HandingC};
 use analysis::Analysed;
 use blocks::Fetched;
 use blocks::Span;
 use instant::Reaction;
 use listing::Rendered;
+use planning::Longest;
+use planning::Planned;
 use table::Check;
 use text::Reading;
 use tied::Narrowed;
@@ -229,6 +231,32 @@ fn tell_narrowed(narrowed: Narrowed) -> Told
     }
 }
 
+fn tell_planned(planned: Planned) -> Told
+    ensures { λ r. ⌜ r ≡ tellPlanned planned ⌝ }
+{
+    match planned {
+        Planned::Entries { entries } => Told::Figures {
+            first: entries,
+            second: 0,
+            third: 0,
+        },
+        Planned::Refused { number, node } => Told::Refusal { number, node },
+    }
+}
+
+fn tell_longest(longest: Longest) -> Told
+    ensures { λ r. ⌜ r ≡ tellLongest longest ⌝ }
+{
+    match longest {
+        Longest::Reached { entries, length } => Told::Figures {
+            first: entries,
+            second: length,
+            third: 0,
+        },
+        Longest::Refused { number, node } => Told::Refusal { number, node },
+    }
+}
+
 #[no_mangle]
 pub extern "C" fn bavzhrono_analyse(
     table: &[u8],
@@ -381,4 +409,32 @@ pub extern "C" fn bavzhrono_narrow(
     }
     let narrowed = tied::narrow(table, ties, sets);
     tell(tell_narrowed(narrowed), answer)
+}
+
+// The greatest number of entries that any answers can give when the program is started.
+#[no_mangle]
+pub extern "C" fn bavzhrono_first_tick(table: &[u8], answer: &mut [u64]) -> u32
+    ensures { λ r. ⌜ PlanningC (now (table .entry)) (now (answer .entry)) (now (answer .exit)) r ⌝ }
+{
+    if answer.len() < FIGURES {
+        return short_answer(table);
+    }
+    let planned = planning::most_entries(table);
+    tell(tell_planned(planned), answer)
+}
+
+// The same, with answers that reach it.
+#[no_mangle]
+pub extern "C" fn bavzhrono_first_tick_answers(
+    table: &[u8],
+    answers: &mut [u8],
+    answer: &mut [u64],
+) -> u32
+    ensures { λ r. ⌜ HandingC (now (table .entry)) (now (answers .entry)) (now (answer .entry)) (now (answers .exit)) (now (answer .exit)) r ⌝ }
+{
+    if answer.len() < FIGURES {
+        return short_answer(table);
+    }
+    let longest = planning::find_longest(table, answers);
+    tell(tell_longest(longest), answer)
 }

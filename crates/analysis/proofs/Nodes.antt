@@ -18,6 +18,7 @@ use Rattle.esterel.specs.Statement.{Leaf, nothing, pause, emit, exit, Unary, si
 use Rattle.esterel.specs.Sets.{Place, placesOf, outside, placeAt}
 use Rattle.esterel.specs.Checks.{firstNode, tooDeep, tooManyTraps, uncaught}
 use Rattle.esterel.specs.Outcome.{statementAt}
+use Rattle.esterel.specs.Theorems.{WellFormed}
 use Rattle.esterel.proofs.Accepted.{Passes, first-passes}
 use Rattle.esterel.proofs.Caught.{codes-few}
 use Rattle.esterel.proofs.Every.{every-at}
@@ -57,6 +58,16 @@ places-pass ps e =
       traps = first-passes tooManyTraps ps 0 (e9 .0);
       exits = first-passes uncaught ps 0 (e10 .0);
     }
+
+-- such a table passes checks 1, 2 and 4 to 10
+pub well-formed : {t : List ℕ} → Placed t → WellFormed t (programOf t)
+unfolding placesCheck
+well-formed {t} o =
+    let ps = placesOf (programOf t) in
+    let e8 = found-none 8 (firstNode tooDeep ps 0) _ (o .passes) in
+    let e9 = found-none 9 (firstNode tooManyTraps ps 0) _ (e8 .1) in
+    let e10 = found-none 10 (firstNode uncaught ps 0) _ (e9 .1) in
+    record { reads = o .readable .reads; depths = e8 .0; traps = e9 .0; exits = e10 .0 }
 
 -- the codes of a pause are 0 and 1
 pub pause-few : (any : Bool) → AtMost 1 (pauseSet any)

@@ -4,9 +4,10 @@ use mathlib.Core.Logic.{_↔_}
 use mathlib.Core.Bool.{Bool, true, false}
 use mathlib.Core.Option.{Option, none, some}
 use mathlib.Core.List.{List, [], map}
-use Prim.Native.Nat.{ℕ, suc, _-_, _/_, _<_}
+use Prim.Native.Nat.{ℕ, suc, _-_, _/_, _≤_, _<_}
 use native.Mathlib.Omega.{arith}
 use borrow.Author.Tests.{le-leb}
+use lib.Dec.{leb}
 use lib.ListN.{length, getD, List·getD-append}
 use Rattle.codes.specs.Codes.{Codes, word}
 use Rattle.codes.specs.Theorems.{Represents}
@@ -40,6 +41,10 @@ verdict-nodes t p e = omega (arith, ap length (acceptance t p e .0), length-post
 pub checked-room : (t : List ℕ) → checked true t ≡ verdict t
 unfolding checked
 checked-room t = sym (length-first t (scan t 0 []))
+
+-- where the room suffices, check 3 passes
+pub enough-room : (t : List ℕ) {m n : ℕ} → m ≤ n → checked (leb m n) t ≡ verdict t
+enough-room t {m} {n} h = ap (λ b. checked b t) (le-leb m n h) ∙ checked-room t
 
 pub checked-passed : (room : Bool) (t : List ℕ) (p : Stmt) → checked room t ≡ passed p → verdict t ≡ passed p
 unfolding checked

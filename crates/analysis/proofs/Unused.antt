@@ -83,7 +83,7 @@ module _ {t : List ℕ} (ok : Placed t) {us : List Waiting} {unused i : ℕ} (o 
   abbrev w : Waiting
   w = here .top
 
-  kind-here : k ≡ kindOf (kind (w .root))
+  pub kind-here : k ≡ kindOf (kind (w .root))
   kind-here = kind-is ok i inside ek ef ∙ ap (λ s. kindOf (kind s)) (here .statement)
 
   arity-here : c ≡ childrenOf (w .root)
@@ -92,7 +92,7 @@ module _ {t : List ℕ} (ok : Placed t) {us : List Waiting} {unused i : ℕ} (o 
   counts : length (here .below) + c ≡ unused
   counts = omega (arith, arity-here, count-below (w .depth) (w .traps) (w .loops) (w .context) (w .root) (here .below), ap length (here .is), o .count)
 
-  base-is : unused - c ≡ length (here .below)
+  pub base-is : unused - c ≡ length (here .below)
   base-is = omega (arith, counts)
 
   pub enough : c ≤ unused

@@ -12,7 +12,7 @@ use Rattle.esterel.specs.Statement.{nothing, pause, emit, exit, loop, St
 use Rattle.esterel.specs.Codes.{Codes, empty}
 use Rattle.esterel.specs.Sets.{startSet, Place, at, stmtOf, places, placesOf, outside, placeAt, under, underLeft, underRight}
 use Rattle.esterel.specs.Table.{Verdict, passed, refused, read, postfix}
-use Rattle.esterel.specs.Checks.{tooDeep, tooManyTraps, uncaught, endsAtOnce, firstNode, refuseAt, checkPlaces, checkProgram}
+use Rattle.esterel.specs.Checks.{tooDeep, tooManyTraps, uncaught, endsAtOnce, firstNode, refuseAt, checkPlaces, checkProgram, verdict}
 use Rattle.esterel.specs.Outcome.{statementAt}
 use Rattle.esterel.specs.Theorems.{Accepted, Acceptance}
 use Rattle.esterel.proofs.Sizes.{length-nodes}
@@ -94,11 +94,15 @@ ends-not p a n b e c = no-end (placeAt p n) b (every-at outside refl (passes p a
 pub exits-in : (p : Stmt) → Accepted p → Exits 0 p
 exits-in p a = exits-caught p 1 0 empty (passes p a .exits)
 
-pub acceptance : Acceptance
-acceptance bytes p e = go (read bytes) refl e
+-- an accepted table reads to its program, which is accepted
+pub accepted-read : (bytes : List ℕ) (p : Stmt) → verdict bytes ≡ passed p → (read bytes ≡ passed p) × Accepted p
+accepted-read bytes p e = go (read bytes) refl e
   where
-    go : (x : Verdict) → read bytes ≡ x → checkProgram x ≡ passed p → (bytes ≡ postfix p) × Accepted p
+    go : (x : Verdict) → read bytes ≡ x → checkProgram x ≡ passed p → (read bytes ≡ passed p) × Accepted p
     go (refused number node) z f = (cc, cc)
     go (passed q) z f =
         let same : q ≡ p = cc (passed-all (placesOf q) (passed q) p f .1) in
-        (reads-only bytes p (z ∙ ap passed same), rw same at f)
+        (z ∙ ap passed same, rw same at f)
+
+pub acceptance : Acceptance
+acceptance bytes p e = let (reads, a) = accepted-read bytes p e in (reads-only bytes p reads, a)

@@ -39,6 +39,12 @@ told-more more h (passes p) = passes p
 told-more more h (refuses number node o) = refuses number node record { some = o .some; known = omega (arith, o .known); within = o .within }
 
 -- a verdict is of one kind, and a refusal of one number
+pub one-program : {v : Verdict} {p q : Stmt} → v ≡ passed p → v ≡ passed q → p ≡ q
+one-program e f = let z = sym e ∙ f in cc
+
+pub one-refusal : {v : Verdict} {a b c d : ℕ} → v ≡ refused a b → v ≡ refused c d → (a ≡ c) × (b ≡ d)
+one-refusal e f = (cc, cc)
+
 pub passed-refused : {v : Verdict} {p : Stmt} {number node : ℕ} → v ≡ passed p → v ≡ refused number node → ⊥
 passed-refused e f = let z : _≡_ {A = ℕ} 0 1 = cc in omega arith
 

@@ -7,8 +7,9 @@ use native.Mathlib.Numerals.{add-one}
 use native.Mathlib.Omega.{arith}
 use lib.ListN.{length, getD, set, drop, length-append, drop-of-length-le}
 use lib.Seq.{sets, length-sets, set-comm, drop-cons}
-use Rattle.table.proofs.Buffers.{sets-append}
+use Rattle.table.proofs.Buffers.{sets-append, sets-front}
 use Rattle.listing.specs.Written.{Written}
+use Rattle.listing.specs.Rendering.{WholeText}
 
 pub set-sets : (l : List ℕ) (i : ℕ) (xs : List ℕ) (j v : ℕ) → i + length xs ≤ j → set (sets l i xs) j v ≡ sets (set l j v) i xs
 set-sets l i [] j v h = refl
@@ -76,3 +77,14 @@ module _ {old : List ℕ} {at : ℕ} {bytes now : List ℕ} {i : ℕ} (o : Copyi
 
   pub copying-end : length bytes ≤ i → Written old at bytes now (at + i)
   copying-end h = none-left (rw (drop-of-length-le bytes h) at (o .left))
+
+-- a text at the front of a buffer
+pub written-whole : {line old new : List ℕ} {r : ℕ} → length line ≤ length old → Written old 0 line new r → WholeText line old new r
+written-whole {line} {old} {new} {r} h w =
+    let none : 0 + length line ≡ length line = omega arith in
+    let content : new ≡ line ++ drop (length line) old = w .is ∙ sets-front line old h in
+    record {
+      end = w .end ∙ none;
+      within = rw (content, length-append) (omega (arith, w .end));
+      content = content;
+    }

@@ -1,30 +1,33 @@
 -- The loops over the codes.
 use mathlib.Core.Path.{_≡_, refl, ap, ap₂, _∙_}
 use mathlib.Core.Option.{Option, none, some}
-use mathlib.Core.List.{List}
-use Prim.Native.Nat.{ℕ, zero, suc, _+_, _-_, _*_, _≤_, _<_, min}
+use mathlib.Core.List.{List, []}
+use Prim.Native.Nat.{ℕ, zero, suc, _+_, _-_, _*_, _≤_, _<_}
 use native.Mathlib.Numerals.{add-one}
 use native.Mathlib.Decide.{decLt}
 use native.Mathlib.Omega.{arith}
 use lib.ListN.{length, getD, set, length-set}
 use lib.Seq.{getD-set-same, getD-set-other}
 use Rattle.table.specs.declared.Kind.{Kind}
-use Rattle.starts.specs.Summary.{upTo, either, together, least}
-use Rattle.rows.specs.Rows.{valueOf, valuesOf, maxNumber, Lesser, Joins, LowRow, Found}
-use Rattle.rows.specs.Steps.{numberAt, IsNumber, rowOf, IsRow}
-
--- the least below code k
-abbrev pub below : (ℕ → Option ℕ) → ℕ → Option ℕ
-below f zero = none
-below f (suc k) = least .choice (f k) (below f k)
+use Rattle.starts.specs.declared.Weight.{Weight}
+use Rattle.starts.specs.Summary.{upTo, either, together, prefer, weigh, weights}
+use Rattle.rows.specs.Rows.{valueOf, valuesOf, maxNumber, Picks, Joins, LowRow, Found}
+use Rattle.rows.specs.Steps.{innerAt, IsInner, rowOf, IsRow}
+use Rattle.rows.proofs.Values.{pick-low}
 
 pub either-none : (pick : ℕ → ℕ → ℕ) (x : Option ℕ) → either pick x none ≡ x
 either-none pick none = refl
 either-none pick (some x) = refl
 
-pub below-upTo : (f : ℕ → Option ℕ) (k : ℕ) → below f (suc k) ≡ upTo least f k
-below-upTo f zero = either-none min (f 0)
-below-upTo f (suc k) = ap (least .choice (f (suc k))) (below-upTo f k)
+module _ (w : Weight) where
+  -- the preferred below code k
+  abbrev pub below : (ℕ → Option ℕ) → ℕ → Option ℕ
+  below f zero = none
+  below f (suc k) = weights w .choice (f k) (below f k)
+
+  pub below-upTo : (f : ℕ → Option ℕ) (k : ℕ) → below f (suc k) ≡ upTo (weights w) f k
+  below-upTo f zero = either-none (prefer w) (f 0)
+  below-upTo f (suc k) = ap (weights w .choice (f (suc k))) (below-upTo f k)
 
 -- a list that is filled from the front: each place j below k has v j
 module _ (P : ℕ → ℕ → Type 0) where
@@ -40,68 +43,67 @@ module _ (P : ℕ → ℕ → Type 0) where
 
 -- ---- row_of
 
-pub record Running (kind : Kind) (n : ℕ) (a b of : List ℕ) (x y k : ℕ) : Type 0 where
+pub record Running (w : Weight) (kind : Kind) (n : ℕ) (a b of : List ℕ) (x y k : ℕ) : Type 0 where
   pub low : k ≤ 64
   pub long : length of ≡ 64
-  pub left : valueOf x ≡ below (valuesOf a) k
-  pub right : valueOf y ≡ below (valuesOf b) k
+  pub left : valueOf x ≡ below w (valuesOf a) k
+  pub right : valueOf y ≡ below w (valuesOf b) k
   pub small-left : x ≤ maxNumber
   pub small-right : y ≤ maxNumber
-  pub done : (j : ℕ) → j < k → valueOf (getD of j 0) ≡ rowOf kind n (valuesOf a) (valuesOf b) j
+  pub done : (j : ℕ) → j < k → valueOf (getD of j 0) ≡ rowOf w kind n (valuesOf a) (valuesOf b) j
 
-pub begins : {kind : Kind} {n : ℕ} {a b of : List ℕ} → length of ≡ 64 → Running kind n a b of 0 0 0
+pub begins : {w : Weight} {kind : Kind} {n : ℕ} {a b of : List ℕ} → length of ≡ 64 → Running w kind n a b of 0 0 0
 begins z =
     record { low = omega arith; long = z; left = refl; right = refl; small-left = omega arith; small-right = omega arith; done = λ j h. absurd (omega arith) }
 
-pub ends : {kind : Kind} {n : ℕ} {a b of : List ℕ} {x y k : ℕ} → Running kind n a b of x y k → 64 ≤ k → IsRow kind n a b of
+pub ends : {w : Weight} {kind : Kind} {n : ℕ} {a b of : List ℕ} {x y k : ℕ} → Running w kind n a b of x y k → 64 ≤ k → IsRow w kind n a b of
 ends o h = record { is = record { long = o .long; at = λ j l. o .done j (omega arith) } }
 
--- the lesser is no larger than both
-pub lesser-low : {a b r m : ℕ} → Lesser a b r → a ≤ m → b ≤ m → r ≤ m
-lesser-low p h i = omega (arith, p .low)
-
-pub step : {kind : Kind} {n : ℕ} {a b of : List ℕ} {x y k x′ y′ r : ℕ} → LowRow maxNumber a → LowRow maxNumber b → Running kind n a b of x y k → k < 64 → Lesser (getD a k 0) x x′ → Lesser (getD b k 0) y y′ → IsNumber kind n a b x′ y′ k r → Running kind n a b (set of k r) x′ y′ (k + 1)
-step {kind} {n} {a} {b} {of} {x} {y} {k} {x′} {y′} {r} la lb o h p q g =
+pub step : {w : Weight} {kind : Kind} {n : ℕ} {a b of : List ℕ} {x y k x′ y′ e v r : ℕ} → LowRow maxNumber a → LowRow maxNumber b → Running w kind n a b of x y k → k < 64 → Picks w (getD a k 0) x x′ → Picks w (getD b k 0) y y′ → e ≡ suc (weigh w [] 1) → IsInner w kind n a b x′ y′ k v → Joins e v r → Running w kind n a b (set of k r) x′ y′ (k + 1)
+step {w} {kind} {n} {a} {b} {of} {x} {y} {k} {x′} {y′} {e} {v} {r} la lb o h p q ee g j =
     rw add-one
     record {
       low = omega (arith, o .low);
       long = length-set of k r ∙ o .long;
       left = left-up;
       right = right-up;
-      small-left = lesser-low p (la .at k) (o .small-left);
-      small-right = lesser-low q (lb .at k) (o .small-right);
-      done = set-next (λ i v. valueOf v ≡ rowOf kind n (valuesOf a) (valuesOf b) i) of k r (omega (arith, o .long)) (o .done) here;
+      small-left = pick-low p (la .at k) (o .small-left);
+      small-right = pick-low q (lb .at k) (o .small-right);
+      done = set-next (λ i u. valueOf u ≡ rowOf w kind n (valuesOf a) (valuesOf b) i) of k r (omega (arith, o .long)) (o .done) here;
     }
   where
-    left-up : valueOf x′ ≡ below (valuesOf a) (suc k)
-    left-up = p .is ∙ ap (least .choice (valuesOf a k)) (o .left)
+    left-up : valueOf x′ ≡ below w (valuesOf a) (suc k)
+    left-up = p .is ∙ ap (weights w .choice (valuesOf a k)) (o .left)
 
-    right-up : valueOf y′ ≡ below (valuesOf b) (suc k)
-    right-up = q .is ∙ ap (least .choice (valuesOf b k)) (o .right)
+    right-up : valueOf y′ ≡ below w (valuesOf b) (suc k)
+    right-up = q .is ∙ ap (weights w .choice (valuesOf b k)) (o .right)
 
-    here : valueOf r ≡ rowOf kind n (valuesOf a) (valuesOf b) k
-    here = g .gets .is ∙ ap₂ (λ z w. numberAt kind n (valuesOf a) (valuesOf b) z w k) (left-up ∙ below-upTo (valuesOf a) k) (right-up ∙ below-upTo (valuesOf b) k)
+    inner : valueOf v ≡ innerAt w kind n (valuesOf a) (valuesOf b) (upTo (weights w) (valuesOf a) k) (upTo (weights w) (valuesOf b) k) k
+    inner = g .gets .is ∙ ap₂ (λ z u. innerAt w kind n (valuesOf a) (valuesOf b) z u k) (left-up ∙ below-upTo w (valuesOf a) k) (right-up ∙ below-upTo w (valuesOf b) k)
 
--- ---- least_sum
+    here : valueOf r ≡ rowOf w kind n (valuesOf a) (valuesOf b) k
+    here = j .is ∙ ap₂ (together _+_) (ap valueOf ee) inner
 
-pub record Finding (a b : List ℕ) (x k : ℕ) : Type 0 where
+-- ---- best_sum
+
+pub record Finding (w : Weight) (a b : List ℕ) (x k : ℕ) : Type 0 where
   pub low : k ≤ 64
-  pub is : valueOf x ≡ below (λ j. together _+_ (valuesOf a j) (valuesOf b j)) k
+  pub is : valueOf x ≡ below w (λ j. together _+_ (valuesOf a j) (valuesOf b j)) k
   pub small : (m n : ℕ) → LowRow m a → LowRow n b → x ≤ m + n - 1
 
-pub finds : {a b : List ℕ} {x k v r : ℕ} → Finding a b x k → k < 64 → Joins (getD a k 0) (getD b k 0) v → Lesser v x r → Finding a b r (k + 1)
-finds {a} {b} {x} {k} o h j p =
+pub finds : {w : Weight} {a b : List ℕ} {x k v r : ℕ} → Finding w a b x k → k < 64 → Joins (getD a k 0) (getD b k 0) v → Picks w v x r → Finding w a b r (k + 1)
+finds {w} {a} {b} {x} {k} o h j p =
     rw add-one
     record {
       low = omega arith;
-      is = p .is ∙ ap₂ (least .choice) (j .is) (o .is);
+      is = p .is ∙ ap₂ (weights w .choice) (j .is) (o .is);
       small = λ m n la lb. omega (arith, p .low, o .small m n la lb, j .low, la .at k, lb .at k);
     }
 
-pub found : {a b : List ℕ} {x k : ℕ} → LowRow maxNumber a → LowRow maxNumber b → Finding a b x k → 64 ≤ k → Found a b x
-found {a} {b} {x} {k} la lb o h =
+pub found : {w : Weight} {a b : List ℕ} {x k : ℕ} → LowRow maxNumber a → LowRow maxNumber b → Finding w a b x k → 64 ≤ k → Found w a b x
+found {w} {a} {b} {x} {k} la lb o h =
     let z : k ≡ suc 63 = omega (arith, o .low) in
-    record { low = o .small; gets = record { is = o .is ∙ ap (below (λ j. together _+_ (valuesOf a j) (valuesOf b j))) z ∙ below-upTo (λ j. together _+_ (valuesOf a j) (valuesOf b j)) 63; low = omega (arith, o .small maxNumber maxNumber la lb) } }
+    record { low = o .small; gets = record { is = o .is ∙ ap (below w (λ j. together _+_ (valuesOf a j) (valuesOf b j))) z ∙ below-upTo w (λ j. together _+_ (valuesOf a j) (valuesOf b j)) 63; low = omega (arith, o .small maxNumber maxNumber la lb) } }
 
 -- ---- load and store
 
@@ -124,6 +126,7 @@ pub record Storing (rows : List ℕ) (j : ℕ) (of rows′ : List ℕ) (k : ℕ)
   pub long : length rows′ ≡ length rows
   pub done : (i : ℕ) → i < k → getD rows′ (64 * j + i) 0 ≡ getD of i 0
   pub kept : (m : ℕ) → m < 64 * j → getD rows′ m 0 ≡ getD rows m 0
+  pub past : (m : ℕ) → 64 * j + 64 ≤ m → getD rows′ m 0 ≡ getD rows m 0
 
 pub stores : {rows of rows′ : List ℕ} {j k r : ℕ} → Storing rows j of rows′ k → k < 64 → 64 * j + 64 ≤ length rows → r ≡ getD of k 0 → Storing rows j of (set rows′ (64 * j + k) r) (k + 1)
 stores {rows} {of} {rows′} {j} {k} {r} o h room e =
@@ -133,6 +136,7 @@ stores {rows} {of} {rows′} {j} {k} {r} o h room e =
       long = length-set rows′ (64 * j + k) r ∙ o .long;
       done = λ i l. at i l (decLt i k);
       kept = λ m l. getD-set-other rows′ (64 * j + k) m r 0 (λ z. omega arith) ∙ o .kept m l;
+      past = λ m l. getD-set-other rows′ (64 * j + k) m r 0 (λ z. omega arith) ∙ o .past m l;
     }
   where
     at : (i : ℕ) → i < suc k → Dec (i < k) → getD (set rows′ (64 * j + k) r) (64 * j + i) 0 ≡ getD of i 0

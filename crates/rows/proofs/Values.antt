@@ -1,34 +1,58 @@
 -- What the numbers of a row say: the returns of the functions on single numbers.
 use mathlib.Core.Path.{_≡_, refl, sym, ap, ap₂, subst, _∙_}
 use mathlib.Core.Option.{Option, none, some}
-use mathlib.Core.List.{List}
-use Prim.Native.Nat.{ℕ, zero, suc, _+_, _-_, _≤_, _<_, min}
+use mathlib.Core.List.{List, [], _∷_}
+use Prim.Native.Nat.{ℕ, zero, suc, _+_, _-_, _*_, _≤_, _<_, min}
 use native.Mathlib.Omega.{arith}
 use lib.ListN.{length, getD, List·getD-eq-default}
 use borrow.Author.Tests.{eq-eqb, ne-eqb}
 use Rattle.table.specs.declared.Kind.{Kind}
-use Rattle.starts.specs.Summary.{only, tested, withoutEnded, followed, caught, either, together, least}
-use Rattle.rows.specs.Rows.{valueOf, valuesOf, maxNumber, Gets, Lesser, Joins, LowRow}
-use Rattle.rows.specs.Steps.{numberAt, IsNumber}
+use Rattle.starts.specs.declared.Weight.{Weight}
+use Rattle.starts.specs.declared.Weight.the-variants.{Answers, Entries}
+use Rattle.starts.specs.Summary.{tested, withoutEnded, followed, caught, either, together, weigh, weights}
+use Rattle.rows.specs.Rows.{valueOf, valuesOf, maxNumber, Gets, Picks, Joins, LowRow}
+use Rattle.rows.specs.Steps.{onlyAt, innerAt, IsInner}
 
 -- ---- lesser
 
-pub first-there : {a b : ℕ} → b ≡ 0 → Lesser a b a
+pub first-there : {a b : ℕ} → b ≡ 0 → Picks Answers a b a
 first-there {a} {b} e = record { is = rw e (go a); low = omega arith }
   where
     go : (x : ℕ) → valueOf x ≡ either min (valueOf x) none
     go zero = refl
     go (suc x) = refl
 
-pub first-less : {a b : ℕ} → (a ≡ 0 → ⊥) → (b ≡ 0 → ⊥) → a < b → Lesser a b a
+pub first-less : {a b : ℕ} → (a ≡ 0 → ⊥) → (b ≡ 0 → ⊥) → a < b → Picks Answers a b a
 first-less {a = zero} d e h = absurd (d refl)
 first-less {a = (suc a)} {b = zero} d e h = absurd (e refl)
 first-less {a = (suc a)} {b = (suc b)} d e h = record { is = ap some (omega arith); low = omega arith }
 
-pub second-less : {a b : ℕ} → (a ≡ 0 → ⊥) → (b ≡ 0 → ⊥) → b ≤ a → Lesser a b b
+pub second-less : {a b : ℕ} → (a ≡ 0 → ⊥) → (b ≡ 0 → ⊥) → b ≤ a → Picks Answers a b b
 second-less {a = zero} d e h = absurd (d refl)
 second-less {a = (suc a)} {b = zero} d e h = absurd (e refl)
 second-less {a = (suc a)} {b = (suc b)} d e h = record { is = ap some (omega arith); low = omega arith }
+
+-- ---- larger
+
+pub first-larger : {a b : ℕ} → b ≤ a → Picks Entries a b a
+first-larger {a = zero} {b = zero} h = record { is = refl; low = omega arith }
+first-larger {a = zero} {b = (suc b)} h = absurd (omega arith)
+first-larger {a = (suc a)} {b = zero} h = record { is = refl; low = omega arith }
+first-larger {a = (suc a)} {b = (suc b)} h = record { is = ap some (omega arith); low = omega arith }
+
+pub second-larger : {a b : ℕ} → a < b → Picks Entries a b b
+second-larger {a = zero} {b = b} h = record { is = refl; low = omega arith }
+second-larger {a = (suc a)} {b = zero} h = absurd (omega arith)
+second-larger {a = (suc a)} {b = (suc b)} h = record { is = ap some (omega arith); low = omega arith }
+
+-- ---- pick
+
+pub as-weight : {w v : Weight} {a b r : ℕ} → w ≡ v → Picks v a b r → Picks w a b r
+as-weight e p = rw e p
+
+-- the preferred is no larger than both
+pub pick-low : {w : Weight} {a b r m : ℕ} → Picks w a b r → a ≤ m → b ≤ m → r ≤ m
+pick-low p h i = omega (arith, p .low)
 
 -- ---- join
 
@@ -54,51 +78,69 @@ gets-low h = record { is = refl; low = omega arith }
 pub gets-join : {a b r : ℕ} → a ≤ maxNumber → b ≤ maxNumber → Joins a b r → Gets (together _+_ (valueOf a) (valueOf b)) r
 gets-join h i j = record { is = j .is; low = omega (arith, j .low) }
 
-pub gets-lesser : {x y : Option ℕ} {a b r : ℕ} → Gets x a → Gets y b → Lesser a b r → Gets (least .choice x y) r
-gets-lesser g h p = record { is = p .is ∙ ap₂ (least .choice) (g .is) (h .is); low = omega (arith, p .low, g .low, h .low) }
+pub gets-pick : {w : Weight} {x y : Option ℕ} {a b r : ℕ} → Gets x a → Gets y b → Picks w a b r → Gets (weights w .choice x y) r
+gets-pick {w} g h p = record { is = p .is ∙ ap₂ (weights w .choice) (g .is) (h .is); low = omega (arith, p .low, g .low, h .low) }
 
-pub as-kind : {kind l : Kind} {n : ℕ} {a b : List ℕ} {x y k r : ℕ} → kind ≡ l → Gets (numberAt l n (valuesOf a) (valuesOf b) (valueOf x) (valueOf y) k) r → IsNumber kind n a b x y k r
+pub as-kind : {w : Weight} {kind l : Kind} {n : ℕ} {a b : List ℕ} {x y k r : ℕ} → kind ≡ l → Gets (innerAt w l n (valuesOf a) (valuesOf b) (valueOf x) (valueOf y) k) r → IsInner w kind n a b x y k r
 as-kind e g = record { gets = rw e g }
+
+-- what a start weighs by one entry alone, and by one answer alone, whichever it is
+pub entry-low : (w : Weight) {e : ℕ} → e ≡ suc (weigh w [] 1) → e ≤ 2
+entry-low Answers z = omega (arith, z)
+entry-low Entries z = omega (arith, z)
+
+pub answer-low : (w : Weight) {e : ℕ} → e ≡ suc (weigh w (1 ∷ []) 0) → e ≤ 2
+answer-low Answers z = omega (arith, z)
+answer-low Entries z = omega (arith, z)
+
+either-answer : (w : Weight) → weigh w (1 ∷ []) 0 ≡ weigh w (0 ∷ []) 0
+either-answer Answers = refl
+either-answer Entries = refl
 
 -- ---- the returns of the functions for each kind
 
-pub only-here : (c k : ℕ) → c ≡ k → Gets (only least c k) 1
+pub only-here : (c k : ℕ) → c ≡ k → Gets (onlyAt c k) 1
 only-here c k e = record { is = rw (eq-eqb c k e); low = omega arith }
 
-pub only-not : (c k : ℕ) → (c ≡ k → ⊥) → Gets (only least c k) 0
+pub only-not : (c k : ℕ) → (c ≡ k → ⊥) → Gets (onlyAt c k) 0
 only-not c k d = record { is = rw (ne-eqb c k d); low = omega arith }
 
-pub test-is : {a b v w r : ℕ} → a ≤ maxNumber → b ≤ maxNumber → Joins 2 a v → Joins 2 b w → Lesser v w r → Gets (tested least (valueOf a) (valueOf b)) r
-test-is h i j l p = record { is = p .is ∙ ap₂ (least .choice) (j .is) (l .is); low = omega (arith, p .low, j .low, l .low) }
+module _ (w : Weight) where
+  pub test-is : {e a b u v r : ℕ} → e ≡ suc (weigh w (1 ∷ []) 0) → a ≤ maxNumber → b ≤ maxNumber → Joins e a u → Joins e b v → Picks w u v r → Gets (tested (weights w) (valueOf a) (valueOf b)) r
+  test-is {e} {a} {b} z h i j l p =
+      record {
+        is = p .is ∙ ap₂ (weights w .choice) (j .is ∙ ap (λ x. together _+_ (valueOf x) (valueOf a)) z) (l .is ∙ ap (λ x. together _+_ (valueOf x) (valueOf b)) (z ∙ ap suc (either-answer w)));
+        low = omega (arith, p .low, j .low, l .low, answer-low w z);
+      }
 
-module _ (g : List ℕ) where
-  pub loop-more : (k : ℕ) → (k ≡ 0 → ⊥) → LowRow maxNumber g → Gets (withoutEnded least (valuesOf g) k) (getD g k 0)
-  loop-more zero d l = absurd (d refl)
-  loop-more (suc k) d l = gets-low (l .at (suc k))
+  module _ (g : List ℕ) where
+    pub loop-more : (k : ℕ) → (k ≡ 0 → ⊥) → LowRow maxNumber g → Gets (withoutEnded (weights w) (valuesOf g) k) (getD g k 0)
+    loop-more zero d l = absurd (d refl)
+    loop-more (suc k) d l = gets-low (l .at (suc k))
 
-  pub trap-zero : {r : ℕ} (k : ℕ) → k ≡ 0 → LowRow maxNumber g → Lesser (getD g 0 0) (getD g 2 0) r → Gets (caught least (valuesOf g) k) r
-  trap-zero {r} k e l p = subst (λ j. Gets (caught least (valuesOf g) j) r) (sym e) (gets-lesser (gets-low (l .at 0)) (gets-low (l .at 2)) p)
+    pub trap-zero : {r : ℕ} (k : ℕ) → k ≡ 0 → LowRow maxNumber g → Picks w (getD g 0 0) (getD g 2 0) r → Gets (caught (weights w) (valuesOf g) k) r
+    trap-zero {r} k e l p = subst (λ j. Gets (caught (weights w) (valuesOf g) j) r) (sym e) (gets-pick (gets-low (l .at 0)) (gets-low (l .at 2)) p)
 
-  pub trap-one : (k : ℕ) → k ≡ 1 → LowRow maxNumber g → Gets (caught least (valuesOf g) k) (getD g 1 0)
-  trap-one k e l = subst (λ j. Gets (caught least (valuesOf g) j) (getD g 1 0)) (sym e) (gets-low (l .at 1))
+    pub trap-one : (k : ℕ) → k ≡ 1 → LowRow maxNumber g → Gets (caught (weights w) (valuesOf g) k) (getD g 1 0)
+    trap-one k e l = subst (λ j. Gets (caught (weights w) (valuesOf g) j) (getD g 1 0)) (sym e) (gets-low (l .at 1))
 
-  pub trap-more : (k : ℕ) → (k ≡ 0 → ⊥) → (k ≡ 1 → ⊥) → LowRow maxNumber g → Gets (caught least (valuesOf g) k) (getD g (k + 1) 0)
-  trap-more zero d e l = absurd (d refl)
-  trap-more (suc zero) d e l = absurd (e refl)
-  trap-more (suc (suc k)) d e l =
-      let z : suc (suc k) + 1 ≡ suc (suc (suc k)) = omega arith in
-      rw z (gets-low (l .at (suc (suc (suc k)))))
+    pub trap-more : (k : ℕ) → (k ≡ 0 → ⊥) → (k ≡ 1 → ⊥) → LowRow maxNumber g → Gets (caught (weights w) (valuesOf g) k) (getD g (k + 1) 0)
+    trap-more zero d e l = absurd (d refl)
+    trap-more (suc zero) d e l = absurd (e refl)
+    trap-more (suc (suc k)) d e l =
+        let z : suc (suc k) + 1 ≡ suc (suc (suc k)) = omega arith in
+        rw z (gets-low (l .at (suc (suc (suc k)))))
 
-  pub trap-last : (k : ℕ) → k ≡ 63 → length g ≡ 64 → LowRow maxNumber g → Gets (caught least (valuesOf g) k) 0
-  trap-last k e z l =
-      let past : getD g (k + 1) 0 ≡ 0 = List·getD-eq-default g 0 (omega arith) in
-      subst (Gets (caught least (valuesOf g) k)) past (trap-more k (λ y. omega arith) (λ y. omega arith) l)
+    pub trap-last : (k : ℕ) → k ≡ 63 → length g ≡ 64 → LowRow maxNumber g → Gets (caught (weights w) (valuesOf g) k) 0
+    trap-last k e z l =
+        let past : getD g (k + 1) 0 ≡ 0 = List·getD-eq-default g 0 (omega arith) in
+        subst (Gets (caught (weights w) (valuesOf g) k)) past (trap-more k (λ y. omega arith) (λ y. omega arith) l)
 
-module _ (f g : List ℕ) (l : LowRow maxNumber f) (m : LowRow maxNumber g) where
-  pub followed-zero : {v : ℕ} (k : ℕ) → k ≡ 0 → Joins (getD f 0 0) (getD g k 0) v → Gets (followed least (valuesOf f) (valuesOf g) k) v
-  followed-zero zero e j = gets-join (l .at 0) (m .at 0) j
-  followed-zero (suc k) e j = absurd (omega arith)
+  module _ (f g : List ℕ) (l : LowRow maxNumber f) (m : LowRow maxNumber g) where
+    pub followed-zero : {v : ℕ} (k : ℕ) → k ≡ 0 → Joins (getD f 0 0) (getD g k 0) v → Gets (followed (weights w) (valuesOf f) (valuesOf g) k) v
+    followed-zero zero e j = gets-join (l .at 0) (m .at 0) j
+    followed-zero (suc k) e j = absurd (omega arith)
 
-  pub followed-more : {v r : ℕ} (k : ℕ) → (k ≡ 0 → ⊥) → Joins (getD f 0 0) (getD g k 0) v → Lesser (getD f k 0) v r → Gets (followed least (valuesOf f) (valuesOf g) k) r
-  followed-more zero d j p = absurd (d refl)
-  followed-more (suc k) d j p = gets-lesser (gets-low (l .at (suc k))) (gets-join (l .at 0) (m .at (suc k)) j) p
+    pub followed-more : {v r : ℕ} (k : ℕ) → (k ≡ 0 → ⊥) → Joins (getD f 0 0) (getD g k 0) v → Picks w (getD f k 0) v r → Gets (followed (weights w) (valuesOf f) (valuesOf g) k) r
+    followed-more zero d j p = absurd (d refl)
+    followed-more (suc k) d j p = gets-pick (gets-low (l .at (suc k))) (gets-join (l .at 0) (m .at (suc k)) j) p

@@ -1,4 +1,4 @@
--- The walk, over any sets of answer lists by code: what is needed after a part, the least in all, and the list that the walk takes.
+-- The walk, over any sets of starts by code: what is needed after a part, the preferred in all, and the list that the walk takes.
 use mathlib.Core.Path.{_≡_, refl, sym, ap, _∙_, subst}
 use mathlib.Core.Bool.{true, false}
 use mathlib.Core.Logic.{_⊎_, inl, inr}
@@ -7,360 +7,472 @@ use mathlib.Core.List.{List, [], _∷_, _++_}
 use Prim.Native.Nat.{ℕ, zero, suc, _+_, _≤_, _<_}
 use native.Mathlib.Nat.{eq-or-lt-of-le}
 use native.Mathlib.Omega.{arith}
-use lib.ListN.{length, length-append}
-use borrow.Author.Tests.{leb-true, leb-false}
+use Rattle.starts.specs.declared.Weight.{Weight}
+use Rattle.starts.specs.declared.Weight.the-variants.{Answers, Entries}
 use Rattle.starts.specs.Ticks.{Bits, Sooner, here, further}
-use Rattle.starts.specs.Summary.{withoutEnded, least}
-use Rattle.starts.specs.Walk.{Need, noMore}
-use Rattle.starts.proofs.Exact.{bits-append}
+use Rattle.starts.specs.Summary.{Starts, Both, starts, entered, withoutEnded, weigh, weights}
+use Rattle.starts.specs.Walk.{Need, noWorse}
+use Rattle.starts.proofs.Exact.{NoWorse, bits-append, weighs}
 use Rattle.starts.proofs.Order.{sooner-left, sooner-right}
+use Rattle.starts.proofs.Weights.{same-weight, add-weight, told-no-worse, told-worse, told-other, ofAnswer, ofEntry, answered-weight, entered-weight}
 
--- the lists of each code
-abbrev pub Lists : Type 1
-Lists = ℕ → List ℕ → Type 0
+-- the starts of each code
+abbrev pub Coded : Type 1
+Coded = ℕ → Starts
 
--- m is the least number of answers, of a list and of what is needed after its code
-pub record Least (S : Lists) (need : Need) (m : ℕ) : Type 0 where
+-- m is the preferred weight, of a start and of what is needed after its code
+pub record Best (w : Weight) (S : Coded) (need : Need) (m : ℕ) : Type 0 where
   pub code : ℕ
   pub used : List ℕ
+  pub many : ℕ
   pub left : ℕ
-  pub is : S code used
+  pub is : S code used many
   pub needs : need code ≡ some left
-  pub total : length used + left ≡ m
-  pub least : (j : ℕ) (v : List ℕ) (r : ℕ) → S j v → need j ≡ some r → m ≤ length v + r
+  pub total : weigh w used many + left ≡ m
+  pub best : (j : ℕ) (v : List ℕ) (n r : ℕ) → S j v n → need j ≡ some r → NoWorse w m (weigh w v n + r)
 
-abbrev pub Costs : Lists → Need → Option ℕ → Type 0
-Costs S need none = (j : ℕ) (v : List ℕ) (r : ℕ) → S j v → need j ≡ some r → ⊥
-Costs S need (some m) = Least S need m
+abbrev pub Costs : Weight → Coded → Need → Option ℕ → Type 0
+Costs w S need none = (j : ℕ) (v : List ℕ) (n r : ℕ) → S j v n → need j ≡ some r → ⊥
+Costs w S need (some m) = Best w S need m
 
 -- u, of code i, is the first of the lists that come to m
-pub record Walks (S : Lists) (need : Need) (m : ℕ) (u : List ℕ) (i : ℕ) : Type 0 where
+pub record Walks (w : Weight) (S : Coded) (need : Need) (m : ℕ) (u : List ℕ) (i : ℕ) : Type 0 where
   pub bits : Bits u
-  pub is : S i u
+  pub many : ℕ
+  pub is : S i u many
   pub left : ℕ
   pub needs : need i ≡ some left
-  pub total : length u + left ≡ m
-  pub first : (j : ℕ) (v : List ℕ) (r : ℕ) → S j v → need j ≡ some r → length v + r ≡ m → ((v ≡ u) × (j ≡ i)) ⊎ Sooner u v
+  pub total : weigh w u many + left ≡ m
+  pub first : (j : ℕ) (v : List ℕ) (n r : ℕ) → S j v n → need j ≡ some r → weigh w v n + r ≡ m → ((v ≡ u) × (j ≡ i)) ⊎ Sooner u v
 
--- a cost that is a number
-costs-some : (S : Lists) (need : Need) (x : Option ℕ) (m : ℕ) → x ≡ some m → Costs S need x → Least S need m
-costs-some S need none m e c = let z : _≡_ {A = ℕ} 0 1 = cc in absurd (omega arith)
-costs-some S need (some n) m e c = let z : n ≡ m = cc in rw z at c
+module _ (w : Weight) where
+  same-no-worse : {x y : ℕ} → x ≡ y → NoWorse w x y
+  same-no-worse {x} e = subst (NoWorse w x) e (weighs w .same x)
 
--- a list that is there makes the cost a number, and no more than what it comes to
-pub record Number (S : Lists) (need : Need) (x : Option ℕ) (n : ℕ) : Type 0 where
-  pub number : ℕ
-  pub is : x ≡ some number
-  pub costs : Least S need number
-  pub small : number ≤ n
+  -- a cost that is a number
+  costs-some : (S : Coded) (need : Need) (x : Option ℕ) (m : ℕ) → x ≡ some m → Costs w S need x → Best w S need m
+  costs-some S need none m e c = let z : _≡_ {A = ℕ} 0 1 = cc in absurd (omega arith)
+  costs-some S need (some n) m e c = let z : n ≡ m = cc in rw z at c
 
-pub number-of : (S : Lists) (need : Need) (x : Option ℕ) → Costs S need x → (j : ℕ) (v : List ℕ) (r : ℕ) → S j v → need j ≡ some r → Number S need x (length v + r)
-number-of S need none c j v r s e = absurd (c j v r s e)
-number-of S need (some m) c j v r s e = record { number = m; is = refl; costs = c; small = c .least j v r s e }
+  -- a start that is there makes the cost a number, and no worse than what it comes to
+  pub record Number (S : Coded) (need : Need) (x : Option ℕ) (n : ℕ) : Type 0 where
+    pub number : ℕ
+    pub is : x ≡ some number
+    pub costs : Best w S need number
+    pub small : NoWorse w number n
 
--- the least of a set is that of a larger one, where no list comes to less
-pub in-larger : (S T : Lists) (need : Need) {m n : ℕ} → ((k : ℕ) (u : List ℕ) → S k u → T k u) → m ≡ n → ((j : ℕ) (v : List ℕ) (r : ℕ) → T j v → need j ≡ some r → n ≤ length v + r) → Least S need m → Least T need n
-in-larger S T need to same low c =
-    record {
-      code = c .code;
-      used = c .used;
-      left = c .left;
-      is = to (c .code) (c .used) (c .is);
-      needs = c .needs;
-      total = c .total ∙ same;
-      least = low;
-    }
+  pub number-of : (S : Coded) (need : Need) (x : Option ℕ) → Costs w S need x → (j : ℕ) (v : List ℕ) (n r : ℕ) → S j v n → need j ≡ some r → Number S need x (weigh w v n + r)
+  number-of S need none c j v n r s e = absurd (c j v n r s e)
+  number-of S need (some m) c j v n r s e = record { number = m; is = refl; costs = c; small = c .best j v n r s e }
 
--- Two sets with the same lists.
-module _ (S T : Lists) (need : Need) (to : (k : ℕ) (u : List ℕ) → S k u → T k u) (from : (k : ℕ) (u : List ℕ) → T k u → S k u) where
-  pub same-least : {m : ℕ} → Least S need m → Least T need m
-  same-least c = in-larger S T need to refl (λ j v r s e. c .least j v r (from j v s) e) c
-
-  pub same-walks : {m i : ℕ} {u : List ℕ} → Walks S need m u i → Walks T need m u i
-  same-walks {i = i} {u = u} c =
+  -- the preferred of a set is that of a larger one, where no start is preferred to it
+  pub in-larger : (S T : Coded) (need : Need) {m n : ℕ} → ((k : ℕ) (u : List ℕ) (l : ℕ) → S k u l → T k u l) → m ≡ n → ((j : ℕ) (v : List ℕ) (l r : ℕ) → T j v l → need j ≡ some r → NoWorse w n (weigh w v l + r)) → Best w S need m → Best w T need n
+  in-larger S T need to same low c =
       record {
-        bits = c .bits;
-        is = to i u (c .is);
+        code = c .code;
+        used = c .used;
+        many = c .many;
         left = c .left;
+        is = to (c .code) (c .used) (c .many) (c .is);
         needs = c .needs;
-        total = c .total;
-        first = λ j v r s e f. c .first j v r (from j v s) e f;
+        total = c .total ∙ same;
+        best = low;
       }
 
--- Nothing is taken, and the code is c.
-pub record Ret (c k : ℕ) (u : List ℕ) : Type 0 where
-  pub code : c ≡ k
-  pub none : u ≡ []
+  -- Two sets with the same starts.
+  module _ (S T : Coded) (need : Need) (to : (k : ℕ) (u : List ℕ) (n : ℕ) → S k u n → T k u n) (from : (k : ℕ) (u : List ℕ) (n : ℕ) → T k u n → S k u n) where
+    pub same-best : {m : ℕ} → Best w S need m → Best w T need m
+    same-best c = in-larger S T need to refl (λ j v n r s e. c .best j v n r (from j v n s) e) c
 
-pub ret-costs : (c : ℕ) (need : Need) → Costs (Ret c) need (need c)
-ret-costs c need = go (need c) refl
-  where
-    go : (x : Option ℕ) → need c ≡ x → Costs (Ret c) need x
-    go none e = λ j v r s f. let g : need c ≡ some r = rw (s .code) f in let z : _≡_ {A = ℕ} 0 1 = cc in omega arith
-    go (some m) e =
+    pub same-walks : {m i : ℕ} {u : List ℕ} → Walks w S need m u i → Walks w T need m u i
+    same-walks {i = i} {u = u} c =
         record {
-          code = c;
-          used = [];
-          left = m;
-          is = record { code = refl; none = refl };
-          needs = e;
-          total = omega arith;
-          least = λ j v r s f. let g : need c ≡ some r = rw (s .code) f in let z : m ≡ r = cc in omega arith;
+          bits = c .bits;
+          many = c .many;
+          is = to i u (c .many) (c .is);
+          left = c .left;
+          needs = c .needs;
+          total = c .total;
+          first = λ j v n r s e f. c .first j v n r (from j v n s) e f;
         }
 
-pub ret-walks : (c : ℕ) (need : Need) (m : ℕ) → Least (Ret c) need m → Walks (Ret c) need m [] c
-ret-walks c need m l =
-    record {
-      bits = tt;
-      is = record { code = refl; none = refl };
-      left = l .left;
-      needs = rw (l .is .code) (l .needs);
-      total = let z = ap length (l .is .none) in omega (arith, l .total);
-      first = λ j v r s e f. inl (s .none, sym (s .code));
-    }
+-- No answer is taken, l entries are made, and the code is c.
+pub record Ret (l c k : ℕ) (u : List ℕ) (n : ℕ) : Type 0 where
+  pub code : c ≡ k
+  pub none : u ≡ []
+  pub many : n ≡ l
 
--- A list of S is one of S₁ and then, after its code, one of T.
-pub record Split (S₁ : Lists) (T : ℕ → Lists) (k : ℕ) (u : List ℕ) : Type 0 where
+module _ (w : Weight) (l c : ℕ) (need : Need) where
+  pub ret-walks : (m : ℕ) → Best w (Ret l c) need m → Walks w (Ret l c) need m [] c
+  ret-walks m b =
+      record {
+        bits = tt;
+        many = l;
+        is = record { code = refl; none = refl; many = refl };
+        left = b .left;
+        needs = rw (b .is .code) (b .needs);
+        total = ap (λ n. weigh w [] n + b .left) (sym (b .is .many)) ∙ ap (λ u. weigh w u (b .many) + b .left) (sym (b .is .none)) ∙ b .total;
+        first = λ j v n r s e f. inl (s .none, sym (s .code));
+      }
+
+-- with nothing entered, what it costs is what is needed after it
+module _ (w : Weight) (c : ℕ) (need : Need) where
+  nothing-weighs : (v : List ℕ) (n r : ℕ) (k : ℕ) → Ret 0 c k v n → weigh w v n + r ≡ r
+  nothing-weighs v n r k s = ap (λ u. weigh w u n + r) (s .none) ∙ ap (λ x. weigh w [] x + r) (s .many) ∙ go w
+    where
+      go : (w : Weight) → weigh w [] 0 + r ≡ r
+      go Answers = omega arith
+      go Entries = omega arith
+
+  pub ret-costs : Costs w (Ret 0 c) need (need c)
+  ret-costs = go (need c) refl
+    where
+      go : (x : Option ℕ) → need c ≡ x → Costs w (Ret 0 c) need x
+      go none e = λ j v n r s f. let g : need c ≡ some r = rw (s .code) f in let z : _≡_ {A = ℕ} 0 1 = cc in omega arith
+      go (some m) e =
+          record {
+            code = c;
+            used = [];
+            many = 0;
+            left = m;
+            is = record { code = refl; none = refl; many = refl };
+            needs = e;
+            total = nothing-weighs [] 0 m c record { code = refl; none = refl; many = refl };
+            best = λ j v n r s f. let g : need c ≡ some r = rw (s .code) f in let z : m ≡ r = cc in same-no-worse w (z ∙ sym (nothing-weighs v n r j s));
+          }
+
+-- A start of S is one of S₁ and then, after its code, one of T.
+pub record Split (S₁ : Coded) (T : ℕ → Coded) (k : ℕ) (u : List ℕ) (n : ℕ) : Type 0 where
   pub code : ℕ
   pub before : List ℕ
   pub after : List ℕ
-  pub first : S₁ code before
-  pub second : T code k after
+  pub manyBefore : ℕ
+  pub manyAfter : ℕ
+  pub first : S₁ code before manyBefore
+  pub second : T code k after manyAfter
   pub answers : u ≡ before ++ after
+  pub entries : n ≡ manyBefore + manyAfter
 
-module _ (S S₁ : Lists) (T : ℕ → Lists) (need need₁ : Need) (into : (i k : ℕ) (v w : List ℕ) → S₁ i v → T i k w → S k (v ++ w)) (out : (k : ℕ) (u : List ℕ) → S k u → Split S₁ T k u) (after : (i : ℕ) → Costs (T i) need (need₁ i)) where
-  -- the part before, with the least that is needed after it, comes to no more
-  at-most : (k : ℕ) (u : List ℕ) (r : ℕ) (d : Split S₁ T k u) → need k ≡ some r → (n : Number (T (d .code)) need (need₁ (d .code)) (length (d .after) + r)) × (length (d .before) + n .number ≤ length u + r)
-  at-most k u r d e =
-      let n = number-of (T (d .code)) need (need₁ (d .code)) (after (d .code)) k (d .after) r (d .second) e in
-      (n, let z = ap length (d .answers) ∙ length-append (d .before) (d .after) in omega (arith, n .small))
+module _ (w : Weight) (S S₁ : Coded) (T : ℕ → Coded) (need need₁ : Need) (into : (i k : ℕ) (u v : List ℕ) (m n : ℕ) → S₁ i u m → T i k v n → S k (u ++ v) (m + n)) (out : (k : ℕ) (u : List ℕ) (n : ℕ) → S k u n → Split S₁ T k u n) (after : (i : ℕ) → Costs w (T i) need (need₁ i)) where
+  -- the weight of a start by its parts
+  parts : (k : ℕ) (u : List ℕ) (n r : ℕ) (d : Split S₁ T k u n) → weigh w (d .before) (d .manyBefore) + (weigh w (d .after) (d .manyAfter) + r) ≡ weigh w u n + r
+  parts k u n r d =
+      let z : weigh w u n ≡ weigh w (d .before) (d .manyBefore) + weigh w (d .after) (d .manyAfter) = rw (d .answers, d .entries) (weighs w .parts (d .before) (d .after) (d .manyBefore) (d .manyAfter)) in
+      omega arith
 
-  at-least : (m : ℕ) → Least S need m → (j : ℕ) (v : List ℕ) (r : ℕ) → S₁ j v → need₁ j ≡ some r → m ≤ length v + r
-  at-least m c j v r s e =
-      let l = costs-some (T j) need (need₁ j) r e (after j) in
-      omega (arith, c .least (l .code) (v ++ l .used) (l .left) (into j (l .code) v (l .used) s (l .is)) (l .needs), length-append v (l .used), l .total)
+  -- the part before, with the preferred that is needed after it, is no worse
+  at-most : (k : ℕ) (u : List ℕ) (m r : ℕ) (d : Split S₁ T k u m) → need k ≡ some r → (n : Number w (T (d .code)) need (need₁ (d .code)) (weigh w (d .after) (d .manyAfter) + r)) × NoWorse w (weigh w (d .before) (d .manyBefore) + n .number) (weigh w u m + r)
+  at-most k u m r d e =
+      let n = number-of w (T (d .code)) need (need₁ (d .code)) (after (d .code)) k (d .after) (d .manyAfter) r (d .second) e in
+      (n, subst (NoWorse w (weigh w (d .before) (d .manyBefore) + n .number)) (parts k u m r d) (add-weight w (weigh w (d .before) (d .manyBefore)) (n .number) (weigh w (d .after) (d .manyAfter) + r) (n .small)))
 
-  pub bind-least : (m : ℕ) → Least S need m → Least S₁ need₁ m
-  bind-least m c =
-      let d = out (c .code) (c .used) (c .is) in
-      let (n, le) = at-most (c .code) (c .used) (c .left) d (c .needs) in
+  at-least : (m : ℕ) → Best w S need m → (j : ℕ) (v : List ℕ) (n r : ℕ) → S₁ j v n → need₁ j ≡ some r → NoWorse w m (weigh w v n + r)
+  at-least m c j v n r s e =
+      let l = costs-some w (T j) need (need₁ j) r e (after j) in
+      let z = weighs w .parts v (l .used) n (l .many) in
+      let y : weigh w (v ++ l .used) (n + l .many) + l .left ≡ weigh w v n + r = omega (arith, l .total) in
+      subst (NoWorse w m) y (c .best (l .code) (v ++ l .used) (n + l .many) (l .left) (into j (l .code) v (l .used) n (l .many) s (l .is)) (l .needs))
+
+  pub bind-best : (m : ℕ) → Best w S need m → Best w S₁ need₁ m
+  bind-best m c =
+      let d = out (c .code) (c .used) (c .many) (c .is) in
+      let (n, le) = at-most (c .code) (c .used) (c .many) (c .left) d (c .needs) in
       record {
         code = d .code;
         used = d .before;
+        many = d .manyBefore;
         left = n .number;
         is = d .first;
         needs = n .is;
-        total = omega (arith, at-least m c (d .code) (d .before) (n .number) (d .first) (n .is), c .total, le);
-        least = at-least m c;
+        total = same-weight w (weigh w (d .before) (d .manyBefore) + n .number) m (subst (NoWorse w (weigh w (d .before) (d .manyBefore) + n .number)) (c .total) le) (at-least m c (d .code) (d .before) (d .manyBefore) (n .number) (d .first) (n .is));
+        best = at-least m c;
       }
 
-  pub bind-walks : (m : ℕ) (u : List ℕ) (i : ℕ) (v : List ℕ) (k : ℕ) → Least S need m → Walks S₁ need₁ m u i → ((l : ℕ) → Least (T i) need l → Walks (T i) need l v k) → Walks S need m (u ++ v) k
+  pub bind-walks : (m : ℕ) (u : List ℕ) (i : ℕ) (v : List ℕ) (k : ℕ) → Best w S need m → Walks w S₁ need₁ m u i → ((l : ℕ) → Best w (T i) need l → Walks w (T i) need l v k) → Walks w S need m (u ++ v) k
   bind-walks m u i v k c x f =
       record {
         bits = bits-append u v (x .bits) (y .bits);
-        is = into i k u v (x .is) (y .is);
+        many = x .many + y .many;
+        is = into i k u v (x .many) (y .many) (x .is) (y .is);
         left = y .left;
         needs = y .needs;
-        total = rw length-append (omega (arith, x .total, y .total));
+        total = let z = weighs w .parts u v (x .many) (y .many) in omega (arith, x .total, y .total);
         first = goes;
       }
     where
-      y : Walks (T i) need (x .left) v k
-      y = f (x .left) (costs-some (T i) need (need₁ i) (x .left) (x .needs) (after i))
+      y : Walks w (T i) need (x .left) v k
+      y = f (x .left) (costs-some w (T i) need (need₁ i) (x .left) (x .needs) (after i))
 
-      goes : (j : ℕ) (w : List ℕ) (r : ℕ) → S j w → need j ≡ some r → length w + r ≡ m → ((w ≡ u ++ v) × (j ≡ k)) ⊎ Sooner (u ++ v) w
-      goes j w r s e t = pick (out j w s)
+      goes : (j : ℕ) (a : List ℕ) (n r : ℕ) → S j a n → need j ≡ some r → weigh w a n + r ≡ m → ((a ≡ u ++ v) × (j ≡ k)) ⊎ Sooner (u ++ v) a
+      goes j a n r s e t = pick (out j a n s)
         where
-          pick : Split S₁ T j w → ((w ≡ u ++ v) × (j ≡ k)) ⊎ Sooner (u ++ v) w
+          pick : Split S₁ T j a n → ((a ≡ u ++ v) × (j ≡ k)) ⊎ Sooner (u ++ v) a
           pick d =
-              let (n, le) = at-most j w r d e in
-              let all : length (d .before) + n .number ≡ m = omega (arith, at-least m c (d .code) (d .before) (n .number) (d .first) (n .is), le) in
-              on (x .first (d .code) (d .before) (n .number) (d .first) (n .is) all)
+              let (l, le) = at-most j a n r d e in
+              on l
+              (same-weight w (weigh w (d .before) (d .manyBefore) + l .number) m (subst (NoWorse w (weigh w (d .before) (d .manyBefore) + l .number)) t le) (at-least m c (d .code) (d .before) (d .manyBefore) (l .number) (d .first) (l .is)))
             where
-              ends : d .before ≡ u → ((d .after ≡ v) × (j ≡ k)) ⊎ Sooner v (d .after) → ((w ≡ u ++ v) × (j ≡ k)) ⊎ Sooner (u ++ v) w
-              ends a (inl (b, z)) = inl (d .answers ∙ ap (λ l. l ++ d .after) a ∙ ap (λ l. u ++ l) b, z)
-              ends a (inr q) = inr (rw (d .answers, a) (sooner-left u q))
+              ends : d .before ≡ u → ((d .after ≡ v) × (j ≡ k)) ⊎ Sooner v (d .after) → ((a ≡ u ++ v) × (j ≡ k)) ⊎ Sooner (u ++ v) a
+              ends b (inl (q, z)) = inl (d .answers ∙ ap (λ l. l ++ d .after) b ∙ ap (λ l. u ++ l) q, z)
+              ends b (inr q) = inr (rw (d .answers, b) (sooner-left u q))
 
-              on : ((d .before ≡ u) × (d .code ≡ i)) ⊎ Sooner u (d .before) → ((w ≡ u ++ v) × (j ≡ k)) ⊎ Sooner (u ++ v) w
-              on (inl (a, z)) =
-                  let long = ap length (d .answers) ∙ length-append (d .before) (d .after) in
-                  let short = ap length a in
-                  ends a (y .first j (d .after) r (subst (λ l. T l j (d .after)) z (d .second)) e (omega (arith, x .total)))
-              on (inr q) = inr (rw (d .answers) (sooner-right v (d .after) q))
+              -- what is needed after the first part is what the second comes to
+              rest : (l : Number w (T (d .code)) need (need₁ (d .code)) (weigh w (d .after) (d .manyAfter) + r)) → weigh w (d .before) (d .manyBefore) + l .number ≡ m → d .code ≡ i → weigh w (d .after) (d .manyAfter) + r ≡ x .left
+              rest l all z =
+                  let same : some (l .number) ≡ some (x .left) = sym (l .is) ∙ ap need₁ z ∙ x .needs in
+                  let number : l .number ≡ x .left = cc in
+                  omega (arith, parts j a n r d)
+
+              on : (l : Number w (T (d .code)) need (need₁ (d .code)) (weigh w (d .after) (d .manyAfter) + r)) → weigh w (d .before) (d .manyBefore) + l .number ≡ m → ((a ≡ u ++ v) × (j ≡ k)) ⊎ Sooner (u ++ v) a
+              on l all = by (x .first (d .code) (d .before) (d .manyBefore) (l .number) (d .first) (l .is) all)
+                where
+                  by : ((d .before ≡ u) × (d .code ≡ i)) ⊎ Sooner u (d .before) → ((a ≡ u ++ v) × (j ≡ k)) ⊎ Sooner (u ++ v) a
+                  by (inl (b, z)) = ends b (y .first j (d .after) (d .manyAfter) r (subst (λ q. T q j (d .after) (d .manyAfter)) z (d .second)) e (rest l all z))
+                  by (inr q) = inr (rw (d .answers) (sooner-right v (d .after) q))
 
 -- A test: S₁ after an answer that is present, S₂ after one that is absent.
-abbrev pub branch : Lists → Lists → ℕ → Lists
+abbrev pub branch : Coded → Coded → ℕ → Coded
 branch S₁ S₂ zero = S₂
 branch S₁ S₂ (suc a) = S₁
 
-pub record Tests (S₁ S₂ : Lists) (k : ℕ) (u : List ℕ) : Type 0 where
+pub record Tests (S₁ S₂ : Coded) (k : ℕ) (u : List ℕ) (n : ℕ) : Type 0 where
   pub head : ℕ
   pub tail : List ℕ
   pub answers : u ≡ head ∷ tail
-  pub is : branch S₁ S₂ head k tail
+  pub is : branch S₁ S₂ head k tail n
 
-module _ (S₁ S₂ : Lists) (need : Need) where
-  -- what both branches come to at least, the test comes to with its answer
-  test-low : (m b : ℕ) → ((j : ℕ) (v : List ℕ) (r : ℕ) → S₁ j v → need j ≡ some r → b ≤ length v + r) → ((j : ℕ) (v : List ℕ) (r : ℕ) → S₂ j v → need j ≡ some r → b ≤ length v + r) → Least (Tests S₁ S₂) need m → suc b ≤ m
-  test-low m b f g c = go (c .is .head) (c .is .is) (let z = ap length (c .is .answers) in omega (arith, c .total))
+module _ (w : Weight) (S₁ S₂ : Coded) (need : Need) where
+  -- the weight of a test's start
+  headed : {k n : ℕ} {u : List ℕ} (r : ℕ) (s : Tests S₁ S₂ k u n) → weigh w u n + r ≡ ofAnswer w + (weigh w (s .tail) n + r)
+  headed {n = n} {u = u} r s = let z : weigh w u n ≡ ofAnswer w + weigh w (s .tail) n = rw (s .answers) (answered-weight w (s .head) (s .tail) n) in omega arith
+
+  -- a test has a start only if a branch has one
+  one-branch : (m : ℕ) → ((j : ℕ) (v : List ℕ) (n r : ℕ) → S₁ j v n → need j ≡ some r → ⊥) → ((j : ℕ) (v : List ℕ) (n r : ℕ) → S₂ j v n → need j ≡ some r → ⊥) → Best w (Tests S₁ S₂) need m → ⊥
+  one-branch m f g c = go (c .is .head) (c .is .is)
     where
-      go : (a : ℕ) → branch S₁ S₂ a (c .code) (c .is .tail) → m ≡ suc (length (c .is .tail) + c .left) → suc b ≤ m
-      go zero s z = omega (arith, g (c .code) (c .is .tail) (c .left) s (c .needs))
-      go (suc a) s z = omega (arith, f (c .code) (c .is .tail) (c .left) s (c .needs))
+      go : (a : ℕ) → branch S₁ S₂ a (c .code) (c .is .tail) (c .many) → ⊥
+      go zero s = g (c .code) (c .is .tail) (c .many) (c .left) s (c .needs)
+      go (suc a) s = f (c .code) (c .is .tail) (c .many) (c .left) s (c .needs)
 
-  -- and no more than one of them does
-  test-high : (m a n : ℕ) → Least (branch S₁ S₂ a) need n → Least (Tests S₁ S₂) need m → m ≤ suc n
+  -- what is no worse than both branches is no worse, with the answer, than the test
+  test-low : (m b : ℕ) → ((j : ℕ) (v : List ℕ) (n r : ℕ) → S₁ j v n → need j ≡ some r → NoWorse w b (weigh w v n + r)) → ((j : ℕ) (v : List ℕ) (n r : ℕ) → S₂ j v n → need j ≡ some r → NoWorse w b (weigh w v n + r)) → Best w (Tests S₁ S₂) need m → NoWorse w (ofAnswer w + b) m
+  test-low m b f g c = subst (NoWorse w (ofAnswer w + b)) (sym (headed (c .left) (c .is)) ∙ c .total) (add-weight w (ofAnswer w) b (weigh w (c .is .tail) (c .many) + c .left) (go (c .is .head) (c .is .is)))
+    where
+      go : (a : ℕ) → branch S₁ S₂ a (c .code) (c .is .tail) (c .many) → NoWorse w b (weigh w (c .is .tail) (c .many) + c .left)
+      go zero s = g (c .code) (c .is .tail) (c .many) (c .left) s (c .needs)
+      go (suc a) s = f (c .code) (c .is .tail) (c .many) (c .left) s (c .needs)
+
+  -- and the test is no worse than one of them with the answer
+  test-high : (m a n : ℕ) → Best w (branch S₁ S₂ a) need n → Best w (Tests S₁ S₂) need m → NoWorse w m (ofAnswer w + n)
   test-high m a n d c =
-      omega (arith, c .least (d .code) (a ∷ d .used) (d .left) record { head = a; tail = d .used; answers = refl; is = d .is } (d .needs), d .total)
+      let s : Tests S₁ S₂ (d .code) (a ∷ d .used) (d .many) = record { head = a; tail = d .used; answers = refl; is = d .is } in
+      subst (NoWorse w m) (headed (d .left) s ∙ ap (λ x. ofAnswer w + x) (d .total)) (c .best (d .code) (a ∷ d .used) (d .many) (d .left) s (d .needs))
 
-  pub absent-cost : (m : ℕ) (x₁ x₂ : Option ℕ) → Costs S₁ need x₁ → Costs S₂ need x₂ → noMore x₂ x₁ ≡ true → Least (Tests S₁ S₂) need m → (n : ℕ) × Least S₂ need n × (m ≡ suc n)
-  absent-cost m none none c d e l = absurd (let z = test-low m m (λ j v r s f. absurd (c j v r s f)) (λ j v r s f. absurd (d j v r s f)) l in omega arith)
-  absent-cost m none (some n) c d e l =
-      (n, d, let z = test-low m n (λ j v r s f. absurd (c j v r s f)) (d .least) l in let w = test-high m 0 n d l in omega arith)
+  -- so it comes to what the better branch does
+  meets : (m a n : ℕ) → Best w (branch S₁ S₂ a) need n → ((j : ℕ) (v : List ℕ) (l r : ℕ) → S₁ j v l → need j ≡ some r → NoWorse w n (weigh w v l + r)) → ((j : ℕ) (v : List ℕ) (l r : ℕ) → S₂ j v l → need j ≡ some r → NoWorse w n (weigh w v l + r)) → Best w (Tests S₁ S₂) need m → m ≡ ofAnswer w + n
+  meets m a n d f g c = same-weight w m (ofAnswer w + n) (test-high m a n d c) (test-low m n f g c)
+
+  pub absent-cost : (m : ℕ) (x₁ x₂ : Option ℕ) → Costs w S₁ need x₁ → Costs w S₂ need x₂ → noWorse w x₂ x₁ ≡ true → Best w (Tests S₁ S₂) need m → (n : ℕ) × Best w S₂ need n × (m ≡ ofAnswer w + n)
+  absent-cost m none none c d e l = absurd (one-branch m c d l)
+  absent-cost m none (some n) c d e l = (n, d, meets m 0 n d (λ j v k r s f. absurd (c j v k r s f)) (d .best) l)
   absent-cost m (some k) none c d e l = let z : _≡_ {A = ℕ} 0 1 = cc in absurd (omega arith)
   absent-cost m (some k) (some n) c d e l =
-      let h = leb-true n k e in
-      (n, d, let z = test-low m n (λ j v r s f. let g = c .least j v r s f in omega arith) (d .least) l in let w = test-high m 0 n d l in omega arith)
+      (n, d, meets m 0 n d (λ j v i r s f. weighs w .then n k (weigh w v i + r) (told-no-worse w n k e) (c .best j v i r s f)) (d .best) l)
 
-  pub present-cost : (m : ℕ) (x₁ x₂ : Option ℕ) → Costs S₁ need x₁ → Costs S₂ need x₂ → noMore x₂ x₁ ≡ false → Least (Tests S₁ S₂) need m → (n : ℕ) × Least S₁ need n × (m ≡ suc n) × ((j : ℕ) (v : List ℕ) (r : ℕ) → S₂ j v → need j ≡ some r → n < length v + r)
+  pub present-cost : (m : ℕ) (x₁ x₂ : Option ℕ) → Costs w S₁ need x₁ → Costs w S₂ need x₂ → noWorse w x₂ x₁ ≡ false → Best w (Tests S₁ S₂) need m → (n : ℕ) × Best w S₁ need n × (m ≡ ofAnswer w + n) × ((j : ℕ) (v : List ℕ) (l r : ℕ) → S₂ j v l → need j ≡ some r → weigh w v l + r ≡ n → ⊥)
   present-cost m none none c d e l = let z : _≡_ {A = ℕ} 0 1 = cc in absurd (omega arith)
   present-cost m none (some n) c d e l = let z : _≡_ {A = ℕ} 0 1 = cc in absurd (omega arith)
   present-cost m (some k) none c d e l = (
     k,
     c,
-    let z = test-low m k (c .least) (λ j v r s f. absurd (d j v r s f)) l in let w = test-high m 1 k c l in omega arith,
-    λ j v r s f. absurd (d j v r s f),
+    meets m 1 k c (c .best) (λ j v i r s f. absurd (d j v i r s f)) l,
+    λ j v i r s f g. d j v i r s f,
   )
-  present-cost m (some k) (some n) c d e l =
-      let h = leb-false n k e in (
-        k,
-        c,
-        let z = test-low m k (c .least) (λ j v r s f. let g = d .least j v r s f in omega arith) l in let w = test-high m 1 k c l in omega arith,
-        λ j v r s f. let g = d .least j v r s f in omega arith,
-      )
+  present-cost m (some k) (some n) c d e l = (
+    k,
+    c,
+    meets m 1 k c (c .best) (λ j v i r s f. weighs w .then k n (weigh w v i + r) (told-worse w n k e) (d .best j v i r s f)) l,
+    λ j v i r s f g. told-other w n k e (subst (NoWorse w n) g (d .best j v i r s f)),
+  )
 
-  -- an answer, then the walk of its branch, where no list with a smaller answer comes to as few
-  answered-walks : (a m n : ℕ) (u : List ℕ) (i : ℕ) → a ≤ 1 → m ≡ suc n → ((j r b : ℕ) (v : List ℕ) → branch S₁ S₂ b j v → need j ≡ some r → length v + r ≡ n → a ≤ b) → Walks (branch S₁ S₂ a) need n u i → Walks (Tests S₁ S₂) need m (a ∷ u) i
+  -- an answer, then the walk of its branch, where no list with a smaller answer comes to the same
+  answered-walks : (a m n : ℕ) (u : List ℕ) (i : ℕ) → a ≤ 1 → m ≡ ofAnswer w + n → ((j r b : ℕ) (v : List ℕ) (l : ℕ) → branch S₁ S₂ b j v l → need j ≡ some r → weigh w v l + r ≡ n → a ≤ b) → Walks w (branch S₁ S₂ a) need n u i → Walks w (Tests S₁ S₂) need m (a ∷ u) i
   answered-walks a m n u i bit z least x =
       record {
         bits = (bit, x .bits);
+        many = x .many;
         is = record { head = a; tail = u; answers = refl; is = x .is };
         left = x .left;
         needs = x .needs;
-        total = omega (arith, x .total);
-        first = λ j v r s e f. rw (s .answers) (go j r (s .head) (s .tail) (s .is) e (let y = ap length (s .answers) in omega arith));
+        total = omega (arith, answered-weight w a u (x .many), x .total);
+        first = λ j v l r s e f. rw (s .answers) (go j r (s .head) (s .tail) l (s .is) e (let y = headed r s in omega arith));
       }
     where
       further-on : (j : ℕ) (v : List ℕ) → ((v ≡ u) × (j ≡ i)) ⊎ Sooner u v → ((a ∷ v ≡ a ∷ u) × (j ≡ i)) ⊎ Sooner (a ∷ u) (a ∷ v)
       further-on j v (inl (e, f)) = inl (ap (λ l. a ∷ l) e, f)
       further-on j v (inr q) = inr (further a q)
 
-      go : (j r b : ℕ) (v : List ℕ) → branch S₁ S₂ b j v → need j ≡ some r → length v + r ≡ n → ((b ∷ v ≡ a ∷ u) × (j ≡ i)) ⊎ Sooner (a ∷ u) (b ∷ v)
-      go j r b v s e f = by (eq-or-lt-of-le (least j r b v s e f)) s
+      go : (j r b : ℕ) (v : List ℕ) (l : ℕ) → branch S₁ S₂ b j v l → need j ≡ some r → weigh w v l + r ≡ n → ((b ∷ v ≡ a ∷ u) × (j ≡ i)) ⊎ Sooner (a ∷ u) (b ∷ v)
+      go j r b v l s e f = by (eq-or-lt-of-le (least j r b v l s e f)) s
         where
-          by : (a ≡ b) ⊎ (a < b) → branch S₁ S₂ b j v → ((b ∷ v ≡ a ∷ u) × (j ≡ i)) ⊎ Sooner (a ∷ u) (b ∷ v)
-          by (inl y) t = rw (sym y) (further-on j v (x .first j v r (subst (λ c. branch S₁ S₂ c j v) (sym y) t) e f))
-          by (inr l) t = inr (here a b u v l)
+          by : (a ≡ b) ⊎ (a < b) → branch S₁ S₂ b j v l → ((b ∷ v ≡ a ∷ u) × (j ≡ i)) ⊎ Sooner (a ∷ u) (b ∷ v)
+          by (inl y) t = rw (sym y) (further-on j v (x .first j v l r (subst (λ c. branch S₁ S₂ c j v l) (sym y) t) e f))
+          by (inr h) t = inr (here a b u v h)
 
-  pub absent-walks : (m n : ℕ) (u : List ℕ) (i : ℕ) → m ≡ suc n → Walks S₂ need n u i → Walks (Tests S₁ S₂) need m (0 ∷ u) i
-  absent-walks m n u i z x = answered-walks 0 m n u i (omega arith) z (λ j r b v s e f. omega arith) x
+  pub absent-walks : (m n : ℕ) (u : List ℕ) (i : ℕ) → m ≡ ofAnswer w + n → Walks w S₂ need n u i → Walks w (Tests S₁ S₂) need m (0 ∷ u) i
+  absent-walks m n u i z x = answered-walks 0 m n u i (omega arith) z (λ j r b v l s e f. omega arith) x
 
-  pub present-walks : (m n : ℕ) (u : List ℕ) (i : ℕ) → m ≡ suc n → ((j : ℕ) (v : List ℕ) (r : ℕ) → S₂ j v → need j ≡ some r → n < length v + r) → Walks S₁ need n u i → Walks (Tests S₁ S₂) need m (1 ∷ u) i
-  present-walks m n u i z more x = answered-walks 1 m n u i (omega arith) z least x
+  pub present-walks : (m n : ℕ) (u : List ℕ) (i : ℕ) → m ≡ ofAnswer w + n → ((j : ℕ) (v : List ℕ) (l r : ℕ) → S₂ j v l → need j ≡ some r → weigh w v l + r ≡ n → ⊥) → Walks w S₁ need n u i → Walks w (Tests S₁ S₂) need m (1 ∷ u) i
+  present-walks m n u i z worse x = answered-walks 1 m n u i (omega arith) z least x
     where
-      least : (j r b : ℕ) (v : List ℕ) → branch S₁ S₂ b j v → need j ≡ some r → length v + r ≡ n → 1 ≤ b
-      least j r zero v s e f = absurd (omega (arith, more j v r s e))
-      least j r (suc b) v s e f = omega arith
+      least : (j r b : ℕ) (v : List ℕ) (l : ℕ) → branch S₁ S₂ b j v l → need j ≡ some r → weigh w v l + r ≡ n → 1 ≤ b
+      least j r zero v l s e f = absurd (worse j v l r s e f)
+      least j r (suc b) v l s e f = omega arith
 
 -- The codes turned by a function.
-pub record Image (f : ℕ → ℕ) (S : Lists) (k : ℕ) (u : List ℕ) : Type 0 where
+pub record Image (f : ℕ → ℕ) (S : Coded) (k : ℕ) (u : List ℕ) (n : ℕ) : Type 0 where
   pub code : ℕ
-  pub is : S code u
+  pub is : S code u n
   pub turned : f code ≡ k
 
-module _ (f : ℕ → ℕ) (S : Lists) (need : Need) where
+module _ (w : Weight) (f : ℕ → ℕ) (S : Coded) (need : Need) where
   needed : (j k r : ℕ) → f j ≡ k → need k ≡ some r → need (f j) ≡ some r
   needed j k r z e = rw z e
 
-  pub image-least : (m : ℕ) → Least (Image f S) need m → Least S (λ j. need (f j)) m
-  image-least m c =
+  pub image-best : (m : ℕ) → Best w (Image f S) need m → Best w S (λ j. need (f j)) m
+  image-best m c =
       record {
         code = c .is .code;
         used = c .used;
+        many = c .many;
         left = c .left;
         is = c .is .is;
         needs = needed (c .is .code) (c .code) (c .left) (c .is .turned) (c .needs);
         total = c .total;
-        least = λ j v r s e. c .least (f j) v r record { code = j; is = s; turned = refl } e;
+        best = λ j v n r s e. c .best (f j) v n r record { code = j; is = s; turned = refl } e;
       }
 
-  pub image-costs : (x : Option ℕ) → Costs S (λ j. need (f j)) x → Costs (Image f S) need x
-  image-costs none c = λ j v r s e. c (s .code) v r (s .is) (needed (s .code) j r (s .turned) e)
+  pub image-costs : (x : Option ℕ) → Costs w S (λ j. need (f j)) x → Costs w (Image f S) need x
+  image-costs none c = λ j v n r s e. c (s .code) v n r (s .is) (needed (s .code) j r (s .turned) e)
   image-costs (some m) c =
       record {
         code = f (c .code);
         used = c .used;
+        many = c .many;
         left = c .left;
         is = record { code = c .code; is = c .is; turned = refl };
         needs = c .needs;
         total = c .total;
-        least = λ j v r s e. c .least (s .code) v r (s .is) (needed (s .code) j r (s .turned) e);
+        best = λ j v n r s e. c .best (s .code) v n r (s .is) (needed (s .code) j r (s .turned) e);
       }
 
-  pub image-walks : (m : ℕ) (u : List ℕ) (i : ℕ) → Walks S (λ j. need (f j)) m u i → Walks (Image f S) need m u (f i)
+  pub image-walks : (m : ℕ) (u : List ℕ) (i : ℕ) → Walks w S (λ j. need (f j)) m u i → Walks w (Image f S) need m u (f i)
   image-walks m u i x =
       record {
         bits = x .bits;
+        many = x .many;
         is = record { code = i; is = x .is; turned = refl };
         left = x .left;
         needs = x .needs;
         total = x .total;
-        first = λ j v r s e z. turn j v s (x .first (s .code) v r (s .is) (needed (s .code) j r (s .turned) e) z);
+        first = λ j v n r s e z. turn j v n s (x .first (s .code) v n r (s .is) (needed (s .code) j r (s .turned) e) z);
       }
     where
-      turn : (j : ℕ) (v : List ℕ) (s : Image f S j v) → ((v ≡ u) × (s .code ≡ i)) ⊎ Sooner u v → ((v ≡ u) × (j ≡ f i)) ⊎ Sooner u v
-      turn j v s (inl (a, b)) = inl (a, sym (s .turned) ∙ ap f b)
-      turn j v s (inr q) = inr q
+      turn : (j : ℕ) (v : List ℕ) (n : ℕ) (s : Image f S j v n) → ((v ≡ u) × (s .code ≡ i)) ⊎ Sooner u v → ((v ≡ u) × (j ≡ f i)) ⊎ Sooner u v
+      turn j v n s (inl (a, b)) = inl (a, sym (s .turned) ∙ ap f b)
+      turn j v n s (inr q) = inr q
 
 -- Without code 0.
-abbrev pub Without : Lists → Lists
-Without S zero u = ⊥
-Without S (suc k) u = S (suc k) u
+abbrev pub Without : Coded → Coded
+Without S zero u n = ⊥
+Without S (suc k) u n = S (suc k) u n
 
-module _ (S : Lists) (need : Need) where
-  without-out : (k : ℕ) (u : List ℕ) (r : ℕ) → Without S k u → need k ≡ some r → (j : ℕ) × S j u × (withoutEnded least need j ≡ some r)
-  without-out zero u r s e = absurd s
-  without-out (suc k) u r s e = (suc k, s, e)
+module _ (w : Weight) (S : Coded) (need : Need) where
+  without-out : (k : ℕ) (u : List ℕ) (n r : ℕ) → Without S k u n → need k ≡ some r → (j : ℕ) × S j u n × (withoutEnded (weights w) need j ≡ some r)
+  without-out zero u n r s e = absurd s
+  without-out (suc k) u n r s e = (suc k, s, e)
 
-  without-in : (k : ℕ) (u : List ℕ) (r : ℕ) → S k u → withoutEnded least need k ≡ some r → Without S k u × (need k ≡ some r)
-  without-in zero u r s e = let z : _≡_ {A = ℕ} 0 1 = cc in absurd (omega arith)
-  without-in (suc k) u r s e = (s, e)
+  without-in : (k : ℕ) (u : List ℕ) (n r : ℕ) → S k u n → withoutEnded (weights w) need k ≡ some r → Without S k u n × (need k ≡ some r)
+  without-in zero u n r s e = let z : _≡_ {A = ℕ} 0 1 = cc in absurd (omega arith)
+  without-in (suc k) u n r s e = (s, e)
 
-  pub without-least : (m : ℕ) → Least (Without S) need m → Least S (withoutEnded least need) m
-  without-least m c =
-      let (k, s, e) = without-out (c .code) (c .used) (c .left) (c .is) (c .needs) in
+  pub without-best : (m : ℕ) → Best w (Without S) need m → Best w S (withoutEnded (weights w) need) m
+  without-best m c =
+      let (k, s, e) = without-out (c .code) (c .used) (c .many) (c .left) (c .is) (c .needs) in
       record {
         code = k;
         used = c .used;
+        many = c .many;
         left = c .left;
         is = s;
         needs = e;
         total = c .total;
-        least = λ j v r s e. let (w, f) = without-in j v r s e in c .least j v r w f;
+        best = λ j v n r s e. let (t, f) = without-in j v n r s e in c .best j v n r t f;
       }
 
-  pub without-walks : (m : ℕ) (u : List ℕ) (i : ℕ) → Walks S (withoutEnded least need) m u i → Walks (Without S) need m u i
+  pub without-walks : (m : ℕ) (u : List ℕ) (i : ℕ) → Walks w S (withoutEnded (weights w) need) m u i → Walks w (Without S) need m u i
   without-walks m u i x =
-      let (s, e) = without-in i u (x .left) (x .is) (x .needs) in
+      let (s, e) = without-in i u (x .many) (x .left) (x .is) (x .needs) in
       record {
         bits = x .bits;
+        many = x .many;
         is = s;
         left = x .left;
         needs = e;
         total = x .total;
-        first = λ j v r s e z. go j v r s e z;
+        first = λ j v n r s e z. go j v n r s e z;
       }
     where
-      go : (j : ℕ) (v : List ℕ) (r : ℕ) → Without S j v → need j ≡ some r → length v + r ≡ m → ((v ≡ u) × (j ≡ i)) ⊎ Sooner u v
-      go zero v r s e z = absurd s
-      go (suc j) v r s e z = x .first (suc j) v r s e z
+      go : (j : ℕ) (v : List ℕ) (n r : ℕ) → Without S j v n → need j ≡ some r → weigh w v n + r ≡ m → ((v ≡ u) × (j ≡ i)) ⊎ Sooner u v
+      go zero v n r s e z = absurd s
+      go (suc j) v n r s e z = x .first (suc j) v n r s e z
+
+-- A statement that is entered: one entry, then what is in it.
+module _ (w : Weight) (S : Coded) (need : Need) where
+  entered-in : (k : ℕ) (u : List ℕ) (n : ℕ) → S k u n → entered starts S k u (suc n)
+  entered-in k u n x = record { before = []; after = u; entriesBefore = 1; entriesAfter = n; first = (refl, refl); second = x; answers = refl; entries = omega arith }
+
+  entered-out : (k : ℕ) (u : List ℕ) (n : ℕ) → entered starts S k u n → (m : ℕ) × S k u m × (n ≡ suc m)
+  entered-out k u n b =
+      let z : b .after ≡ u = sym (b .answers ∙ ap (λ l. l ++ b .after) (b .first .0)) in
+      (b .entriesAfter, subst (λ l. S k l (b .entriesAfter)) z (b .second), omega (arith, b .entries, b .first .1))
+
+  one-more : (u : List ℕ) (n m r : ℕ) → n ≡ suc m → weigh w u n + r ≡ ofEntry w + (weigh w u m + r)
+  one-more u n m r e = let z : weigh w u n ≡ ofEntry w + weigh w u m = rw e (entered-weight w u m) in omega arith
+
+  pub entered-best : (m : ℕ) → Best w (entered starts S) need m → (l : ℕ) × Best w S need l × (m ≡ ofEntry w + l)
+  entered-best m c =
+      let (n, s, e) = entered-out (c .code) (c .used) (c .many) (c .is) in
+      let l = weigh w (c .used) n + c .left in
+      let same : m ≡ ofEntry w + l = sym (c .total) ∙ one-more (c .used) (c .many) n (c .left) e in (
+        l,
+        record {
+          code = c .code;
+          used = c .used;
+          many = n;
+          left = c .left;
+          is = s;
+          needs = c .needs;
+          total = refl;
+          best = λ j v k r t f. drop-entry w l (weigh w v k + r) (subst (λ x. NoWorse w x (ofEntry w + (weigh w v k + r))) same (subst (NoWorse w m) (one-more v (suc k) k r refl) (c .best j v (suc k) r (entered-in j v k t) f)));
+        },
+        same,
+      )
+    where
+      drop-entry : (w : Weight) (x y : ℕ) → NoWorse w (ofEntry w + x) (ofEntry w + y) → NoWorse w x y
+      drop-entry Answers x y h = omega arith
+      drop-entry Entries x y h = omega arith
+
+  pub entered-walks : (m l : ℕ) (u : List ℕ) (i : ℕ) → m ≡ ofEntry w + l → Walks w S need l u i → Walks w (entered starts S) need m u i
+  entered-walks m l u i same x =
+      record {
+        bits = x .bits;
+        many = suc (x .many);
+        is = entered-in i u (x .many) (x .is);
+        left = x .left;
+        needs = x .needs;
+        total = omega (arith, one-more u (suc (x .many)) (x .many) (x .left) refl, x .total);
+        first = λ j v n r s e f.
+            let (k, t, z) = entered-out j v n s in
+            x .first j v k r t e (let y = one-more v n k r z in omega arith);
+      }

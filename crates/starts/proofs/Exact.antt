@@ -3,12 +3,14 @@ use mathlib.Core.Path.{_≡_, refl, sym, ap, _∙_}
 use mathlib.Core.Logic.{_⊎_, inl, inr}
 use mathlib.Core.Option.{Option, none, some}
 use mathlib.Core.List.{List, [], _∷_, _++_}
-use Prim.Native.Nat.{ℕ, zero, suc, _+_, _≤_, min}
+use Prim.Native.Nat.{ℕ, zero, suc, _+_, _≤_, min, max}
 use native.Mathlib.Decide.{decLe}
 use native.Mathlib.Omega.{arith}
 use lib.ListN.{length, length-append}
 use Rattle.starts.specs.Ticks.{Bits}
-use Rattle.starts.specs.Summary.{Starts, Both, Took, IsAbsent, IsPresent, starts, either, together, weighed}
+use Rattle.starts.specs.declared.Weight.{Weight}
+use Rattle.starts.specs.declared.Weight.the-variants.{Answers, Entries}
+use Rattle.starts.specs.Summary.{Starts, Both, Took, IsAbsent, IsPresent, starts, either, together, weighed, prefer, weigh}
 use Rattle.starts.proofs.Related.{Keeps}
 use Rattle.starts.proofs.Sound.{join}
 
@@ -122,9 +124,13 @@ module _ {A : Type 0} {pick join : A → A → A} {weigh : List ℕ → ℕ → 
         both = joins;
       }
 
--- the least number of answers
-pub least-weighs : Weighs min _+_ (λ u n. length u) (λ x y. x ≤ y)
-least-weighs =
+-- which of two weights is preferred: x, or neither
+abbrev pub NoWorse : Weight → ℕ → ℕ → Type 0
+NoWorse Answers x y = x ≤ y
+NoWorse Entries x y = y ≤ x
+
+pub weighs : (w : Weight) → Weighs (prefer w) _+_ (weigh w) (NoWorse w)
+weighs Answers =
     record {
       pick-one = λ x y. smaller-one x y (decLe x y);
       pick-left = λ x y. omega arith;
@@ -139,3 +145,18 @@ least-weighs =
     smaller-one : (x y : ℕ) → Dec (x ≤ y) → (min x y ≡ x) ⊎ (min x y ≡ y)
     smaller-one x y (yes h) = inl (omega arith)
     smaller-one x y (no h) = inr (omega arith)
+weighs Entries =
+    record {
+      pick-one = λ x y. larger-one x y (decLe x y);
+      pick-left = λ x y. omega arith;
+      pick-right = λ x y. omega arith;
+      same = λ x. omega arith;
+      then = λ x y z h j. omega arith;
+      keeps = λ x x′ y y′ h j. omega arith;
+      parts = λ u v m n. refl;
+      one-first = λ a. omega arith;
+    }
+  where
+    larger-one : (x y : ℕ) → Dec (x ≤ y) → (max x y ≡ x) ⊎ (max x y ≡ y)
+    larger-one x y (yes h) = inr (omega arith)
+    larger-one x y (no h) = inl (omega arith)

@@ -2,6 +2,7 @@ pub mod Related
 pub mod Sound
 pub mod Complete
 pub mod Exact
+pub mod Weights
 pub mod Triples
 pub mod Order
 pub mod Bind
@@ -10,4 +11,5 @@ pub mod Walk
 pub mod Agree
 pub mod Short
 pub mod Theorems
+pub mod Entries
 pub mod Examples

@@ -23,6 +23,9 @@ sooner-irrefl : {a b : List ℕ} → Sooner a b → a ≡ b → ⊥
 sooner-irrefl (here x y a b h) e = let z : x ≡ y = cc in omega arith
 sooner-irrefl (further x {a} {b} q) e = let z : a ≡ b = cc in sooner-irrefl q z
 
+pub sooner-once : (a b : List ℕ) → Sooner a b → Sooner b a → ⊥
+sooner-once a b p q = sooner-irrefl (sooner-trans p q) refl
+
 -- of two lists only one comes before the other
 pub before-once : (a b : List ℕ) → Before a b → Before b a → ⊥
 before-once a b p q = go (before-trans p q)

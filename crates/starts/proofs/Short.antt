@@ -6,8 +6,9 @@ use lib.ListN.{length, length-append}
 use Rattle.esterel.specs.Codes.{catchCode}
 use Rattle.esterel.specs.Statement.{nothing, pause, emit, exit, signal, suspend, loop, trap, present, sequence, parallel, Stmt, leaf, one, two}
 use Rattle.starts.specs.Ticks.{presents}
-use Rattle.starts.specs.Summary.{withoutEnded, least}
-use Rattle.starts.specs.Walk.{Need, cost, noMore, needFirst, Walked, walked, answersOf, answer, andWalk, besideWalk, walk}
+use Rattle.starts.specs.declared.Weight.{Weight}
+use Rattle.starts.specs.Summary.{withoutEnded, weights}
+use Rattle.starts.specs.Walk.{Need, cost, noWorse, needFirst, Walked, walked, answersOf, answer, andWalk, besideWalk, walk}
 
 abbrev many : Walked → ℕ
 many w = length (answersOf w)
@@ -23,18 +24,18 @@ test-short : (t : Bool) (w v : Walked) (m n : ℕ) → many w ≤ m → many v �
 test-short true w v m n h l = omega arith
 test-short false w v m n h l = omega arith
 
-pub walk-short : (B : ℕ) (p : Stmt) (need : Need) → length (answersOf (walk B p need)) ≤ presents p
-walk-short B (leaf nothing) need = omega arith
-walk-short B (leaf pause) need = omega arith
-walk-short B (leaf (exit level)) need = omega arith
-walk-short B (leaf (emit s)) need = omega arith
-walk-short B (two sequence p q) need =
-    and-short (walk B p (needFirst (cost B q need) need)) (walk B q need) (presents p) (presents q) (walk-short B p (needFirst (cost B q need) need)) (walk-short B q need)
-walk-short B (two (present s) p q) need =
-    test-short (noMore (cost B q need) (cost B p need)) (walk B q need) (walk B p need) (presents q) (presents p) (walk-short B q need) (walk-short B p need)
-walk-short B (one trap p) need = walk-short B p (λ k. need (catchCode k))
-walk-short B (two parallel p q) need =
-    beside-short (walk B p (λ i. cost B q (λ j. need (max i j)))) (λ i. walk B q (λ j. need (max i j))) (presents p) (presents q) (walk-short B p (λ i. cost B q (λ j. need (max i j)))) (λ i. walk-short B q (λ j. need (max i j)))
-walk-short B (one loop p) need = walk-short B p (withoutEnded least need)
-walk-short B (one (signal s) p) need = walk-short B p need
-walk-short B (one (suspend s) p) need = walk-short B p need
+pub walk-short : (w : Weight) (B : ℕ) (p : Stmt) (need : Need) → length (answersOf (walk w B p need)) ≤ presents p
+walk-short w B (leaf nothing) need = omega arith
+walk-short w B (leaf pause) need = omega arith
+walk-short w B (leaf (exit level)) need = omega arith
+walk-short w B (leaf (emit s)) need = omega arith
+walk-short w B (two sequence p q) need =
+    and-short (walk w B p (needFirst (cost w B q need) need)) (walk w B q need) (presents p) (presents q) (walk-short w B p (needFirst (cost w B q need) need)) (walk-short w B q need)
+walk-short w B (two (present s) p q) need =
+    test-short (noWorse w (cost w B q need) (cost w B p need)) (walk w B q need) (walk w B p need) (presents q) (presents p) (walk-short w B q need) (walk-short w B p need)
+walk-short w B (one trap p) need = walk-short w B p (λ k. need (catchCode k))
+walk-short w B (two parallel p q) need =
+    beside-short (walk w B p (λ i. cost w B q (λ j. need (max i j)))) (λ i. walk w B q (λ j. need (max i j))) (presents p) (presents q) (walk-short w B p (λ i. cost w B q (λ j. need (max i j)))) (λ i. walk-short w B q (λ j. need (max i j)))
+walk-short w B (one loop p) need = walk-short w B p (withoutEnded (weights w) need)
+walk-short w B (one (signal s) p) need = walk-short w B p need
+walk-short w B (one (suspend s) p) need = walk-short w B p need

@@ -21,17 +21,19 @@ use Rattle.esterel.proofs.Caught.{codes-few}
 use Rattle.esterel.proofs.Low.{start-pause}
 use Rattle.esterel.proofs.Refusals.{refusals}
 use Rattle.esterel.proofs.Subtrees.{only-child, two-children}
-use Rattle.esterel.proofs.Theorems.{exactness, loopCheck}
+use Rattle.esterel.proofs.Theorems.{exactness, loopCheck, demand3}
 use Rattle.starts.specs.Ticks.{Leads, Sooner, Before, Bits, IsShown, presents}
-use Rattle.starts.specs.Summary.{Gives, leastAnswers}
+use Rattle.starts.specs.declared.Weight.{Weight}
+use Rattle.starts.specs.declared.Weight.the-variants.{Answers, Entries}
+use Rattle.starts.specs.Summary.{Gives, best, leastAnswers, mostEntries}
 use Rattle.starts.specs.Walk.{goal, answersOf, codeOf, walk, Low, Below}
 use Rattle.starts.specs.Theorems.{TakesFew, OneShown, Faults}
 use Rattle.starts.specs.Computing.{Triples, WalkShows, WalksRight}
-use Rattle.starts.proofs.Exact.{least-weighs}
+use Rattle.starts.proofs.Exact.{weighs}
 use Rattle.starts.proofs.Triples.{ran, gives, taken, starved-few, few-answers, in-gives, exact, reached, there}
 use Rattle.starts.proofs.Order.{before-once}
-use Rattle.starts.proofs.Bind.{Least, Walks}
-use Rattle.starts.proofs.Cost.{Says, below-low}
+use Rattle.starts.proofs.Bind.{Best, Walks}
+use Rattle.starts.proofs.Cost.{below-low}
 use Rattle.starts.proofs.Walk.{walks}
 
 pub triples : Triples
@@ -58,8 +60,21 @@ few-tests (two parallel p q) = omega (arith, few-tests p, few-tests q)
 -- the least number of answers is one of some start
 pub few-least : (p : Stmt) (k n : ℕ) → leastAnswers p k ≡ some n → n ≤ presents p
 few-least p k n e =
-    let o = reached least-weighs (leastAnswers p k) n e (exact least-weighs p k) in
+    let o = reached (weighs Answers) (leastAnswers p k) n e (exact (weighs Answers) p k) in
     omega (arith, o .weight, few-answers p k (o .used) (o .many) (o .is))
+
+-- no statement is entered twice at a start
+few-entries : (p : Stmt) (k : ℕ) (u : List ℕ) (n : ℕ) → Gives p k u n → n ≤ size p
+few-entries p k u n x =
+    let (t, h, e, l) = ran p 0 k u n x in
+    omega (arith, demand3 .startEntries p u k t h [] e)
+
+-- nor is what is preferred more than the nodes
+pub few-best : (w : Weight) (p : Stmt) (k n : ℕ) → best w p k ≡ some n → n ≤ size p
+few-best Answers p k n e = omega (arith, few-least p k n e, few-tests p)
+few-best Entries p k n e =
+    let o = reached (weighs Entries) (mostEntries p k) n e (exact (weighs Entries) p k) in
+    omega (arith, o .weight, few-entries p k (o .used) (o .many) (o .is))
 
 pub takesFew : TakesFew
 takesFew =
@@ -85,34 +100,35 @@ goal-other k j r e = go (eqb k j) refl e
 
 module _ (B : ℕ) (p : Stmt) (b : Below B p) (k : ℕ) (e : startSet p k ≡ true) where
   -- the least number of answers, with nothing needed after code k
-  found : (m : ℕ) × Least (Says (Gives p)) (goal k) m
+  found : (m : ℕ) × Best Answers (Gives p) (goal k) m
   found =
       let (u, n, x) = in-gives p k e in
-      let (m, z) = there least-weighs (Gives p k) (leastAnswers p k) u n x (exact least-weighs p k) in
-      let o = reached least-weighs (leastAnswers p k) m z (exact least-weighs p k) in (
+      let (m, z) = there (weighs Answers) (Gives p k) (leastAnswers p k) u n x (exact (weighs Answers) p k) in
+      let o = reached (weighs Answers) (leastAnswers p k) m z (exact (weighs Answers) p k) in (
         m,
         record {
           code = k;
           used = o .used;
+          many = o .many;
           left = 0;
-          is = (o .many, o .is);
+          is = o .is;
           needs = goal-own k;
           total = omega (arith, o .weight);
-          least = λ j v r (n, s) f.
+          best = λ j v n r s f.
               let (same, zero-left) = goal-other k j r f in
               omega (arith, o .first v n (subst (λ i. Gives p i v n) (sym same) s));
         },
       )
 
   -- a list that the walk takes comes before every other
-  firsts : (u : List ℕ) (i m : ℕ) → Least (Says (Gives p)) (goal k) m → Walks (Says (Gives p)) (goal k) m u i → (v : List ℕ) (n : ℕ) → Gives p k v n → (u ≡ v) ⊎ Before u v
+  firsts : (u : List ℕ) (i m : ℕ) → Best Answers (Gives p) (goal k) m → Walks Answers (Gives p) (goal k) m u i → (v : List ℕ) (n : ℕ) → Gives p k v n → (u ≡ v) ⊎ Before u v
   firsts u i m l x v n y = go (decLt (length u) (length v))
     where
       left : x .left ≡ 0
       left = goal-other k i (x .left) (x .needs) .1
 
       more : m ≤ length v + 0
-      more = l .least k v 0 (n, y) (goal-own k)
+      more = l .best k v n 0 y (goal-own k)
 
       at-one : length u ≡ length v → ((v ≡ u) × (k ≡ i)) ⊎ Sooner u v → (u ≡ v) ⊎ Before u v
       at-one z (inl (a, b)) = inl (sym a)
@@ -120,27 +136,27 @@ module _ (B : ℕ) (p : Stmt) (b : Below B p) (k : ℕ) (e : startSet p k ≡ tr
 
       go : Dec (length u < length v) → (u ≡ v) ⊎ Before u v
       go (yes h) = inr (inl h)
-      go (no h) = at-one (omega (arith, x .total, left, more)) (x .first k v 0 (n, y) (goal-own k) (omega (arith, x .total, left, more)))
+      go (no h) = at-one (omega (arith, x .total, left, more)) (x .first k v n 0 y (goal-own k) (omega (arith, x .total, left, more)))
 
-  shows : (u : List ℕ) (i m : ℕ) → Least (Says (Gives p)) (goal k) m → Walks (Says (Gives p)) (goal k) m u i → (first : ℕ) → IsShown first p k u
+  shows : (u : List ℕ) (i m : ℕ) → Best Answers (Gives p) (goal k) m → Walks Answers (Gives p) (goal k) m u i → (first : ℕ) → IsShown first p k u
   shows u i m c x first =
       let same = goal-other k i (x .left) (x .needs) .0 in
       record {
-        leads = gives-leads p first k u (x .is .0) (subst (λ j. Gives p j u (x .is .0)) (sym same) (x .is .1));
+        leads = gives-leads p first k u (x .many) (subst (λ j. Gives p j u (x .many)) (sym same) (x .is));
         first = λ v o. let (n, y) = leads-gives p first k v o in firsts u i m c x v n y;
       }
 
   walking : WalkShows B p k
   walking =
       let (m, c) = found in
-      let x = walks B p b (goal k) m c in
+      let x = walks Answers B p b (goal k) m c in
       record {
-        code = sym (goal-other k (codeOf (walk B p (goal k))) (x .left) (x .needs) .0);
-        shown = shows (answersOf (walk B p (goal k))) (codeOf (walk B p (goal k))) m c x;
+        code = sym (goal-other k (codeOf (walk Answers B p (goal k))) (x .left) (x .needs) .0);
+        shown = shows (answersOf (walk Answers B p (goal k))) (codeOf (walk Answers B p (goal k))) m c x;
       }
 
-  walk-bits : Bits (answersOf (walk B p (goal k)))
-  walk-bits = let (m, c) = found in walks B p b (goal k) m c .bits
+  walk-bits : Bits (answersOf (walk Answers B p (goal k)))
+  walk-bits = let (m, c) = found in walks Answers B p b (goal k) m c .bits
 
 pub walksRight : WalksRight
 walksRight B p b k e = walking B p b k e
@@ -189,7 +205,7 @@ bounded (two c p q) =
 -- ---- the list that is shown
 
 exists : (p : Stmt) (first k : ℕ) → startSet p k ≡ true → (answers : List ℕ) × IsShown first p k answers
-exists p first k e = (answersOf (walk (highest p) p (goal k)), walksRight (highest p) p (bounded p) k e .shown first)
+exists p first k e = (answersOf (walk Answers (highest p) p (goal k)), walksRight (highest p) p (bounded p) k e .shown first)
 
 only-one : (u v : List ℕ) → (u ≡ v) ⊎ Before u v → (v ≡ u) ⊎ Before v u → u ≡ v
 only-one u v (inl e) d = e
@@ -203,7 +219,7 @@ bits : (p : Stmt) (first k : ℕ) (u : List ℕ) → IsShown first p k u → Bit
 bits p first k u o =
     let (t, h, e) = o .leads in
     let inK = exactness p first k .1 (u, t, h, [], e) in
-    let same = unique p first k (answersOf (walk (highest p) p (goal k))) u (walksRight (highest p) p (bounded p) k inK .shown first) o in
+    let same = unique p first k (answersOf (walk Answers (highest p) p (goal k))) u (walksRight (highest p) p (bounded p) k inK .shown first) o in
     subst Bits same (walk-bits (highest p) p (bounded p) k inK)
 
 pub oneShown : OneShown

@@ -1,4 +1,5 @@
 pub mod Ticks
+pub mod Entries
 pub mod Theorems
 pub mod Summary
 pub mod Walk

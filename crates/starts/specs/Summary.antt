@@ -1,7 +1,7 @@
 -- How the list is computed, from here on: no contract of a call rests on it. One recursion over a statement says, for each code, what
 -- the starts with that code come to. What is said of a start (its answers, how many there are) is a value of an algebra: `choice` joins
 -- two ways to start, `both` puts one part of a start after another.
-use Prim.Native.Nat.{ℕ, zero, suc, _+_, min}
+use Prim.Native.Nat.{ℕ, zero, suc, _+_, min, max}
 use mathlib.Core.Path.{_≡_}
 use mathlib.Core.Logic.{_⊎_}
 use mathlib.Core.Bool.{Bool, true, false}
@@ -11,6 +11,8 @@ use lib.ListN.{length}
 use lib.Dec.{eqb}
 use Rattle.esterel.specs.Statement.{nothing, pause, emit, exit, signal, suspend, loop, trap, present, sequence, parallel, Stmt, leaf, one, two}
 use Rattle.esterel.specs.Instant.{Entry, Result, closed}
+use Rattle.starts.specs.declared.Weight.{Weight}
+use Rattle.starts.specs.declared.Weight.the-variants.{Answers, Entries}
 
 pub record Algebra {ℓ} (X : Type ℓ) : Type ℓ where
   -- there is no start
@@ -148,9 +150,25 @@ weighed pick join weigh =
       both = together join;
     }
 
--- the least number of answers: min and +
-abbrev pub least : Algebra (Option ℕ)
-least = weighed min _+_ (λ u n. length u)
+-- Weighed by its number of answers, of which the least is preferred, or by its number of entries, of which the most is
+abbrev pub prefer : Weight → ℕ → ℕ → ℕ
+prefer Answers = min
+prefer Entries = max
 
+abbrev pub weigh : Weight → List ℕ → ℕ → ℕ
+weigh Answers = λ u n. length u
+weigh Entries = λ u n. n
+
+abbrev pub weights : Weight → Algebra (Option ℕ)
+weights w = weighed (prefer w) _+_ (weigh w)
+
+-- the preferred of each code
+abbrev pub best : Weight → Stmt → ℕ → Option ℕ
+best w = summary (weights w)
+
+-- the least number of answers, and the most entries
 abbrev pub leastAnswers : Stmt → ℕ → Option ℕ
-leastAnswers = summary least
+leastAnswers = best Answers
+
+abbrev pub mostEntries : Stmt → ℕ → Option ℕ
+mostEntries = best Entries

@@ -10,6 +10,8 @@ use Rattle.esterel.specs.Sets.{startSet}
 use Rattle.esterel.specs.Table.{refused}
 use Rattle.esterel.specs.Checks.{verdict}
 use Rattle.esterel.specs.Instant.{Entry, closed, starved, start}
+use Rattle.esterel.specs.Theorems.{Accepted}
+use Rattle.starts.specs.Entries.{Greatest, IsLongest}
 use Rattle.starts.specs.Ticks.{Leads, Bits, IsShown, ShownAt, tickAnswers, presents}
 
 -- Whatever answers are lent, a start takes at most as many as there are presents in the statement, and leads to its code with these alone;
@@ -39,3 +41,16 @@ pub record Fault (bytes : List ℕ) (node : ℕ) : Type 0 where
 
 abbrev pub Faults : Type 0
 Faults = (bytes : List ℕ) (node : ℕ) → verdict bytes ≡ refused 11 node → Fault bytes node
+
+-- F-10. An accepted program has a greatest number of entries, and only one. It is at least 1 and at most the number of nodes, since no
+-- statement is entered twice at a start. The answers that are handed out for it exist, and there is one such list only; it is of 0 and 1, and
+-- has at most as many answers as there are presents.
+pub record FirstTick : Type 0 where
+  pub exists : (p : Stmt) → Accepted p → (n : ℕ) × Greatest p n
+  pub unique : (p : Stmt) (m n : ℕ) → Greatest p m → Greatest p n → m ≡ n
+  pub some : (p : Stmt) (n : ℕ) → Greatest p n → 1 ≤ n
+  pub nodes : (p : Stmt) (n : ℕ) → Greatest p n → n ≤ size p
+  pub longest : (p : Stmt) (n : ℕ) → Greatest p n → (answers : List ℕ) × IsLongest p n answers
+  pub oneLongest : (p : Stmt) (n : ℕ) (u v : List ℕ) → IsLongest p n u → IsLongest p n v → u ≡ v
+  pub bits : (p : Stmt) (n : ℕ) (answers : List ℕ) → Greatest p n → IsLongest p n answers → Bits answers
+  pub short : (p : Stmt) (n : ℕ) (answers : List ℕ) → IsLongest p n answers → length answers ≤ presents p

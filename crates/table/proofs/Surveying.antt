@@ -12,10 +12,10 @@ use Rattle.esterel.specs.Statement.{signal, suspend, loop, trap, Stmt, leaf, on
 use Rattle.esterel.specs.Table.{Verdict, passed, refused}
 use Rattle.esterel.specs.Codes.{Codes, bit, empty}
 use Rattle.esterel.specs.Sets.{places}
-use Rattle.esterel.specs.Checks.{tooDeep, tooManyTraps, uncaught}
+use Rattle.esterel.specs.Checks.{tooDeep, tooManyTraps, uncaught, verdict}
 use Rattle.esterel.proofs.Sizes.{size-pos}
 use Rattle.table.specs.Kinds.{kindOf, arityOf, isTrap, isLoop, isExit}
-use Rattle.table.specs.Program.{programOf, Readable}
+use Rattle.table.specs.Program.{programIn, programOf, Readable}
 use Rattle.table.specs.Stacks.{Moves}
 use Rattle.table.specs.Check.{refuseBelow, placesCheck, Shallow, Descended, Seen, Surveyed}
 use Rattle.table.specs.declared.Kind.{Kind}
@@ -25,7 +25,7 @@ use Rattle.table.specs.declared.Faults.{Faults}
 use Rattle.table.specs.declared.Nesting.{Nesting}
 use Rattle.table.proofs.Bytes.{childrenOf, arity-of, table-length, kind-byte, field-byte}
 use Rattle.table.proofs.Walk.{Waiting, Walk, Next, program, begin, next, ended, children, descend, placeOf, placesIn}
-use Rattle.esterel.proofs.Accepted.{length-places}
+use Rattle.esterel.proofs.Accepted.{length-places, accepted-read}
 use Rattle.table.proofs.Stacks.{none, more, here, Low, low-top, descend-low, moves-down, Held, Hand, in-hand, descend-held}
 use Rattle.table.proofs.Said.{said, trapsOf, loopsOf, loop-body, bit-small, depth-below, traps-below, loops-below, count-below}
 use Rattle.table.proofs.Found.{Answers, answer-more, together}
@@ -39,6 +39,14 @@ pub few-nodes : (t : List ℕ) → Readable t → size (programOf t) ≤ maxNode
 few-nodes t ok =
     let z = few-bytes (ltb (2 * maxNodes) (length t)) _ (programOf t) (ok .reads) in
     omega (arith, ltb-false (2 * maxNodes) (length t) z, table-length t ok)
+
+-- and so has one that is accepted
+pub few-accepted : (t : List ℕ) (p : Stmt) → verdict t ≡ passed p → size p ≤ maxNodes
+unfolding programOf
+few-accepted t p e =
+    let reads = accepted-read t p e .0 in
+    let is : programOf t ≡ p = ap programIn reads in
+    rw is at (few-nodes t record { reads = reads ∙ ap passed (sym is) })
 
 -- the loop depth that the ones that wait come to
 abbrev deepest : List Waiting → ℕ

@@ -2,7 +2,7 @@
 -- ends next on top; their places, and those of the nodes seen, are the program's.
 use mathlib.Core.Path.{_≡_, refl, sym, ap, ap₂, subst, _∙_}
 use mathlib.Core.List.{List, [], _∷_, _++_, append-assoc, append-nil}
-use Prim.Native.Nat.{ℕ, zero, suc, _+_, _<_}
+use Prim.Native.Nat.{ℕ, zero, suc, _+_, _≤_, _<_}
 use native.Mathlib.Omega.{arith}
 use lib.ListN.{length, getD, length-append, List·getD-map}
 use lib.Seq.{getD-at}
@@ -200,3 +200,9 @@ module _ (p : Stmt) where
       go [] h = h
       go (w ∷ ws) h =
           absurd (omega (arith, walk-of h .left, length-append (placesIn ws) (places (w .depth) (w .traps) (w .context) (w .root)), length-places (w .root) (w .depth) (w .traps) (w .context), size-pos (w .root)))
+
+  -- after the last node only the program is unused
+  pub at-last : {i : ℕ} {us : List Waiting} → Unused p i us → size p ≤ i → us ≡ program p ∷ []
+  at-last (all i e) le = refl
+  at-last (less i w ws us e h) le =
+      absurd (omega (arith, walk-of h .left, ap length (walk-of h .are) ∙ length-append (placesIn (w ∷ ws)) (walk-of h .seen), length-places p 1 0 empty))

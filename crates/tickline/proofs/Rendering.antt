@@ -7,11 +7,9 @@ use lib.ListN.{length, take, drop, length-append}
 use lib.Seq.{take-append-seam}
 use Rattle.esterel.specs.Limits.{maxNodes}
 use Rattle.esterel.specs.Statement.{Stmt, size, loopDepth}
-use Rattle.esterel.specs.Table.{passed, refused, read}
+use Rattle.esterel.specs.Table.{passed, refused}
 use Rattle.esterel.specs.Checks.{verdict, planned}
-use Rattle.table.specs.Program.{programIn, programOf}
-use Rattle.table.proofs.Buffers.{sets-front}
-use Rattle.table.proofs.Surveying.{few-nodes}
+use Rattle.table.proofs.Surveying.{few-accepted}
 use Rattle.esterel.proofs.Refusals.{passed-refused, other-number, refusals}
 use Rattle.starts.specs.Ticks.{ShownAt, tickAnswers}
 use Rattle.starts.proofs.Theorems.{oneShown}
@@ -21,40 +19,21 @@ use Rattle.witness.specs.declared.Tick.the-variants.{Ends, Accepted, Refused}
 use Rattle.witness.proofs.Theorems.{ticksTold, shown-once, list-short}
 use Rattle.listing.specs.Text.{headerText, textOf}
 use Rattle.listing.specs.Written.{Written}
-use Rattle.listing.specs.Rendering.{WholeText}
-use Rattle.listing.proofs.Columns.{program-lets}
 use Rattle.listing.proofs.Digits.{few-digits}
 use Rattle.listing.proofs.Fields.{refusal-size, header-short}
 use Rattle.listing.proofs.Whole.{loops-few}
+use Rattle.listing.proofs.Writing.{written-whole}
 use Rattle.tickline.specs.Line.{tickText, firstLine, IsLine, shows, lists, maxLine}
 use Rattle.tickline.specs.Theorems.{OneLine}
 use Rattle.tickline.specs.Written.{LineWritten}
 use Rattle.tickline.proofs.Lines.{refusal-line, header-line}
 use Rattle.tickline.proofs.Writing.{tick-short}
 
-whole : {line old new : List ℕ} {r : ℕ} → length line ≤ length old → Written old 0 line new r → WholeText line old new r
-whole {line} {old} {new} {r} h w =
-    let none : 0 + length line ≡ length line = omega arith in
-    let content : new ≡ line ++ drop (length line) old = w .is ∙ sets-front line old h in
-    record {
-      end = w .end ∙ none;
-      within = rw (content, length-append) (omega (arith, w .end));
-      content = content;
-    }
-
 rendered : {t line old new : List ℕ} {r : ℕ} → IsLine t line → length line ≤ length old → Written old 0 line new r → LineWritten t old new r
-rendered {line = line} is h w = record { line = line; is = is; whole = whole h w }
+rendered {line = line} is h w = record { line = line; is = is; whole = written-whole h w }
 
 same-node : {m n : ℕ} → refused 11 m ≡ refused 11 n → m ≡ n
 same-node e = cc
-
--- an accepted table has few nodes
-few-accepted : (t : List ℕ) (p : Stmt) → verdict t ≡ passed p → size p ≤ maxNodes
-unfolding programOf
-few-accepted t p e =
-    let reads : read t ≡ passed p = program-lets (read t) p e in
-    let is : programOf t ≡ p = ap programIn reads in
-    rw is at (few-nodes t record { reads = reads ∙ ap passed (sym is) })
 
 refusal-short : (number node : ℕ) → length (textOf (refused number node)) ≤ 138
 refusal-short number node = omega (arith, refusal-size number node, few-digits 10 number, few-digits 10 node)

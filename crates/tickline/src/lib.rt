@@ -45,7 +45,7 @@ fn write_tick(text: &mut [u8], node: usize, answers: &[u8]) -> usize
 pub fn render_line(table: &[u8], text: &mut [u8; MAX_LINE]) -> usize
     ensures { λ r. ⌜ LineWritten (now (table .entry)) (now (text .entry)) (now (text .exit)) r ⌝ }
 {
-    let mut answers = [0u8; witness::TICK_ANSWERS];
+    let mut answers = [0u8; starts::TICK_ANSWERS];
     let tick = witness::find_tick(table, &mut answers);
     match tick {
         Tick::Ends { node, length } => write_tick(text, node, &answers[..length]),

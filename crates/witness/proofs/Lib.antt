@@ -1,5 +1,2 @@
-pub mod Small
-pub mod Needs
-pub mod Walks
 pub mod Ticks
 pub mod Theorems

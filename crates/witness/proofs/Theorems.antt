@@ -4,7 +4,6 @@ use mathlib.Core.Bool.{Bool, true, false, cond, _||_}
 use mathlib.Core.List.{List}
 use Prim.Native.Nat.{ℕ, _-_, _*_, _%_, _≤_, _<_}
 use native.Mathlib.Omega.{arith}
-use borrow.Author.Tests.{le-leb}
 use lib.Dec.{eqb, leb, ltb}
 use lib.ListN.{length}
 use Rattle.esterel.specs.Limits.{maxNodes}
@@ -12,11 +11,11 @@ use Rattle.esterel.specs.Statement.{loop, Stmt, one, size, nodes, loopDepth}
 use Rattle.esterel.specs.Table.{Verdict, passed, refused}
 use Rattle.esterel.specs.Checks.{verdict}
 use Rattle.esterel.specs.Outcome.{statementAt}
-use Rattle.esterel.proofs.Refusals.{Told, told-numbered, passed-refused, other-number}
+use Rattle.esterel.proofs.Refusals.{Told, told-numbered, one-program, one-refusal, passed-refused, other-number}
 use Rattle.esterel.proofs.Theorems.{loopCheck}
 use Rattle.table.specs.Columns.{onto}
 use Rattle.analysis.specs.Analysis.{checked}
-use Rattle.analysis.proofs.Theorems.{checked-room, checked-passed, checked-told}
+use Rattle.analysis.proofs.Theorems.{checked-room, enough-room, checked-passed, checked-told}
 use Rattle.starts.specs.Ticks.{IsShown, ShownAt, tickAnswers}
 use Rattle.starts.proofs.Theorems.{oneShown, faults}
 use Rattle.witness.specs.declared.Tick.{Tick}
@@ -26,38 +25,32 @@ use Rattle.witness.specs.Theorems.{Determined, TicksTold}
 
 -- ---- a table has one list that is shown
 
-same-program : {p q : Stmt} → passed p ≡ passed q → p ≡ q
-same-program e = cc
-
 same-body : {p q : Stmt} → one loop p ≡ one loop q → p ≡ q
 same-body e = cc
 
 pub shown-once : {t : List ℕ} {node : ℕ} {u v : List ℕ} → ShownAt t node u → ShownAt t node v → u ≡ v
 shown-once {node = node} {u = u} {v = v} a b =
-    let program = same-program (sym (a .reads) ∙ b .reads) in
+    let program = one-program (a .reads) (b .reads) in
     let body = same-body (sym (a .isLoop) ∙ ap (λ p. statementAt (nodes p) node) program ∙ b .isLoop) in
     oneShown .unique (a .body) (node - size (a .body)) 0 u v (a .shown) (subst (λ p. IsShown (node - size p) p 0 v) (sym body) (b .shown))
 
 -- ---- the contract is met by one answer and one content
 
-numbers : {v : Verdict} {a b c d : ℕ} → v ≡ refused a b → v ≡ refused c d → (a ≡ c) × (b ≡ d)
-numbers e f = (cc, cc)
-
 pub determined : Determined
 determined t old new new′ r r′ (Tells.accepts p e z w) (Tells.accepts q f y x) =
-    let same = same-program (sym e ∙ f) in
+    let same = one-program e f in
     (z ∙ ap (λ s. Accepted (size s) (loopDepth s)) same ∙ sym y, w ∙ sym x)
 determined t old new new′ r r′ (Tells.accepts p e z w) (Tells.refuses b n f d y x) = absurd (passed-refused e f)
 determined t old new new′ r r′ (Tells.accepts p e z w) (Tells.shows n u f s y x) = absurd (passed-refused e f)
 determined t old new new′ r r′ (Tells.refuses a m e c z w) (Tells.accepts q f y x) = absurd (passed-refused f e)
 determined t old new new′ r r′ (Tells.refuses a m e c z w) (Tells.refuses b n f d y x) =
-    let (number, node) = numbers e f in
+    let (number, node) = one-refusal e f in
     (z ∙ ap₂ Refused number node ∙ sym y, w ∙ sym x)
-determined t old new new′ r r′ (Tells.refuses a m e c z w) (Tells.shows n u f s y x) = absurd (c (numbers e f .0))
+determined t old new new′ r r′ (Tells.refuses a m e c z w) (Tells.shows n u f s y x) = absurd (c (one-refusal e f .0))
 determined t old new new′ r r′ (Tells.shows m u e s z w) (Tells.accepts q f y x) = absurd (passed-refused f e)
-determined t old new new′ r r′ (Tells.shows m u e s z w) (Tells.refuses b n f d y x) = absurd (d (numbers f e .0))
+determined t old new new′ r r′ (Tells.shows m u e s z w) (Tells.refuses b n f d y x) = absurd (d (one-refusal f e .0))
 determined t old new new′ r r′ (Tells.shows m u e s z w) (Tells.shows n v f o y x) =
-    let node = numbers e f .1 in
+    let node = one-refusal e f .1 in
     let list = shown-once s (subst (λ i. ShownAt t i v) (sym node) o) in
     (z ∙ ap₂ (λ i l. Ends i (length l)) node list ∙ sym y, w ∙ ap (λ l. onto l old) list ∙ sym x)
 
@@ -74,9 +67,6 @@ eleven false t node e = absurd (go (ltb (2 * maxNodes) (length t)) (eqb (length 
     go false true z = other-number (λ y. omega arith) z
     go false false z = other-number (λ y. omega arith) z
 
-with-room : (t old : List ℕ) → tickAnswers ≤ length old → verdictFor t old ≡ verdict t
-with-room t old room = ap (λ b. checked b t) (le-leb tickAnswers (length old) room) ∙ checked-room t
-
 module _ {t old new : List ℕ} {r : Tick} (o : Tells t old new r) where
   ends-refused : (node n : ℕ) → r ≡ Ends node n → verdict t ≡ refused 11 node
   ends-refused node n e = go o
@@ -90,18 +80,18 @@ module _ {t old new : List ℕ} {r : Tick} (o : Tells t old new r) where
   refused-ends room node e = go o
     where
       is : verdictFor t old ≡ refused 11 node
-      is = with-room t old room ∙ e
+      is = enough-room t room ∙ e
 
       go : Tells t old new r → (n : ℕ) × (r ≡ Ends node n)
       go (Tells.accepts p v z w) = absurd (passed-refused v is)
-      go (Tells.refuses a m v d z w) = absurd (d (numbers v is .0))
-      go (Tells.shows m u v s z w) = (length u, z ∙ ap (λ i. Ends i (length u)) (numbers v is .1))
+      go (Tells.refuses a m v d z w) = absurd (d (one-refusal v is .0))
+      go (Tells.shows m u v s z w) = (length u, z ∙ ap (λ i. Ends i (length u)) (one-refusal v is .1))
 
 -- the list that is shown is shorter than the room
 pub list-short : {t : List ℕ} {node : ℕ} {u : List ℕ} → verdict t ≡ refused 11 node → ShownAt t node u → length u < tickAnswers
 list-short {t} {node} {u} e s =
     let f = faults t node e in
-    let program = same-program (sym (s .reads) ∙ f .at .reads) in
+    let program = one-program (s .reads) (f .at .reads) in
     let body = same-body (sym (s .isLoop) ∙ ap (λ p. statementAt (nodes p) node) program ∙ f .at .isLoop) in
     f .short u (subst (λ p. IsShown (node - size p) p 0 u) body (s .shown) .leads)
 
@@ -132,7 +122,7 @@ refusal-is number node room (Tells.accepts p v z w) e = let y : _≡_ {A = ℕ} 
 refusal-is {t} {old} number node room (Tells.refuses a m v d z w) e =
     let one : a ≡ number = cc in
     let two : m ≡ node = cc in
-    sym (with-room t old room) ∙ v ∙ ap₂ refused one two
+    sym (enough-room t room) ∙ v ∙ ap₂ refused one two
 refusal-is number node room (Tells.shows m u v s z w) e = let y : _≡_ {A = ℕ} 0 1 = cc in absurd (omega arith)
 
 pub ticksTold : TicksTold

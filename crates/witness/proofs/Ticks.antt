@@ -32,6 +32,7 @@ use Rattle.analysis.specs.Analysis.{TableChecked}
 use Rattle.analysis.specs.declared.Acceptance.{Acceptance}
 use Rattle.analysis.proofs.Analyses.{table-refused, table-passed, nodes-are}
 use Rattle.analysis.proofs.Theorems.{refused-late}
+use Rattle.starts.specs.declared.Weight.the-variants.{Answers}
 use Rattle.starts.specs.Ticks.{tickAnswers, presents}
 use Rattle.starts.specs.Walk.{goal, walk, answersOf, Below}
 use Rattle.starts.specs.Computing.{WalkShows}
@@ -41,10 +42,11 @@ use Rattle.starts.proofs.Theorems.{few-tests, walksRight, codes-below}
 use Rattle.rows.specs.Rows.{valueOf, valuesOf}
 use Rattle.rows.specs.Filled.{Formed, RowsTo}
 use Rattle.rows.proofs.Said.{row-low}
-use Rattle.witness.specs.declared.Walked.{Walked}
+use Rattle.walk.specs.declared.Walked.{Walked}
+use Rattle.walk.specs.Walks.{Walking, Walks}
 use Rattle.witness.specs.declared.Tick.{Tick}
 use Rattle.witness.specs.declared.Tick.the-variants.{Ends, Accepted, Refused}
-use Rattle.witness.specs.Walks.{Walking, Walks, Goal, Faulty, Showing}
+use Rattle.witness.specs.Shows.{Goal, Faulty, Showing}
 use Rattle.witness.specs.Ticks.{verdictFor, Tells}
 
 -- ---- goal
@@ -90,6 +92,7 @@ module _ {t : List ℕ} {node : ℕ} (o : Faulty t node) where
     pub right : WalkShows 63 body 0
     pub some : 0 < node
     pub known : node ≤ size (programOf t)
+    pub few-nodes : size body ≤ maxNodes
     pub few-answers : presents body ≤ 511
 
   body-of : (body : Stmt) × Body body
@@ -105,6 +108,7 @@ module _ {t : List ℕ} {node : ℕ} (o : Faulty t node) where
           right = walksRight 63 (l .body) below 0 (l .such);
           some = omega (arith, size-pos (l .body));
           known = omega (arith, loop-within (programOf t) node (l .body) (l .isLoop), length-places (programOf t) 1 0 empty);
+          few-nodes = omega (arith, refusals t 11 node (o .refuses) .2);
           few-answers = omega (arith, few-tests (l .body), refusals t 11 node (o .refuses) .2);
         },
       )
@@ -119,8 +123,8 @@ module _ {t : List ℕ} {node : ℕ} (o : Faulty t node) where
     pub formed : Formed t sizes
     formed = record { wellFormed = well-formed; measured = measured old readable (omega (arith, few)) s }
 
-    module _ {rows need : List ℕ} (done : RowsTo t node rows) (g : Goal need) {answers : List ℕ} (room : tickAnswers ≤ length answers) where
-      pub body-call : Walking t sizes rows need answers (node - 1) 0
+    module _ {rows need : List ℕ} (done : RowsTo Answers t node rows) (g : Goal need) {answers : List ℕ} (room : tickAnswers ≤ length answers) where
+      pub body-call : Walking Answers t sizes rows need answers (node - 1) 0
       body-call =
           let (body, b) = body-of in
           record {
@@ -132,20 +136,20 @@ module _ {t : List ℕ} {node : ℕ} (o : Faulty t node) where
             long = g .holds .long;
             most = 0;
             low = g .low;
-            few = subst (λ w. 0 + presents w ≤ 511) (sym (b .child)) (omega (arith, b .few-answers));
+            few = subst (λ w. 0 + size w ≤ maxNodes) (sym (b .child)) (omega (arith, b .few-nodes));
             room = subst (λ w. 0 + presents w ≤ length answers) (sym (b .child)) (omega (arith, b .few-answers));
           }
 
-      pub showing : {answers′ : List ℕ} {w : Walked} {x : ℕ} → Walks (stmtAt t (node - 1)) need answers answers′ 0 w → x ≡ w .at → Showing t node answers answers′ x
+      pub showing : {answers′ : List ℕ} {w : Walked} {x : ℕ} → Walks Answers (stmtAt t (node - 1)) need answers answers′ 0 w → x ≡ w .at → Showing t node answers answers′ x
       showing {answers′} {w} {x} v ex =
           let (body, b) = body-of in
-          let same : walk 63 (stmtAt t (node - 1)) (valuesOf need) ≡ walk 63 body (goal 0) = ap (λ p. walk 63 p (valuesOf need)) (b .child) ∙ walk-agree 63 body (b .below) (valuesOf need) (goal 0) (λ k h. g .holds .at k (omega arith)) in
-          let list = answersOf (walk 63 body (goal 0)) in
+          let same : walk Answers 63 (stmtAt t (node - 1)) (valuesOf need) ≡ walk Answers 63 body (goal 0) = ap (λ p. walk Answers 63 p (valuesOf need)) (b .child) ∙ walk-agree Answers 63 body (b .below) (valuesOf need) (goal 0) (λ k h. g .holds .at k (omega arith)) in
+          let list = answersOf (walk Answers 63 body (goal 0)) in
           record {
             list = list;
             shown = record { program = programOf t; reads = well-formed .reads; body = body; isLoop = b .is; shown = b .right .shown (node - size body) };
             long = let z : 0 + length list ≡ length list = omega arith in ex ∙ v .after ∙ ap (λ y. 0 + length (answersOf y)) same ∙ z;
-            written = v .written ∙ ap (λ y. sets answers 0 (answersOf y)) same ∙ sets-front list answers (omega (arith, walk-short 63 body (goal 0), b .few-answers));
+            written = v .written ∙ ap (λ y. sets answers 0 (answersOf y)) same ∙ sets-front list answers (omega (arith, walk-short Answers 63 body (goal 0), b .few-answers));
           }
 
 -- ---- find_tick

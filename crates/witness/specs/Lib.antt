@@ -1,4 +1,3 @@
 pub mod Ticks
 pub mod Theorems
-pub mod Needs
-pub mod Walks
+pub mod Shows

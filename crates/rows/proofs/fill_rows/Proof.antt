@@ -11,10 +11,10 @@ use borrow.Author.Needs.{needs}
 use native.Mathlib.Omega.{arith}
 
 abbrev Inv-loop : tie.InvT-loop
-Inv-loop table sizes nodes rows₀ i₀ rows i = (i ≤ nodes) × (length rows ≡ length rows₀) × RowsTo table i rows
+Inv-loop weight table sizes nodes rows₀ i₀ rows i = (i ≤ nodes) × (length rows ≡ length rows₀) × RowsTo weight table i rows
 
 abbrev μ-loop : tie.MeasureT-loop
-μ-loop table sizes nodes rows₀ i₀ rows i = nodes - i
+μ-loop weight table sizes nodes rows₀ i₀ rows i = nodes - i
 
 loop-holds : tie.Need-loop-holds Inv-loop μ-loop
 loop-holds c = (omega arith, refl, rows-none (c .before .before .before .pre .2))

@@ -21,19 +21,19 @@ join-requires c κs =
     (omega (arith, c .before .before .pre .0 .at 0, c .before .before .pre .0 .at k), omega (arith, c .before .before .pre .1 .at 0, c .before .before .pre .1 .at k))
 
 returns : tie.Need-returns
-returns c = followed-zero (now (c .before .before .before .before .args .first)) (now (c .before .before .before .before .args .last)) (c .before .before .before .before .pre .0) (c .before .before .before .before .pre .1) _ (c .if1 .taken) (c .before .join .ensures)
+returns c = followed-zero (c .before .before .before .before .args .weight) (now (c .before .before .before .before .args .first)) (now (c .before .before .before .before .args .second)) (c .before .before .before .before .pre .0) (c .before .before .before .before .pre .1) _ (c .if1 .taken) (c .before .join .ensures)
 
-mul-lesser : tie.Need-mul-lesser
-mul-lesser c = search needs
+mul-pick : tie.Need-mul-pick
+mul-pick c = search needs
 
-element-copy-out-lesser : tie.Need-element-copy-out-lesser
-element-copy-out-lesser c = search needs
+element-copy-out-pick : tie.Need-element-copy-out-pick
+element-copy-out-pick c = search needs
 
-lesser-requires : tie.Need-lesser-requires
-lesser-requires c κs = search needs
+pick-requires : tie.Need-pick-requires
+pick-requires c κs = search needs
 
 returns-2 : tie.Need-returns-2
-returns-2 c = followed-more (now (c .before .before .before .before .before .before .args .first)) (now (c .before .before .before .before .before .before .args .last)) (c .before .before .before .before .before .before .pre .0) (c .before .before .before .before .before .before .pre .1) _ (c .before .before .if1 .left) (c .before .before .before .join .ensures) (c .lesser .ensures)
+returns-2 c = followed-more (c .before .before .before .before .before .before .args .weight) (now (c .before .before .before .before .before .before .args .first)) (now (c .before .before .before .before .before .before .args .second)) (c .before .before .before .before .before .before .pre .0) (c .before .before .before .before .before .before .pre .1) _ (c .before .before .if1 .left) (c .before .before .before .join .ensures) (c .pick .ensures)
 
 pub followed-spec : {M : Type 1} → statement M
 followed-spec =
@@ -44,7 +44,7 @@ followed-spec =
     element-copy-out-join-2
     join-requires
     returns
-    mul-lesser
-    element-copy-out-lesser
-    lesser-requires
+    mul-pick
+    element-copy-out-pick
+    pick-requires
     returns-2)

@@ -55,7 +55,7 @@ load-requires-2 c κs = omega (arith, in-place (c .before .before .before .befor
 row-of-requires-3 : tie.Need-row-of-requires-3
 row-of-requires-3 c κs =
     let some = has-last (c .before .before .before .before .before .before .before .before .before .before .before .pre .0 .measured) (c .before .before .before .before .before .before .before .before .before .before .before .pre .1) (c .before .before .before .before .before .before .before .kind-at .ensures) (c .before .before .before .before .before .arity .ensures) (c .before .before .before .before .if1 .left) in
-    (said-low (c .before .before .before .before .before .before .before .before .before .before .before .pre .0) (c .before .before .before .before .before .before .before .before .before .before .before .pre .2) (c .before .before .before .before .before .before .before .before .before .before .before .args .node - 1 - c .before .size-at .result) (omega arith) (c .load2 .ensures) (omega (arith, c .before .before .before .before .before .before .before .before .before .before .before .pre .1)), said-low (c .before .before .before .before .before .before .before .before .before .before .before .pre .0) (c .before .before .before .before .before .before .before .before .before .before .before .pre .2) (c .before .before .before .before .before .before .before .before .before .before .before .args .node - 1) (omega arith) (c .before .before .before .load .ensures) (omega (arith, c .before .before .before .before .before .before .before .before .before .before .before .pre .1)), c .before .before .before .load .ensures .long, c .before .before .before .before .before .before .field-at .ensures .1)
+    (said-low (c .before .before .before .before .before .before .before .before .before .before .before .pre .0) (c .before .before .before .before .before .before .before .before .before .before .before .pre .2) (c .before .before .before .before .before .before .before .before .before .before .before .args .node - 1 - c .before .size-at .result) (omega arith) (c .load2 .ensures) (omega (arith, c .before .before .before .before .before .before .before .before .before .before .before .pre .1)), said-low (c .before .before .before .before .before .before .before .before .before .before .before .pre .0) (c .before .before .before .before .before .before .before .before .before .before .before .pre .2) (c .before .before .before .before .before .before .before .before .before .before .before .args .node - 1) (omega arith) (c .before .before .before .load .ensures) (omega (arith, c .before .before .before .before .before .before .before .before .before .before .before .pre .1)), c .load2 .ensures .long, c .before .before .before .before .before .before .field-at .ensures .1)
 
 returns-3 : tie.Need-returns-3
 returns-3 c = two-child (c .before .before .before .before .before .before .before .before .before .before .before .before .pre .0) (c .before .before .before .before .before .before .before .before .before .before .before .before .pre .1) (c .before .before .before .before .before .before .before .before .kind-at .ensures) (c .before .before .before .before .before .before .before .field-at .ensures .0) (c .before .before .before .before .before .before .arity .ensures) (c .before .before .before .before .before .before .before .before .before .before .before .before .pre .2) (c .before .before .before .before .load .ensures) (c .row-of3 .ensures) (c .before .before .size-at .ensures) (c .before .before .before .before .before .if1 .left) (c .before .before .before .if2 .left) (c .before .load2 .ensures)

@@ -17,7 +17,7 @@ mul-from : tie.Need-mul-from Inv-loop μ-loop
 mul-from c = search needs
 
 loop-holds : tie.Need-loop-holds Inv-loop μ-loop
-loop-holds c = record { low = omega arith; long = refl; done = λ i h. absurd (omega arith); kept = λ m h. refl }
+loop-holds c = record { low = omega arith; long = refl; done = λ i h. absurd (omega arith); kept = λ m h. refl; past = λ m h. refl }
 
 mul-rows : tie.Need-mul-rows Inv-loop μ-loop
 mul-rows c = search needs
@@ -47,7 +47,7 @@ same-length : tie.Need-same-length Inv-loop μ-loop
 same-length c = search needs
 
 returns : tie.Need-returns Inv-loop μ-loop
-returns c = record { long = c .before .loop .inv .long; at = λ i h. c .before .loop .inv .done i (omega arith); kept = c .before .loop .inv .kept }
+returns c = record { long = c .before .loop .inv .long; at = λ i h. c .before .loop .inv .done i (omega arith); kept = c .before .loop .inv .kept; past = c .before .loop .inv .past }
 
 pub store-spec : {M : Type 1} → statement M
 store-spec =

@@ -15,7 +15,7 @@ element-copy-out-result : tie.Need-element-copy-out-result
 element-copy-out-result c = search needs
 
 returns-2 : tie.Need-returns-2
-returns-2 c = loop-more (now (c .before .before .args .last)) _ (c .before .if1 .left) (c .before .before .pre .0)
+returns-2 c = loop-more (c .before .before .args .weight) (now (c .before .before .args .body)) _ (c .before .if1 .left) (c .before .before .pre .0)
 
 pub without-ended-spec : {M : Type 1} → statement M
 without-ended-spec = tie.close (tie.spec returns mul-result element-copy-out-result returns-2)

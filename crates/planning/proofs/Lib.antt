@@ -1,0 +1,3 @@
+pub mod Pending
+pub mod Plans
+pub mod Theorems

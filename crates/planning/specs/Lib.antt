@@ -1,0 +1,3 @@
+pub mod Planning
+pub mod Theorems
+pub mod Rows

@@ -1,0 +1,3 @@
+pub mod Small
+pub mod Needs
+pub mod Walks
