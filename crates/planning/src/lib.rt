@@ -100,9 +100,8 @@ pub fn most_entries(table: &[u8]) -> Planned
     let Check::Passed = check else {
         return refused(check);
     };
-    Planned::Entries {
-        entries: top(program_row(table)),
-    }
+    let entries = top(program_row(table));
+    Planned::Entries { entries }
 }
 
 // Each code will do, and nothing is needed after it.

@@ -1,6 +1,6 @@
--- How the list is computed, from here on: no contract of a call rests on it. One recursion over a statement says, for each code, what
--- the starts with that code come to. What is said of a start (its answers, how many there are) is a value of an algebra: `choice` joins
--- two ways to start, `both` puts one part of a start after another.
+-- How the lists and the number of entries are computed, from here on: no contract of a call rests on it. One recursion over a statement
+-- says, for each code, what the starts with that code come to. What is said of a start (its answers, how many there are, its entries) is a
+-- value of an algebra: `choice` joins two ways to start, `both` puts one part of a start after another.
 use Prim.Native.Nat.{ℕ, zero, suc, _+_, min, max}
 use mathlib.Core.Path.{_≡_}
 use mathlib.Core.Logic.{_⊎_}
