@@ -2,13 +2,13 @@
 .PHONY: run test soak bench archive definitions vectors
 
 # builds the programs and lists a worked example; TABLE=FILE lists a table of your own, TEXT=FILE a program that is given as text, and
-# PROGRAM=tick shows the tick of either. Each crate is shown as it is proved, on standard error, and all that rt said if one is not
+# PROGRAM=tick shows the tick of either and PROGRAM=first_tick the most entries of its first. Each crate is shown as it is proved, on standard error, and all that rt said if one is not
 TABLE = examples/w1.table
 TEXT =
 PROGRAM = list
 run:
 	@echo "Proving and building the programs; the first time this takes some minutes" >&2
-	@rt check list tick translate 2>&1 | tee target-run.log | sed -un '/^rt: /p' >&2
+	@rt check list tick first_tick translate 2>&1 | tee target-run.log | sed -un '/^rt: /p' >&2
 	@tail -n 1 target-run.log | grep -q '^rt: ok' || { cat target-run.log >&2; rm -f target-run.log; exit 1; }
 	@rm -f target-run.log
 	@if [ -n "$(TEXT)" ]; then tools/run_text.sh $(PROGRAM) $(TEXT); else target/bin/$(PROGRAM) < $(TABLE); fi
@@ -45,6 +45,7 @@ vectors:
 	@compare/target/release/ticks --tick-vectors $(VECTORS)/tick_open.jsonl crates/ticks/stdin crates/ticks/stdout
 	@compare/target/release/partitions --block-vectors $(VECTORS)/blocks_open.jsonl crates/partitions/stdin crates/partitions/stdout
 	@compare/target/release/narrowings --tied-vectors $(VECTORS)/tied_open.jsonl crates/narrowings/stdin crates/narrowings/stdout
-	@for t in examples/*.table; do compare/target/release/list < $$t > $${t%.table}.listing; compare/target/release/tick < $$t > $${t%.table}.tick; done
-	@table=$$(mktemp); for t in examples/*.strl; do compare/target/release/translate < $$t > $$table; compare/target/release/list < $$table > $$t.listing; compare/target/release/tick < $$table > $$t.tick; done; rm $$table
+	@compare/target/release/plans --plan-vectors $(VECTORS)/worst_open.jsonl crates/plans/stdin crates/plans/stdout
+	@for t in examples/*.table; do compare/target/release/list < $$t > $${t%.table}.listing; compare/target/release/tick < $$t > $${t%.table}.tick; compare/target/release/first_tick < $$t > $${t%.table}.first_tick; done
+	@table=$$(mktemp); for t in examples/*.strl; do compare/target/release/translate < $$t > $$table; compare/target/release/list < $$table > $$t.listing; compare/target/release/tick < $$table > $$t.tick; compare/target/release/first_tick < $$table > $$t.first_tick; done; rm $$table
 	@git diff --stat -- crates examples

@@ -2,7 +2,7 @@
 """Runs the theory's definitions on outside vectors and on edges of documents 01 and 02, and reports each difference.
 
     python3 tools/run_definitions.py [--vectors DIR] [--listings N] [--instants N] [--texts N] [--dialect N] [--ticks N] [--runs N]
-                                     [--blocks N] [--ties N] [--seed S]
+                                     [--blocks N] [--ties N] [--first N] [--seed S]
 
 Each vector becomes a theorem `what the definitions give ≡ what is expected`, proved by refl, so that the checker has to
 compute the definitions. All is written to a temporary repository, which has copies of crates/codes, crates/esterel,
@@ -17,7 +17,8 @@ Texts of F-1 that use a word of F-9 as a name, or have a count, are passed over:
 Of a tick that is shown, the rules are run with its list (tick17); where table and list are small, all lists that come before
 it are run too, in their order, until one leads there (first17). Whether a list leads there is asked by a test here, which is
 proved to say what `Leads` does; so is the test whether a node stands at two places of a trail, which tells of each instant of
-a run (run17) what is entered twice. Of the 65,536 editions of a file of blocks (block17) only those that its blocks name are
+a run (run17) what is entered twice. The greatest number of entries of a small program (most17) is found by starting it with all
+lists of as many answers as it has tests, and no start takes more, which crates/starts proves; larger ones are passed over. Of the 65,536 editions of a file of blocks (block17) only those that its blocks name are
 tried, from the highest down: no other is whole, which crates/blocks proves.
 """
 import argparse, collections, json, os, random, re, shutil, subprocess, sys, tempfile, time
@@ -34,7 +35,7 @@ CRATES_TXT = "codes:\nesterel: codes\ngrammar: esterel\nstarts: esterel codes\nb
 # The calls of document 01 and the reader of F-1, put together from the definitions. Check 3 stands between 2 and 4: `checkLength` makes 1 and 2,
 # and `verdict` makes them once more, with 4 to 11. The emission buffer is taken to be long enough.
 CALLS = """
-use Prim.Native.Nat.{ℕ, zero, suc, _-_, _/_}
+use Prim.Native.Nat.{ℕ, zero, suc, _-_, _/_, max}
 use mathlib.Core.Path.{_≡_, refl, sym, ap, subst}
 use mathlib.Core.Logic.{_↔_}
 use mathlib.Core.Bool.{Bool, true, false, _&&_, _||_, cond, or-true, false≢true}
@@ -57,7 +58,7 @@ use Rattle.grammar.specs.Faults.{numberOfFault, crowdedFrom}
 use Rattle.grammar.specs.Search.{no-name, look}
 use Rattle.grammar.specs.Meaning.{signals, untrapped, verdictOfTree}
 use Rattle.grammar.specs.Machine as M
-use Rattle.starts.specs.Ticks.{Leads}
+use Rattle.starts.specs.Ticks.{Leads, presents}
 use Rattle.blocks.specs.Editions as B
 use Rattle.blocks.specs.Fetching as F
 use Rattle.tied.specs.Calls as N
@@ -67,6 +68,7 @@ pub data Shown : Type 0 where
   ran : (code taken entries : ℕ) (state emissions : List ℕ) → Shown
   written : (table : List ℕ) → Shown
   tick : (node : ℕ) (answers : List ℕ) → Shown
+  made : (entries : ℕ) → Shown
   went : (marks : List ℕ) (twice : List (List ℕ)) → Shown
   refusal : (number node : ℕ) → Shown
   refusedAt : (number place : ℕ) → Shown
@@ -178,6 +180,20 @@ tickWith bytes answers = shownBy (given answers) (read bytes) (verdict bytes)
 
 abbrev pub firstTick : (bytes : List ℕ) (lengths : ℕ) → Shown
 firstTick bytes lengths = shownBy (λ run. shortest lengths 0 (λ l. leads (run l))) (read bytes) (verdict bytes)
+
+-- F-10: the most entries of the starts with the lists of so many answers, and with as many as there are tests
+abbrev pub entriesIn : Result → ℕ
+entriesIn (closed k trail held rest) = length trail
+entriesIn starved = 0
+entriesIn stuck = 0
+
+abbrev pub mostOf : ℕ → (List ℕ → ℕ) → ℕ
+mostOf zero count = count []
+mostOf (suc m) count = max (mostOf m (λ l. count (0 ∷ l))) (mostOf m (λ l. count (1 ∷ l)))
+
+abbrev pub mostBy : Verdict → Shown
+mostBy (passed p) = made (mostOf (presents p) (λ l. entriesIn (start 0 p l)))
+mostBy (refused number node) = refusal number node
 
 -- F-6: whether node n stands in a trail, and whether at two places of it. Where it is said so, it is `Entered`, and `Twice`, and the other way
 -- round.
@@ -304,7 +320,7 @@ use Rattle.esterel.specs.Codes.{word}
 use Rattle.esterel.specs.Checks.{verdict, line}
 use Rattle.esterel.specs.Instant.{started, resumed}
 use Rattle.grammar.specs.Tokens.{tokens, classOf, beginnings, byteOf}
-use Rattle.CRATE.proofs.Calls.{shown, figures, call, readText, readPlace, tickWith, firstTick, runOf, fetchOf, partOf, narrowOf, ok, ran, written, tick, went, refusal, refusedAt}
+use Rattle.CRATE.proofs.Calls.{shown, figures, call, readText, readPlace, tickWith, firstTick, mostBy, runOf, fetchOf, partOf, narrowOf, ok, ran, written, tick, made, went, refusal, refusedAt}
 use Rattle.blocks.specs.Block.{word as wordOf, firstCheck, secondCheck, checksMatch, lengthFits, zeroFilled, good}
 use Rattle.blocks.specs.Editions.{fileFits, blocksIn, blockAt, isFor, counted, partsOf, completes, whole, tableOf}
 use Rattle.blocks.specs.Fetching.{handed}
@@ -377,6 +393,20 @@ def tick_theorems(at, vector):
     yield Theorem(f"tick{at}", f"tickWith {a_list(table)} {a_list(numbers)}", right)
     if len(table) <= 2 * SMALL and len(numbers) <= SHORT:
         yield Theorem(f"first{at}", f"firstTick {a_list(table)} {len(numbers) + 1}", right)
+
+def most_of(table):
+    return f"mostBy (verdict {a_list(table)})"
+
+TESTS = 7  # of a program with at most so many tests all starts are tried
+
+def most_theorem(at, vector):
+    word, *numbers = vector["line"].split()
+    return Theorem(f"most{at}", most_of(bytes.fromhex(vector["table"])), refused(*numbers) if numbers else f"made {word}")
+
+def is_tried(line):
+    vector = json.loads(line)
+    table = bytes.fromhex(vector["table"])
+    return vector["line"].startswith("refused") or (len(table) <= 2 * SMALL and table[::2].count(6) <= TESTS)
 
 def ran_through(table, steps):
     return f"runOf (verdict {a_list(table)}) {a_list(steps[0])} {a_list(map(a_list, steps[1:]))}"
@@ -582,11 +612,23 @@ def tied_edges():
         yield narrow_of(table, ties, [9] * (len(table) // 2 + 2)), refused(*right) if isinstance(right, tuple) else "written " + a_list(right + [9, 9])
     yield narrow_of(CHOICE, tied(), [9] * 2), refused(3, 0)
 
+STAYS = [1, 0, 2, 0, 9, 0, 1, 0, 6, 1]  # present 1 then nothing; pause else nothing: the most entries are with code 1
+MOST = {  # what is expected was worked out by hand from the rules of document 01
+    1: [[1, 0], [2, 0], [3, 9]],
+    2: [[1, 0, 1, 0, 6, 0], [2, 0, 1, 0, 9, 0], [2, 0, 8, 0], [2, 0, 7, 3]],
+    3: [W1, [1, 0, 1, 0, 9, 0], [1, 0, 2, 0, 10, 0]],
+    4: [[4, 0, 1, 0, 10, 0, 11, 0], STAYS, [2, 0, 1, 0, 6, 0, 1, 0, 9, 0]],
+    5: [STAYS + [2, 0, 9, 0]],
+    8: [STAYS + [1, 0, 1, 0, 9, 0, 1, 0, 9, 0, 9, 0]],
+    10: [STAYS + STAYS + [10, 0, 1, 0, 1, 0, 9, 0, 9, 0]],
+}
+
 def edge_theorems():
     edges = [(verdict(table, "figures"), refused(*key)) for key, tables in REFUSED.items() for table in tables]
     edges += [(verdict(table, "figures"), ok(*key)) for key, tables in ACCEPTED.items() for table in tables]
     edges += [(verdict(table), right) for table, right in LISTINGS] + [(call(*lent), right) for *lent, right in INSTANTS] + list(text_edges())
     edges += [(f"firstTick {a_list(table)} {len(key)}", f"tick {key[0]} {a_list(key[1:])}") for key, tables in TICKS.items() for table in tables]
+    edges += [(most_of(table), f"made {most}") for most, tables in MOST.items() for table in tables]
     edges += [(ran_through(*lent), entered_twice(*right)) for *lent, right in ((table, steps, right) for table, steps, *right in RUNS)]
     edges += [*block_edges(), *tied_edges()]
     return [Theorem(f"edge{at}", *edge) for at, edge in enumerate(edges, 1)]
@@ -639,6 +681,7 @@ def control_theorems():
     edges += [(f"readText {a_list(b'emit A;pause')}", "written " + a_list(right)) for right in ([3, 0, 2, 0, 9, 0, 9, 0], [3, 1, 2, 0, 9, 0])]
     edges += [(f"readPlace {a_list(b'emit case')}", f"refusedAt {right}") for right in ("20 4", "14 5")]
     edges += [("firstTick (1 ∷ 0 ∷ 2 ∷ 0 ∷ 6 ∷ 5 ∷ 8 ∷ 0 ∷ []) 2", f"tick {right}") for right in ("3 []", "3 (0 ∷ [])", "2 (1 ∷ [])")]
+    edges += [(most_of(STAYS + [2, 0, 9, 0]), f"made {most}") for most in (4, 6)]
     edges += [(ran_through(LOCK, [[], []]), entered_twice(marks, twice)) for marks, twice in
               (([1, 0, 1, 0, 1, 1, 1, 0], [[], [0, 1, 2, 4, 5, 6]]), ([1, 1, 1, 0, 1, 1, 1, 0], [[], [0, 2, 4, 5, 6]]), ([1, 1, 1, 0, 1, 1, 1, 0], [[]]))]
     edges += [(fetch_of(bytes(FULL + SHORT_BLOCK), 7), right) for right in ("written " + a_list([5] * 502 + [9]), refused(18, 0))]
@@ -708,13 +751,14 @@ def run(repo, args):
     runs = vectors(args.vectors / "reentry_open.jsonl", args.runs, chance, run_theorem)
     blocks = vectors(args.vectors / "blocks_open.jsonl", args.blocks, chance, block_theorem)
     ties = vectors(args.vectors / "tied_open.jsonl", args.ties, chance, tied_theorem)
+    first = vectors(args.vectors / "worst_open.jsonl", args.first, chance, most_theorem, is_tried)
     edges, controls = edge_theorems(), control_theorems()
-    theorems = {x.name: x for x in edges + listings + instants + texts + dialect + ticks + runs + blocks + ties}
+    theorems = {x.name: x for x in edges + listings + instants + texts + dialect + ticks + runs + blocks + ties + first}
     copy_crates(repo, args.whole)
     write_crate(repo, "control", controls, 1)
     write_crate(repo, "vectors", list(theorems.values()), 250)
     (repo / "crates.txt").write_text(CRATES_TXT)
-    for what, some in (("listings", listings), ("instants", instants), ("texts", texts), ("dialect", dialect), ("ticks", ticks), ("runs", runs), ("blocks", blocks), ("ties", ties), ("edges", edges)):
+    for what, some in (("listings", listings), ("instants", instants), ("texts", texts), ("dialect", dialect), ("ticks", ticks), ("runs", runs), ("blocks", blocks), ("ties", ties), ("first ticks", first), ("edges", edges)):
         tally(what, some)
 
     proved, refusals, said = check(repo, "control")
@@ -742,6 +786,7 @@ def main():
     parser.add_argument("--runs", type=int, metavar="N", help="likewise")
     parser.add_argument("--blocks", type=int, metavar="N", help="likewise")
     parser.add_argument("--ties", type=int, metavar="N", help="likewise")
+    parser.add_argument("--first", type=int, metavar="N", help="likewise, of those that are tried")
     parser.add_argument("--seed", type=int, default=random.randrange(10**6), metavar="S")
     parser.add_argument("--keep", action="store_true", help="keep the temporary repository")
     parser.add_argument("--whole", action="store_true", help="prove the copied crates whole first; else their definitions and types alone are read")

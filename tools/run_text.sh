@@ -1,5 +1,5 @@
 #!/bin/sh
-# run_text.sh PROGRAM FILE: what `list` or `tick` writes of a program that is given as text. A refused text has no table: its refusal is on
+# run_text.sh PROGRAM FILE: what `list`, `tick` or `first_tick` writes of a program that is given as text. A refused text has no table: its refusal is on
 # standard error then, and nothing is written.
 set -eu
 bin="$(dirname "$0")/../target/bin"

@@ -34,16 +34,18 @@ written() {
     fi
 }
 
-# The worked examples, as tables and as texts: their listings and ticks.
+# The worked examples, as tables and as texts: their listings, ticks and first ticks.
 run_examples() {
     right=0 wrong=0
     for table in examples/*.table; do
         written "$table" "${table%.table}.listing" target/bin/list
         written "$table" "${table%.table}.tick" target/bin/tick
+        written "$table" "${table%.table}.first_tick" target/bin/first_tick
     done
     for text in examples/*.strl; do
         written "$text" "$text.listing" tools/run_text.sh list "$text"
         written "$text" "$text.tick" tools/run_text.sh tick "$text"
+        written "$text" "$text.first_tick" tools/run_text.sh first_tick "$text"
     done
     # with await for the kernel statements that it stands for, the listing is the same
     written examples/lock_await.strl examples/lock.strl.listing tools/run_text.sh list examples/lock_await.strl

@@ -2,8 +2,9 @@
  * Bavzhrono: the checker and the runner of single instants for tables of pure Esterel, the reader
  * that makes such a table from text and finds where a refused text is at fault, the finder of the
  * tick in which a refused loop's body ends at once, the fetcher of tables that are stored in blocks
- * on the service partition, and the narrower of start sets by signals that are known for certain,
- * for C (C99) and C++. Link with libabi.a (x86-64), which needs nothing but the C library.
+ * on the service partition, the narrower of start sets by signals that are known for certain, and
+ * the planner of the first tick, to the entry, for C (C99) and C++. Link with libabi.a (x86-64),
+ * which needs nothing but the C library.
  *
  * The table
  *
@@ -158,7 +159,8 @@
  * them at once, each with buffers of its own to be written.
  * stack: up to about 110 KiB
  * bavzhrono_read, bavzhrono_read_place: up to about 1590 KiB
- * bavzhrono_tick: up to about 490 KiB
+ * bavzhrono_tick, bavzhrono_first_tick_answers: up to about 520 KiB
+ * bavzhrono_first_tick: up to about 40 KiB
  */
 #ifndef BAVZHRONO_H
 #define BAVZHRONO_H
@@ -174,7 +176,8 @@
 #define BAVZHRONO_MAX_TEXT 67584
 /* The most bytes of a text that bavzhrono_read takes. */
 #define BAVZHRONO_MAX_SOURCE 16384
-/* The bytes of answers that bavzhrono_tick needs: any list fits. It is no limit of the instants. */
+/* The bytes of answers that bavzhrono_tick and bavzhrono_first_tick_answers need: any list fits. It
+   is no limit of the instants. */
 #define BAVZHRONO_TICK_ANSWERS 512
 /* The bytes of ties. Not for answers, among which 0 is absent and any other byte present. */
 #define BAVZHRONO_TIE_UNKNOWN 0
@@ -208,7 +211,8 @@ extern "C" {
  *                  start every statement to which that happens has 1; not every 1 is needed
  *      answer      (n, loop depth d, 0). d is the greatest number of loops around any node, the
  *                  node itself included. An instant of the program has at most n(1 + d) entries
- *                  and takes at most n(1 + d) answers.
+ *                  and takes at most n(1 + d) answers. How many entries the first can have, is
+ *                  told by bavzhrono_first_tick.
  */
 uint32_t bavzhrono_analyse(const uint8_t *table, size_t table_length,
                            uint64_t *start_sets, size_t start_sets_length,
@@ -376,6 +380,36 @@ uint32_t bavzhrono_narrow(const uint8_t *table, size_t table_length,
                           const uint8_t *ties, size_t ties_length,
                           uint64_t *sets, size_t sets_length,
                           uint64_t *answer, size_t answer_length);
+
+/*
+ * The first tick, to the entry: the greatest number of entries that any answers can give when the
+ * program is started; checks 1 to 11.
+ *
+ * In:  the table.
+ * Out: answer  (entries, 0, 0). Some answers make bavzhrono_start report so many entries, and none
+ *              make it report more. The number is at least 1 and at most n.
+ *
+ * It holds for the start alone: an instant that resumes the program can have more entries, up to the
+ * n(1 + d) of bavzhrono_analyse.
+ */
+uint32_t bavzhrono_first_tick(const uint8_t *table, size_t table_length,
+                              uint64_t *answer, size_t answer_length);
+
+/*
+ * The number of bavzhrono_first_tick, and a list of answers that reaches it; checks 1 to 11.
+ *
+ * In:  the table.
+ * Out: answers  BAVZHRONO_TICK_ANSWERS bytes needed, for a short list too: the list is at the front,
+ *               0 absent, 1 present. The old bytes past it stay.
+ *      answer   (entries, length of the list, 0).
+ *
+ * Started with the list, the program takes all of it, closes, and has just so many entries; so it
+ * does whatever answers follow the list, since none of them is taken. Of all lists with which it
+ * does so this one has 0 at the first difference. It can be empty, and has at most 511 answers.
+ */
+uint32_t bavzhrono_first_tick_answers(const uint8_t *table, size_t table_length,
+                                      uint8_t *answers, size_t answers_length,
+                                      uint64_t *answer, size_t answer_length);
 
 #ifdef __cplusplus
 }

@@ -4,8 +4,8 @@
  * The expected values are those that document 01 prints (Table W and its edges) or that its rules,
  * as F-5 and F-7 amend them, give by hand; the sets of W3 are those of the implementation in
  * compare/. The tables of texts and the places of their faults, the lists of ticks, what files of
- * blocks give and what ties leave of start sets are by hand, from F-1, F-2, F-4, F-8 and F-9 of
- * document 02 and their readings.
+ * blocks give, what ties leave of start sets, and the entries of first ticks and their lists are by
+ * hand, from F-1, F-2, F-4, F-8, F-9 and F-10 of document 02 and their readings.
  */
 #include "bavzhrono.h"
 #include "bavzhrono.h" /* twice, for the include guard */
@@ -171,6 +171,17 @@ static uint32_t narrow(const uint8_t *table, size_t length, lengths lent)
                             lent.start_sets, actual.answer, lent.answer);
 }
 
+static uint32_t first_tick(const uint8_t *table, size_t length, lengths lent)
+{
+    return bavzhrono_first_tick(table, length, actual.answer, lent.answer);
+}
+
+static uint32_t first_tick_answers(const uint8_t *table, size_t length, lengths lent)
+{
+    return bavzhrono_first_tick_answers(table, length, actual.answers, lent.answers, actual.answer,
+                                        lent.answer);
+}
+
 static void tie_signal(size_t signal, uint8_t byte)
 {
     actual.ties[signal] = expected.ties[signal] = byte;
@@ -315,8 +326,8 @@ static void test_code_63_in_all_sets(void)
     test_sets("code 63 in K, A and S", table, sets, 68, 1);
 }
 
-/* Refused tables: by number and node in five functions, as a line of text in the sixth. What 11
-   refuses is shown by one of the five, and is tested with the ticks. */
+/* Refused tables: by number and node in seven functions, as a line of text in the eighth. What 11
+   refuses is shown by one of the seven, and is tested with the ticks. */
 
 /* Refused whatever the ties, since 19 comes last. */
 static void test_not_narrowed(const char *name, const uint8_t *table, size_t length, lengths lent,
@@ -340,6 +351,8 @@ static void test_refused(const char *name, const uint8_t *table, size_t length, 
     if (number != 11)
         check("tick", name, tick(table, length, spare()), refused);
     test_not_narrowed(name, table, length, spare(), refused);
+    check("first_tick", name, first_tick(table, length, spare()), refused);
+    check("first_tick_answers", name, first_tick_answers(table, length, spare()), refused);
     memcpy(expected.text, line, (size_t)line_length);
     expect_answer((uint64_t)line_length, 0, 0);
     check("render", name, render(table, length, needed(0, (size_t)line_length)), 0);
@@ -443,6 +456,8 @@ static void test_short_answer(size_t answer_length, const char *table_name, cons
     check("resume", name, instant(bavzhrono_resume, table, length, NULL, 0, lent), number);
     check("tick", name, tick(table, length, lent), number);
     test_not_narrowed(name, table, length, lent, number);
+    check("first_tick", name, first_tick(table, length, lent), number);
+    check("first_tick_answers", name, first_tick_answers(table, length, lent), number);
     check("render", name, render(table, length, lent), 3);
 }
 
@@ -1370,7 +1385,8 @@ static void test_read_then_tick(void)
     test_list_is_true("a table that was read", table, sizeof table);
 }
 
-/* Check 3 comes after 1 and 2 and before the kinds, also where a shorter list is found. */
+/* Check 3 comes after 1 and 2 and before the kinds, also where a shorter list is found, by either
+   function that writes one. */
 static void test_short_list(const char *table_name, const uint8_t *table, size_t length,
                             uint32_t number)
 {
@@ -1382,6 +1398,7 @@ static void test_short_list(const char *table_name, const uint8_t *table, size_t
         lent.answers = short_lists[i];
         sprintf(name, "answers of %u, %s", (unsigned)lent.answers, table_name);
         check("tick", name, tick(table, length, lent), number);
+        check("first_tick_answers", name, first_tick_answers(table, length, lent), number);
     }
 }
 
@@ -1402,6 +1419,15 @@ static void test_short_lists(void)
           bavzhrono_tick(w8, sizeof w8, NULL, 0, actual.answer, BAVZHRONO_ANSWER), 3);
     check("tick", "answer NULL",
           bavzhrono_tick(w8, sizeof w8, actual.answers, sizeof actual.answers, NULL, 0), 3);
+    check("first_tick", "answer NULL", bavzhrono_first_tick(w1, sizeof w1, NULL, 0), 3);
+    check("first_tick", "all NULL", bavzhrono_first_tick(NULL, 0, NULL, 0), 2);
+    check("first_tick_answers", "answers NULL",
+          bavzhrono_first_tick_answers(w1, sizeof w1, NULL, 0, actual.answer, BAVZHRONO_ANSWER), 3);
+    check("first_tick_answers", "answer NULL",
+          bavzhrono_first_tick_answers(w1, sizeof w1, actual.answers, BAVZHRONO_TICK_ANSWERS, NULL,
+                                       0), 3);
+    check("first_tick_answers", "all NULL",
+          bavzhrono_first_tick_answers(NULL, 0, NULL, 0, NULL, 0), 2);
 }
 
 /* The service partition. Files of blocks are written by the functions below, from F-4. */
@@ -2279,6 +2305,226 @@ static void test_narrowed_sets(void)
     test_narrow_to_short_buffers();
 }
 
+/* First ticks: the greatest number of entries of a start, and answers that reach it, as digits. */
+
+/* Starts the program with so many answers. Whether it closes, takes just so many of them, and has so
+   many entries. */
+static int starts_with(const uint8_t *table, size_t length, const uint8_t *answers,
+                       size_t answers_length, uint64_t taken, uint64_t entries)
+{
+    return instant(bavzhrono_start, table, length, answers, answers_length, spare()) == 0 &&
+           actual.answer[0] <= 1 && actual.answer[1] == taken && actual.answer[2] == entries;
+}
+
+/* The list that is handed out is taken in full and reaches the number: alone, and at the front of
+   all answers that were lent for it, whatever the others are. With one answer fewer it does not
+   suffice. */
+static void test_list_reaches(const char *name, const uint8_t *table, size_t length)
+{
+    static uint8_t answers[sizeof actual.answers];
+    uint64_t entries, list;
+    int passed = first_tick_answers(table, length, spare()) == 0;
+
+    entries = actual.answer[0];
+    list = actual.answer[1];
+    memcpy(answers, actual.answers, sizeof answers);
+    passed = passed && list < BAVZHRONO_TICK_ANSWERS &&
+             starts_with(table, length, answers, (size_t)list, list, entries) &&
+             starts_with(table, length, answers, sizeof answers, list, entries);
+    for (int others = 0; passed && others < 2; others++) {
+        memset(answers + list, others, sizeof answers - (size_t)list);
+        passed = starts_with(table, length, answers, sizeof answers, list, entries);
+    }
+    if (passed && list > 0)
+        passed = instant(bavzhrono_start, table, length, answers, (size_t)list - 1, spare()) == 13;
+    report(passed, "start with the list", name);
+    prepare();
+}
+
+#define MOST_TESTS 8
+
+/* Starts the program with all answers that its tests can take, those with absent at the first
+   difference first. None has more entries, and the first that has as many begins with the list. */
+static void test_no_list_exceeds(const char *name, const uint8_t *table, size_t length,
+                                 uint64_t entries, const char *list)
+{
+    uint8_t answers[MOST_TESTS], first[MOST_TESTS] = {0}, least[MOST_TESTS];
+    int passed = 1, reached = 0;
+    size_t tests = 0, list_length;
+
+    for (size_t at = 0; at < length; at += 2)
+        tests += table[at] == 6;
+    if (tests > MOST_TESTS)
+        return;
+    for (unsigned number = 0; number < 1u << tests; number++) {
+        for (size_t at = 0; at < tests; at++)
+            answers[at] = number >> (tests - 1 - at) & 1;
+        passed = passed &&
+                 instant(bavzhrono_start, table, length, answers, tests, spare()) == 0 &&
+                 actual.answer[2] <= entries;
+        if (passed && !reached && actual.answer[2] == entries) {
+            reached = 1;
+            memcpy(first, answers, sizeof first);
+        }
+    }
+    list_length = read_digits(least, list);
+    passed = passed && reached && memcmp(first, least, list_length) == 0;
+    report(passed, "start with all answers", name);
+    prepare();
+}
+
+static void test_first_tick(const char *name, const uint8_t *table, size_t length, uint64_t entries,
+                            const char *list)
+{
+    lengths lent[2] = {needed(0, 0), spare()};
+    for (int more = 0; more < 2; more++) {
+        expect_answer(entries, 0, 0);
+        check(more ? "first_tick, more lent" : "first_tick", name,
+              first_tick(table, length, lent[more]), 0);
+        expect_answer(entries, read_digits(expected.answers, list), 0);
+        check(more ? "first_tick_answers, more lent" : "first_tick_answers", name,
+              first_tick_answers(table, length, lent[more]), 0);
+    }
+    test_list_reaches(name, table, length);
+    test_no_list_exceeds(name, table, length, entries, list);
+}
+
+static void test_first_ticks_of_table_w(void)
+{
+    test_first_tick("W1", w1, sizeof w1, 3, "");
+    test_first_tick("W3", w3, sizeof w3, 10, "");
+    test_first_tick("W6 without its loop", w6, sizeof w6 - 2, 2, "0");
+    test_first_tick("W7", w7, sizeof w7, 3, "");
+    test_first_tick("W8 without its loop", w8, sizeof w8 - 2, 5, "00");
+    test_first_tick("the lock program of F-5", lock, sizeof lock, 7, "");
+    test_first_tick("a present", present, sizeof present, 2, "0");
+    test_first_tick("an await", awaited, sizeof awaited, 4, "");
+    test_first_tick("an abort", aborted, sizeof aborted, 11, "");
+}
+
+typedef struct {
+    const char *name;
+    size_t nodes;
+    uint8_t table[32];
+    uint64_t entries;
+    const char *list;
+} first_tick_test;
+
+static const first_tick_test first_tick_tests[] = {
+    {"nothing", 1, {1, 0}, 1, ""},
+    {"a suspend takes no answer", 2, {1, 0, 7, 0}, 2, ""},
+    {"the body of a loop is started once", 4, {2, 0, 1, 0, 9, 0, 8, 0}, 3, ""},
+
+    {"then has more", 5, {1, 0, 1, 0, 9, 0, 2, 0, 6, 0}, 4, "1"},
+    {"else has more", 5, {1, 0, 2, 0, 5, 0, 5, 0, 6, 0}, 4, "0"},
+    {"then goes on within", 7, {1, 0, 2, 0, 9, 0, 1, 0, 6, 1, 2, 0, 9, 0}, 5, "1"},
+    {"the shorter list if it has absent", 6, {1, 0, 1, 0, 6, 1, 1, 0, 5, 0, 6, 0}, 3, "0"},
+    {"the longer list if it has absent", 6, {1, 0, 5, 0, 1, 0, 1, 0, 6, 1, 6, 0}, 3, "00"},
+    {"a test within a test", 5, {1, 0, 1, 0, 6, 1, 1, 0, 6, 0}, 3, "10"},
+
+    {"what pauses has as many as what goes on", 6, {2, 0, 5, 0, 1, 0, 6, 0, 1, 0, 9, 0}, 4, "0"},
+    {"what pauses has more than what goes on", 7,
+     {2, 0, 5, 0, 5, 0, 1, 0, 6, 0, 1, 0, 9, 0}, 5, "1"},
+    {"what goes on has more than what pauses", 7,
+     {1, 0, 2, 0, 5, 0, 6, 0, 1, 0, 5, 0, 9, 0}, 5, "1"},
+    {"an exit does not go on", 6, {4, 0, 1, 0, 6, 0, 1, 0, 9, 0, 11, 0}, 5, "0"},
+    {"an exit goes on after its trap", 10,
+     {4, 0, 5, 0, 5, 0, 1, 0, 6, 0, 2, 0, 9, 0, 11, 0, 1, 0, 9, 0}, 8, "1"},
+
+    {"both branches of a parallel", 7, {2, 0, 1, 0, 6, 0, 2, 0, 1, 0, 6, 1, 10, 0}, 5, "00"},
+    {"both branches have more if present", 9,
+     {2, 0, 5, 0, 1, 0, 6, 0, 2, 0, 5, 0, 1, 0, 6, 1, 10, 0}, 7, "11"},
+    {"the right branch is started beside an exit", 4, {4, 0, 1, 0, 10, 0, 11, 0}, 4, ""},
+    {"one branch must exit, the other has more", 13,
+     {2, 0, 5, 0, 4, 0, 6, 0, 2, 0, 5, 0, 4, 0, 6, 1, 10, 0, 11, 0, 1, 0, 5, 0, 9, 0}, 10, "01"},
+    {"the farther exit of two passes by", 10,
+     {4, 1, 5, 0, 2, 0, 6, 0, 4, 0, 10, 0, 11, 0, 1, 0, 9, 0, 11, 0}, 8, "0"},
+
+    {"a loop of a test", 5, {2, 0, 2, 0, 5, 0, 6, 0, 8, 0}, 4, "0"},
+    {"a loop that is left", 8, {4, 0, 2, 0, 6, 0, 8, 0, 11, 0, 1, 0, 5, 0, 9, 0}, 7, "1"},
+};
+
+static void test_first_ticks_by_hand(void)
+{
+    for (size_t i = 0; i < sizeof first_tick_tests / sizeof first_tick_tests[0]; i++) {
+        const first_tick_test *test = &first_tick_tests[i];
+        test_first_tick(test->name, test->table, 2 * test->nodes, test->entries, test->list);
+    }
+}
+
+static void test_first_ticks_of_edges(void)
+{
+    static uint8_t table[2 * BAVZHRONO_MAX_NODES];
+    char list[509 + 1];
+    const char *last_254 = list + 255;
+    size_t length = full_table(table);
+
+    /* Either answer to the last test of a chain enters one leaf, so these are absent. */
+    for (size_t i = 0; i < 509; i++)
+        list[i] = i % 5 == 0 ? '1' : '0';
+    list[509] = '\0';
+
+    /* Loop, nine sequences down to the first pause, and that pause. */
+    test_first_tick("1,024 nodes, few are entered", table, length, 11, "");
+    pauses_to_nothing(table);
+    put(table + length - 2, 5, 0);
+    test_first_tick("1,024 nodes, all are entered", table, length, 1024, "");
+    length = balanced(table, 6, 9);
+    test_first_tick("1,023 nodes, nine tests", table, length, 10, "000000000");
+
+    test_first_tick("depth 256", table, around(table, 2, 0, 5, 255), 256, "");
+    length = ending_with(table, last_254, 254);
+    length += put(table + length, 5, 0);
+    test_first_tick("254 answers, depth 256", table, length, 256, last_254);
+
+    /* Three branches, since in one they would be too deep. */
+    length = ending_with(table, list, 170);
+    length += ending_with(table + length, list + 170, 170);
+    length += put(table + length, 10, 0);
+    length += ending_with(table + length, list + 340, 169);
+    length += put(table + length, 10, 0);
+    length += put(table + length, 5, 0);
+    test_first_tick("509 answers, 1,024 nodes", table, length, 515, list);
+
+    /* A pause in a signal if present, else an exit to the outermost trap, after which there is one
+       entry more. */
+    length = put(table, 2, 0);
+    length += put(table + length, 5, 0);
+    length += put(table + length, 4, 61);
+    length += put(table + length, 6, 0);
+    for (int trap = 0; trap < 62; trap++)
+        length += put(table + length, 11, 0);
+    test_first_tick("level 61 under 62 traps", table, length, 65, "1");
+    length += put(table + length, 1, 0);
+    length += put(table + length, 5, 0);
+    length += put(table + length, 9, 0);
+    test_first_tick("level 61 under 62 traps, and more", table, length, 67, "0");
+}
+
+/* A text that is read and then planned. */
+static void test_read_then_first_tick(void)
+{
+    static const char text[] = "present PowerWarning then emit Saved; pause end; emit Ready";
+    static const uint8_t table[] = {3, 1, 2, 0, 9, 0, 1, 0, 6, 0, 3, 2, 9, 0};
+
+    if (read_text(text, strlen(text), spare()) != 0 || actual.answer[0] != sizeof table / 2)
+        report(0, "read", "a text that is planned then");
+    memcpy(expected.table, table, sizeof table);
+    read_digits(expected.answers, "1");
+    expect_answer(5, 1, 0);
+    check("first_tick_answers", "a table that was read",
+          first_tick_answers(actual.table, sizeof table, spare()), 0);
+    test_list_reaches("a table that was read", table, sizeof table);
+}
+
+static void test_first_ticks(void)
+{
+    test_first_ticks_of_table_w();
+    test_first_ticks_by_hand();
+    test_first_ticks_of_edges();
+    test_read_then_first_tick();
+}
+
 int main(void)
 {
     prepare();
@@ -2316,5 +2562,6 @@ int main(void)
     test_short_lists();
     test_blocks();
     test_narrowed_sets();
+    test_first_ticks();
     return failures != 0;
 }

@@ -10,9 +10,10 @@ pub const SIGNALS: usize = 256;
 /// A completion code: 0 ended, 1 paused, 2 + level an exit.
 pub type Code = u32;
 
-const ENDED: Code = 0;
-const PAUSED: Code = 1;
-const CAUGHT: Code = 2;
+pub const ENDED: Code = 0;
+pub const PAUSED: Code = 1;
+/// The code of an exit to the innermost trap.
+pub const CAUGHT: Code = 2;
 
 /// An instant that has closed.
 #[derive(Clone, Copy, Debug, PartialEq, Eq)]

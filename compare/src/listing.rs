@@ -8,8 +8,12 @@ use crate::{Refusal, Sets};
 pub fn listing(table: &[u8]) -> String {
     match accepted_listing(table) {
         Ok(text) => text,
-        Err(refusal) => format!("refused {} {}\n", refusal.number, refusal.node),
+        Err(refusal) => refusal_line(refusal),
     }
+}
+
+pub fn refusal_line(refusal: Refusal) -> String {
+    format!("refused {} {}\n", refusal.number, refusal.node)
 }
 
 fn accepted_listing(table: &[u8]) -> Result<String, Refusal> {

@@ -14,6 +14,7 @@ struct Lent {
     state: Vec<u8>,
     emissions: Vec<u8>,
     text: Vec<u8>,
+    answers: Vec<u8>,
     answer: Vec<u64>,
 }
 
@@ -26,6 +27,7 @@ impl Lent {
             state: vec![FILL; nodes],
             emissions: vec![FILL; 256],
             text: vec![FILL; 90],
+            answers: vec![FILL; 512],
             answer: vec![u64::from(FILL); answer_length],
         }
     }
@@ -55,13 +57,23 @@ impl Lent {
         (COMPARE.narrow)(table, &[0; 256], &mut self.sets[0], &mut self.answer)
     }
 
-    /// What analyse, start, resume and narrow return.
-    fn judge(&mut self, table: &[u8]) -> [u32; 4] {
+    fn first_tick(&mut self, table: &[u8]) -> u32 {
+        (COMPARE.first_tick)(table, &mut self.answer)
+    }
+
+    fn first_tick_answers(&mut self, table: &[u8]) -> u32 {
+        (COMPARE.first_tick_answers)(table, &mut self.answers, &mut self.answer)
+    }
+
+    /// What analyse, start, resume, narrow, first_tick and first_tick_answers return.
+    fn judge(&mut self, table: &[u8]) -> [u32; 6] {
         [
             self.analyse(table),
             self.start(table),
             self.resume(table),
             self.narrow(table),
+            self.first_tick(table),
+            self.first_tick_answers(table),
         ]
     }
 }
@@ -84,6 +96,17 @@ fn figures_of_an_accepted_table() {
     assert_eq!(lent.narrow(W1), 0);
     assert_eq!(lent.answer, [4, 0, 0, 9]);
     assert_eq!(lent.sets, sets);
+
+    let before = lent.clone();
+    assert_eq!(lent.first_tick(W1), 0);
+    assert_eq!(lent.answer, [3, 0, 0, 9]);
+    assert_eq!(
+        Lent {
+            answer: before.answer.clone(),
+            ..lent
+        },
+        before
+    );
 }
 
 #[test]
@@ -95,7 +118,7 @@ fn a_refusal_is_its_number_and_node_and_changes_nothing() {
         let before = Lent::new(&edge.table, 4);
         let mut lent = before.clone();
         let expected = refusal.number + 256 * refusal.node as u32;
-        assert_eq!(lent.judge(&edge.table), [expected; 4], "{}", edge.name);
+        assert_eq!(lent.judge(&edge.table), [expected; 6], "{}", edge.name);
         assert_eq!(lent, before, "{}", edge.name);
     }
 }
@@ -141,7 +164,7 @@ fn a_short_answer_is_refused_by_3_in_its_place() {
         for (table, expected) in cases {
             let before = Lent::new(table, answer_length);
             let mut lent = before.clone();
-            assert_eq!(lent.judge(table), [expected; 4]);
+            assert_eq!(lent.judge(table), [expected; 6]);
             assert_eq!(lent.render(table), 3);
             assert_eq!(lent, before);
         }

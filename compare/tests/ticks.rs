@@ -10,7 +10,7 @@ use compare::support::every::{every_table, DECIDING};
 use compare::support::random::Random;
 use compare::support::tick_edges;
 use compare::support::ticks::{even_trees, one_list, table as any_table, NUMBERS};
-use compare::support::vectors::{directory, read_ticks};
+use compare::support::vectors::{directory, read_lines};
 use compare::support::SEED;
 use compare::{find_tick, listing, tick_line, Refusal, Tick};
 
@@ -78,7 +78,7 @@ impl Counts {
 
 #[test]
 fn vectors() {
-    let vectors = read_ticks(&directory().join("tick_open.jsonl"));
+    let vectors = read_lines(&directory().join("tick_open.jsonl"));
     assert_eq!(vectors.len(), 600);
     let mut counts = Counts::default();
     for (line, vector) in vectors.iter().enumerate() {

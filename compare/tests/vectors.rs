@@ -2,18 +2,20 @@
 
 use std::path::PathBuf;
 
+use compare::first_tick::reaching_list;
 use compare::support::calls::place;
 use compare::support::cases::Call;
 use compare::support::older_texts::outcome_before_f9;
 use compare::support::programs::traps_around;
+use compare::support::starts::{greatest_of_starts, Alone};
 use compare::support::vectors::{
-    directory, read_blocks, read_instants, read_listings, read_texts, read_ties, BlockOutcome,
-    TextVector,
+    directory, read_blocks, read_instants, read_lines, read_listings, read_texts, read_ties,
+    BlockOutcome, LineVector, TextVector,
 };
 use compare::table::{self, Statement};
 use compare::{
-    fetch, listing, narrow, part, read, read_place, resume_with_trail, start_with_trail, Placed,
-    Refusal,
+    fetch, first_tick_line, listing, narrow, part, reaches, read, read_place, resume_with_trail,
+    start_with_trail, Placed, Refusal,
 };
 
 /// A test without its file fails, so that none passes unseen.
@@ -286,6 +288,32 @@ fn blocks() {
         }
     }
     println!("{} calls on blocks", vectors.len());
+}
+
+/// The numbers of programs with few lists of answers are those of starts with all of them;
+/// the others are reached.
+#[test]
+fn first_ticks() {
+    let vectors = read_lines(&vector_file("worst_open.jsonl"));
+    assert_eq!(vectors.len(), 600);
+    let (mut accepted, mut tried) = (0, 0);
+    for (line, LineVector { table, line: text }) in vectors.iter().enumerate() {
+        assert_eq!(first_tick_line(table), *text, "line {}", line + 1);
+        if text.starts_with("refused ") {
+            continue;
+        }
+        accepted += 1;
+        match Alone::whole(table).every_start(2000) {
+            Some(starts) => {
+                let most = greatest_of_starts(&starts);
+                assert_eq!(format!("{most}\n"), *text, "line {}", line + 1);
+                tried += 1;
+            }
+            None => assert!(reaches(table, &reaching_list(table)), "line {}", line + 1),
+        }
+    }
+    println!("{accepted} numbers, {tried} by all starts");
+    assert!(tried > 400, "{tried} of {accepted}");
 }
 
 /// With lent sets that suffice exactly, and longer ones; also with none, if there are nodes.

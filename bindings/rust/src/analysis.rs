@@ -33,7 +33,8 @@ pub struct Analysis {
 }
 
 impl Analysis {
-    /// n(1 + d): an instant has at most so many entries and takes at most so many answers.
+    /// n(1 + d): an instant has at most so many entries and takes at most so many answers. How many
+    /// entries the first can have, is told by [`first_tick`](crate::first_tick).
     pub fn bound(&self) -> usize {
         self.nodes * (1 + self.loop_depth)
     }

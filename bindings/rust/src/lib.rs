@@ -1,8 +1,8 @@
 //! Tables of pure Esterel: the proved checker and the proved runner of single instants, the proved
 //! reader that makes a table from text and finds where a refused text is at fault, the proved finder
 //! of the tick in which a refused loop's body ends at once, the proved fetcher of tables that are
-//! stored in blocks on the service partition, and the proved narrower of start sets by signals that
-//! are known for certain.
+//! stored in blocks on the service partition, the proved narrower of start sets by signals that are
+//! known for certain, and the proved planner of the first tick, to the entry.
 //!
 //! A table has two bytes a node, kind then field, children before parents. Nodes are numbered
 //! from 0, and the last is the whole program. Below, n is the number of nodes, half the table's
@@ -22,15 +22,15 @@
 //! | 10 | parallel | 2: left, right | 0 |
 //! | 11 | trap | 1 | 0 |
 //!
-//! [`analyse`], [`start`], [`resume`], [`render`], [`read`], [`tick`], [`fetch`] and [`narrow`]
-//! write to buffers that the caller lends, and allocate nothing. A buffer may be longer than needed:
-//! what lies past the needed length is neither looked at nor changed. A refused call changes no
-//! buffer. [`Sets::of`], [`listing`], [`table_of`], [`Fault::of`], [`table_in`] and
-//! [`narrowed_sets`] bring their own buffers. [`read_place`] and [`part`] need none: the one hands
-//! back a place of the lent text, the other a part of the lent file. The calls keep no state, and any
-//! number of threads may make them at once; [`raw`] has the exported functions as they are. How much
-//! stack they need, [`read`] and [`read_place`] the most, is said in the header for C,
-//! `bindings/c/bavzhrono.h`.
+//! [`analyse`], [`start`], [`resume`], [`render`], [`read`], [`tick`], [`fetch`], [`narrow`] and
+//! [`first_tick_answers`] write to buffers that the caller lends, and allocate nothing. A buffer may
+//! be longer than needed: what lies past the needed length is neither looked at nor changed. A
+//! refused call changes no buffer. [`Sets::of`], [`listing`], [`table_of`], [`Fault::of`],
+//! [`table_in`], [`narrowed_sets`] and [`Plan::of`] bring their own buffers. [`read_place`],
+//! [`part`] and [`first_tick`] need none: they hand back a place of the lent text, a part of the lent
+//! file, and a number. The calls keep no state, and any number of threads may make them at once;
+//! [`raw`] has the exported functions as they are. How much stack they need, [`read`] and
+//! [`read_place`] the most, is said in the header for C, `bindings/c/bavzhrono.h`.
 //!
 //! A loop of pause and emit 7, analysed and run for two instants:
 //!
@@ -143,6 +143,23 @@
 //! assert_eq!(sets[program].to_string(), "{0}");
 //! # Ok::<(), bavzhrono::Refusal>(())
 //! ```
+//!
+//! The first tick of a program, to the entry, and answers that bring it about:
+//!
+//! ```
+//! use bavzhrono::{first_tick, start, table_of, Plan, SIGNALS};
+//!
+//! let table = table_of(b"present PowerWarning then emit Saved; pause end; emit Ready")?;
+//! assert_eq!(first_tick(&table)?, 5);
+//!
+//! // With the power warning the program pauses after more entries than without.
+//! let plan = Plan::of(&table)?;
+//! assert_eq!(plan.answers, [1]);
+//! let mut state = vec![0; table.len() / 2];
+//! let closed = start(&table, &plan.answers, &mut state, &mut [0; SIGNALS])?;
+//! assert_eq!(closed.entries, 5);
+//! # Ok::<(), bavzhrono::Refusal>(())
+//! ```
 
 #![deny(missing_docs)]
 #![deny(unsafe_code)]
@@ -150,6 +167,7 @@
 mod analysis;
 mod blocks;
 mod codes;
+mod first_tick;
 mod instant;
 mod listing;
 #[allow(unsafe_code)]
@@ -162,6 +180,7 @@ mod ties;
 pub use analysis::{analyse, Analysis, Mark, Sets};
 pub use blocks::{fetch, part, table_in, Fetched};
 pub use codes::{CodeSet, Codes};
+pub use first_tick::{first_tick, first_tick_answers, FirstTick, Plan};
 pub use instant::{resume, start, Closed, Completion};
 pub use listing::{listing, render};
 pub use refusal::Refusal;
@@ -187,5 +206,6 @@ pub const BLOCK: usize = 512;
 /// The most blocks of a file.
 pub const MAX_BLOCKS: usize = 64;
 
-/// The bytes of answers that [`tick`] needs: any list fits. It is no limit of the instants.
+/// The bytes of answers that [`tick`] and [`first_tick_answers`] need: any list fits. It is no limit
+/// of the instants.
 pub const TICK_ANSWERS: usize = 512;

@@ -127,6 +127,22 @@ extern "C" {
         answer: *mut u64,
         answer_length: usize,
     ) -> u32;
+
+    fn bavzhrono_first_tick(
+        table: *const u8,
+        table_length: usize,
+        answer: *mut u64,
+        answer_length: usize,
+    ) -> u32;
+
+    fn bavzhrono_first_tick_answers(
+        table: *const u8,
+        table_length: usize,
+        answers: *mut u8,
+        answers_length: usize,
+        answer: *mut u64,
+        answer_length: usize,
+    ) -> u32;
 }
 
 /// The figures are the nodes, the loop depth and 0.
@@ -278,6 +294,34 @@ pub fn narrow(table: &[u8], ties: &[u8], sets: &mut [u64], answer: &mut [u64]) -
             ties.len(),
             sets.as_mut_ptr(),
             sets.len(),
+            answer.as_mut_ptr(),
+            answer.len(),
+        )
+    }
+}
+
+/// The figures are the entries, 0 and 0.
+pub fn first_tick(table: &[u8], answer: &mut [u64]) -> u32 {
+    // SAFETY: each pointer is followed by the length of its own slice.
+    unsafe {
+        bavzhrono_first_tick(
+            table.as_ptr(),
+            table.len(),
+            answer.as_mut_ptr(),
+            answer.len(),
+        )
+    }
+}
+
+/// The figures are the entries, the length of the list and 0.
+pub fn first_tick_answers(table: &[u8], answers: &mut [u8], answer: &mut [u64]) -> u32 {
+    // SAFETY: each pointer is followed by the length of its own slice.
+    unsafe {
+        bavzhrono_first_tick_answers(
+            table.as_ptr(),
+            table.len(),
+            answers.as_mut_ptr(),
+            answers.len(),
             answer.as_mut_ptr(),
             answer.len(),
         )

@@ -2,7 +2,7 @@
 
 mod common;
 
-use bavzhrono::{listing, Analysis, CodeSet, Completion, Mark, Sets, MAX_NODES};
+use bavzhrono::{first_tick, listing, Analysis, CodeSet, Completion, Mark, Sets, MAX_NODES};
 use common::*;
 
 const ENDED: CodeSet = CodeSet(1 << 0);
@@ -36,6 +36,7 @@ fn the_longest_table_is_listed_and_run() {
     let mut lent = Buffers::for_table(&table, 0);
     // Loop, nine sequences down to the first pause, and that pause.
     assert_eq!(lent.start(&table, &[]), closed(Completion::Paused, 0, 11));
+    assert_eq!(first_tick(&table), Ok(11));
     let mut held = vec![0; MAX_NODES];
     held[0] = 1;
     assert_eq!(lent.state, held);
@@ -50,6 +51,7 @@ fn depth_256() {
 
     let mut lent = Buffers::for_table(&table, 0);
     assert_eq!(lent.start(&table, &[]), closed(Completion::Paused, 0, 256));
+    assert_eq!(first_tick(&table), Ok(256));
     assert_eq!(
         lent.resume(&table, &[]),
         closed(Completion::Terminated, 0, 256)
@@ -115,7 +117,7 @@ fn code_63_in_all_sets() {
 }
 
 /// Starts the program and resumes it, with so many entries. Both instants pause with the same
-/// pauses held.
+/// pauses held. It has no test, so that its first tick is the one that there is.
 fn assert_pauses_twice(table: &[u8], held: &[usize], entries: [usize; 2]) {
     let mut state = vec![0; table.len() / 2];
     for &pause in held {
@@ -123,6 +125,7 @@ fn assert_pauses_twice(table: &[u8], held: &[usize], entries: [usize; 2]) {
     }
     let mut lent = Buffers::for_table(table, 0);
     let [started, resumed] = entries.map(|entries| closed(Completion::Paused, 0, entries));
+    assert_eq!(first_tick(table), Ok(entries[0]));
     assert_eq!(lent.start(table, &[]), started);
     assert_eq!(lent.state, state);
     assert_eq!(lent.resume(table, &[]), resumed);

@@ -92,22 +92,49 @@ impl Lent {
     fn narrow(&mut self, table: &[u8]) -> u32 {
         raw::narrow(table, &self.ties, &mut self.start_sets, &mut self.answer)
     }
+
+    fn first_tick(&mut self, table: &[u8]) -> u32 {
+        raw::first_tick(table, &mut self.answer)
+    }
+
+    fn first_tick_answers(&mut self, table: &[u8]) -> u32 {
+        raw::first_tick_answers(table, &mut self.answers, &mut self.answer)
+    }
 }
 
 /// It takes a table, a text if it reads one, or a file.
 type Function = fn(&mut Lent, &[u8]) -> u32;
 
 /// The functions that make the table's checks.
-const CHECKING: [Function; 5] = [
+const CHECKING: [Function; 7] = [
     Lent::analyse,
     Lent::start,
     Lent::resume,
     Lent::tick,
     Lent::narrow,
+    Lent::first_tick,
+    Lent::first_tick_answers,
 ];
 
 /// Of these, the ones that return 11.
-const RETURNING_11: [Function; 4] = [Lent::analyse, Lent::start, Lent::resume, Lent::narrow];
+const RETURNING_11: [Function; 6] = [
+    Lent::analyse,
+    Lent::start,
+    Lent::resume,
+    Lent::narrow,
+    Lent::first_tick,
+    Lent::first_tick_answers,
+];
+
+/// Of these, the ones that need other buffers than the answer.
+const WITH_BUFFERS: [Function; 6] = [
+    Lent::analyse,
+    Lent::start,
+    Lent::resume,
+    Lent::tick,
+    Lent::narrow,
+    Lent::first_tick_answers,
+];
 
 fn assert_unchanged(before: Lent, function: Function, given: &[u8], expected: u32) {
     let mut lent = before.clone();
@@ -212,12 +239,13 @@ fn refusals_3_12_13_and_19_name_no_node_and_leave_the_answer() {
     (short.marks, short.state, short.text) = (vec![FILL; 3], vec![FILL; 3], vec![FILL; 3]);
     short.answers.truncate(TICK_ANSWERS - 1);
     short.ties.truncate(SIGNALS - 1);
-    for function in CHECKING {
+    for function in WITH_BUFFERS {
         assert_unchanged(short.clone(), function, W1, 3);
     }
     assert_unchanged(short.clone(), Lent::render, W1, 3);
     assert_unchanged(short.clone(), Lent::render, W2, 3);
-    assert_unchanged(short, Lent::tick, W2, 3);
+    assert_unchanged(short.clone(), Lent::tick, W2, 3);
+    assert_unchanged(short, Lent::first_tick_answers, W2, 3);
 
     let present = [3, 5, 2, 0, 6, 1];
     assert_unchanged(Lent::with_answer(3), Lent::resume, &present, 12);
@@ -322,6 +350,10 @@ fn three_entries_of_the_answer_are_written_and_no_more() {
         assert_figures(&mut lent, Lent::part, &[], [0, 0, 0]);
         assert_figures(&mut lent, Lent::narrow, W1, [4, 0, 0]);
         assert_figures(&mut lent, Lent::narrow, &full_table(), [1024, 0, 0]);
+        assert_figures(&mut lent, Lent::first_tick, W1, [3, 0, 0]);
+        assert_figures(&mut lent, Lent::first_tick, &full_table(), [11, 0, 0]);
+        assert_figures(&mut lent, Lent::first_tick_answers, W1, [3, 0, 0]);
+        assert_figures(&mut lent, Lent::first_tick_answers, &W8[..14], [5, 2, 0]);
     }
 }
 

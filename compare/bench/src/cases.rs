@@ -12,7 +12,7 @@ use ours::OURS;
 use two_pass::TWO_PASS;
 
 use crate::programs::{Shape, SHAPES};
-use crate::{blocks, texts, ticks, ties};
+use crate::{blocks, plans, texts, ticks, ties};
 
 /// Who makes a call.
 #[derive(Clone, Copy, PartialEq, Eq)]
@@ -54,10 +54,12 @@ pub enum Call {
     Fetch,
     Part,
     Narrow,
+    FirstTick,
+    FirstTickAnswers,
 }
 
 impl Call {
-    pub const ALL: [Call; 9] = [
+    pub const ALL: [Call; 11] = [
         Call::Analyse,
         Call::Start,
         Call::Resume,
@@ -67,6 +69,8 @@ impl Call {
         Call::Fetch,
         Call::Part,
         Call::Narrow,
+        Call::FirstTick,
+        Call::FirstTickAnswers,
     ];
 
     pub fn name(self) -> &'static str {
@@ -80,6 +84,8 @@ impl Call {
             Call::Fetch => "fetch",
             Call::Part => "part",
             Call::Narrow => "narrow",
+            Call::FirstTick => "first_tick",
+            Call::FirstTickAnswers => "first_tick_answers",
         }
     }
 
@@ -94,10 +100,10 @@ impl Call {
     /// What the cost of a call is shared among.
     pub fn each(self) -> &'static str {
         match self {
-            Call::Analyse | Call::Tick | Call::Narrow => "a node",
             Call::Start | Call::Resume => "an entry",
             Call::Read | Call::ReadPlace => "a byte",
             Call::Fetch | Call::Part => "a block",
+            _ => "a node",
         }
     }
 
@@ -177,6 +183,16 @@ pub fn of(call: Call) -> Box<dyn Iterator<Item = Case>> {
         Call::Narrow => {
             let of_shape = |(shape, tie)| SIZES.map(|nodes| Case::of_ties(&shape, tie, nodes));
             Box::new(ties::SHAPES.into_iter().flat_map(of_shape))
+        }
+        Call::FirstTick | Call::FirstTickAnswers => {
+            let shapes = SHAPES.iter();
+            let programs =
+                shapes.flat_map(|shape| SIZES.map(|nodes| (shape.name, shape.program(nodes))));
+            let shapes = ticks::SHAPES.iter();
+            let bodies = shapes
+                .flat_map(|shape| SIZES.map(|nodes| (shape.name, plans::program(shape, nodes))));
+            let of_table = move |(name, table)| Case::of_first_tick(call, name, table);
+            Box::new(programs.chain(bodies).map(of_table))
         }
     }
 }
@@ -284,6 +300,20 @@ impl Case {
         case
     }
 
+    fn of_first_tick(call: Call, shape: &'static str, table: Vec<u8>) -> Case {
+        let mut case = Case {
+            call,
+            shape,
+            size: table.len() / 2,
+            table,
+            answers: vec![0; TICK_ANSWERS],
+            answer: vec![0; FIGURES],
+            ..Case::default()
+        };
+        assert_eq!(case.run(&COMPARE), 0, "{} is refused", case.name());
+        case
+    }
+
     pub fn name(&self) -> String {
         format!("{}/{}/{}", self.call.name(), self.shape, self.size)
     }
@@ -302,6 +332,10 @@ impl Case {
                 return (calls.part)(file, PROGRAM, edition, part, answer);
             }
             Call::Narrow => return (calls.narrow)(table, &self.ties, &mut self.start_sets, answer),
+            Call::FirstTick => return (calls.first_tick)(table, answer),
+            Call::FirstTickAnswers => {
+                return (calls.first_tick_answers)(table, &mut self.answers, answer)
+            }
             Call::Analyse => {
                 return (calls.analyse)(
                     table,

@@ -21,6 +21,7 @@ use report::Line;
 mod blocks;
 mod cases;
 mod measure;
+mod plans;
 mod programs;
 mod report;
 mod texts;

@@ -1,5 +1,6 @@
 //! A call with all that it is lent, ready to be made on either side.
 
+use compare::first_tick::reaches;
 use compare::instant::SIGNALS;
 use compare::support::calls::{Calls, FIGURES};
 use compare::support::cases::{Call, Case};
@@ -305,6 +306,92 @@ impl Trial for Finding {
     fn with_answer(self, length: usize) -> Finding {
         let answer = Guarded::untouched(length);
         Finding { answer, ..self }
+    }
+
+    fn buffers(&self) -> Vec<(&'static str, String)> {
+        vec![
+            ("table", self.table.hex()),
+            ("answers", self.answers.hex()),
+            ("answer", self.answer.hex()),
+        ]
+    }
+}
+
+#[derive(Clone, PartialEq)]
+pub struct Planning {
+    pub table: Guarded<u8>,
+    pub answer: Guarded<u64>,
+}
+
+impl Planning {
+    pub fn new(table: &[u8]) -> Planning {
+        Planning {
+            table: Guarded::with(table),
+            answer: Guarded::untouched(FIGURES),
+        }
+    }
+}
+
+impl Trial for Planning {
+    fn name(&self) -> &'static str {
+        "first_tick"
+    }
+
+    fn call(&mut self, calls: &Calls) -> u32 {
+        (calls.first_tick)(self.table.lent(), self.answer.lent())
+    }
+
+    fn with_answer(self, length: usize) -> Planning {
+        let answer = Guarded::untouched(length);
+        Planning { answer, ..self }
+    }
+
+    fn buffers(&self) -> Vec<(&'static str, String)> {
+        vec![("table", self.table.hex()), ("answer", self.answer.hex())]
+    }
+}
+
+#[derive(Clone, PartialEq)]
+pub struct Handing {
+    pub table: Guarded<u8>,
+    pub answers: Guarded<u8>,
+    pub answer: Guarded<u64>,
+}
+
+impl Handing {
+    /// With answers of exactly the length needed.
+    pub fn new(table: &[u8]) -> Handing {
+        Handing::with_answers(table, TICK_ANSWERS)
+    }
+
+    pub fn with_answers(table: &[u8], answers_length: usize) -> Handing {
+        Handing {
+            table: Guarded::with(table),
+            answers: Guarded::untouched(answers_length),
+            answer: Guarded::untouched(FIGURES),
+        }
+    }
+
+    /// After a call that is not refused: whether the list is a reason for the number.
+    pub fn reaches(&mut self) -> bool {
+        let length = self.answer.lent()[1] as usize;
+        reaches(self.table.lent(), &self.answers.lent()[..length])
+    }
+}
+
+impl Trial for Handing {
+    fn name(&self) -> &'static str {
+        "first_tick_answers"
+    }
+
+    fn call(&mut self, calls: &Calls) -> u32 {
+        let (table, answers) = (self.table.lent(), self.answers.lent());
+        (calls.first_tick_answers)(table, answers, self.answer.lent())
+    }
+
+    fn with_answer(self, length: usize) -> Handing {
+        let answer = Guarded::untouched(length);
+        Handing { answer, ..self }
     }
 
     fn buffers(&self) -> Vec<(&'static str, String)> {

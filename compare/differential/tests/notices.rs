@@ -11,7 +11,8 @@ use compare::{sets, table, Sets};
 use differential::groups::{refusals, texts};
 use differential::tally::{Difference, Tally};
 use differential::trials::{
-    Analysis, Fetching, Finding, Instant, Narrowing, Placing, Reading, Rendering, Taking, Trial,
+    Analysis, Fetching, Finding, Handing, Instant, Narrowing, Placing, Planning, Reading,
+    Rendering, Taking, Trial,
 };
 
 fn assert_noticed(wrong: Calls, trial: &impl Trial) {
@@ -153,6 +154,12 @@ fn told_by<T: Telling>() -> Calls {
         narrow: |table, ties, sets, answer| {
             T::tell(answer, |answer| (COMPARE.narrow)(table, ties, sets, answer))
         },
+        first_tick: |table, answer| T::tell(answer, |answer| (COMPARE.first_tick)(table, answer)),
+        first_tick_answers: |table, answers, answer| {
+            T::tell(answer, |answer| {
+                (COMPARE.first_tick_answers)(table, answers, answer)
+            })
+        },
     }
 }
 
@@ -173,6 +180,8 @@ fn a_fourth_figure() {
     assert_noticed(wrong, &Placing::new(b"pause").with_answer(4));
     assert_noticed(wrong, &Finding::new(W8).with_answer(4));
     assert_noticed(wrong, &narrowing(W1).with_answer(4));
+    assert_noticed(wrong, &Planning::new(W1).with_answer(4));
+    assert_noticed(wrong, &Handing::new(W1).with_answer(4));
     let fetching = Fetching::new(&stored_w1(), PROGRAM);
     assert_noticed(wrong, &fetching.with_answer(4));
     let taking = Taking::new(&stored_w1(), (PROGRAM, 1), 0);
@@ -201,6 +210,8 @@ fn an_answer_written_on_a_refusal() {
     assert_noticed(wrong, &Finding::with_answers(W8, 511));
     assert_noticed(wrong, &Fetching::new(&[], PROGRAM));
     assert_noticed(wrong, &narrowing(W2));
+    assert_noticed(wrong, &Planning::new(W2));
+    assert_noticed(wrong, &Handing::new(W2));
     assert_noticed_by(refusals::edges, wrong);
 }
 
@@ -217,6 +228,8 @@ fn a_node_that_is_lost() {
     assert_noticed(wrong, &Instant::new(Call::Start, W8, &[], &[9; 8]));
     assert_noticed(wrong, &Instant::new(Call::Resume, W8, &[], &[9; 8]));
     assert_noticed(wrong, &narrowing(W8));
+    assert_noticed(wrong, &Planning::new(W8));
+    assert_noticed(wrong, &Handing::new(W8));
     assert_noticed_by(refusals::edges, wrong);
     assert_noticed_by(texts::edges, wrong);
 }
@@ -252,6 +265,8 @@ fn a_short_answer_refused_before_1_and_2() {
     assert_noticed(wrong, &Analysis::new(&[]).with_answer(2));
     assert_noticed(wrong, &Finding::new(&[]).with_answer(2));
     assert_noticed(wrong, &narrowing(&[]).with_answer(2));
+    assert_noticed(wrong, &Planning::new(&[]).with_answer(2));
+    assert_noticed(wrong, &Handing::new(&[]).with_answer(2));
     for call in [Call::Start, Call::Resume] {
         assert_noticed(
             wrong,
@@ -288,6 +303,8 @@ fn a_short_answer_refused_after_all_other_checks() {
     assert_noticed(wrong, &Reading::new(b"end").with_answer(2));
     assert_noticed(wrong, &Finding::new(&[12, 0]).with_answer(2));
     assert_noticed(wrong, &narrowing(W2).with_answer(2));
+    assert_noticed(wrong, &Planning::new(W2).with_answer(2));
+    assert_noticed(wrong, &Handing::new(W2).with_answer(2));
     assert_noticed(wrong, &Fetching::new(&[], PROGRAM).with_answer(2));
     assert_noticed_by(refusals::edges, wrong);
 }
@@ -314,6 +331,8 @@ fn a_short_answer_that_is_accepted() {
     assert_noticed(wrong, &Placing::new(b"exit T").with_answer(2));
     assert_noticed(wrong, &Finding::new(W8).with_answer(2));
     assert_noticed(wrong, &narrowing(W1).with_answer(2));
+    assert_noticed(wrong, &Planning::new(W1).with_answer(2));
+    assert_noticed(wrong, &Handing::new(W1).with_answer(2));
     let fetching = Fetching::new(&stored_w1(), PROGRAM);
     assert_noticed(wrong, &fetching.with_answer(2));
     let taking = Taking::new(&stored_w1(), (PROGRAM, 1), 0);

@@ -1,6 +1,9 @@
 //! The proved code's calls, from its archive, as the bindings for Rust have them.
 
-use bavzhrono::raw::{analyse, fetch, narrow, part, read, read_place, render, resume, start, tick};
+use bavzhrono::raw::{
+    analyse, fetch, first_tick, first_tick_answers, narrow, part, read, read_place, render, resume,
+    start, tick,
+};
 use compare::support::calls::Calls;
 
 /// The calls of the proved code.
@@ -15,4 +18,6 @@ pub const OURS: Calls = Calls {
     fetch,
     part,
     narrow,
+    first_tick,
+    first_tick_answers,
 };

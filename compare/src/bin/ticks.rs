@@ -23,8 +23,8 @@ use std::process::ExitCode;
 use compare::support::files::{self, Files};
 use compare::support::random::Random;
 use compare::support::ticks::{even_trees, one_list, table, NUMBERS};
-use compare::support::vectors::read_ticks;
-use compare::support::{edges, hex, tick_edges, SEED};
+use compare::support::vectors::read_lines;
+use compare::support::{edges, tick_edges, SEED};
 use compare::tick_line;
 
 /// How many of each size: of few nodes, of some, and about as many as are allowed.
@@ -45,19 +45,11 @@ fn main() -> ExitCode {
 
 /// Adds a table whose line is known.
 fn add_known(files: &mut Files, name: &str, table: &[u8], line: &str) -> Result<(), String> {
-    let ours = tick_line(table);
-    if ours != line {
-        let table = hex::encode(table);
-        return Err(format!(
-            "{name} disagrees\ntable {table}\nexpected: {line}ours:     {ours}"
-        ));
-    }
-    files.add(table, line);
-    Ok(())
+    files.add_known_line(name, table, line, &tick_line(table))
 }
 
 fn add_vectors(files: &mut Files, file: &Path) -> Result<(), String> {
-    let vectors = read_ticks(file);
+    let vectors = read_lines(file);
     for (at, vector) in vectors.iter().enumerate() {
         let name = format!("vector line {}", at + 1);
         add_known(files, &name, &vector.table, &vector.line)?;

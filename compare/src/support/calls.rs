@@ -23,6 +23,10 @@ pub type Fetch = fn(&[u8], u16, &mut [u8], &mut [u64]) -> u32;
 pub type Part = fn(&[u8], u16, u16, u8, &mut [u64]) -> u32;
 /// Table, ties, sets, answer.
 pub type Narrow = fn(&[u8], &[u8], &mut [u64], &mut [u64]) -> u32;
+/// Table, answer.
+pub type FirstTick = fn(&[u8], &mut [u64]) -> u32;
+/// Table, answers, answer.
+pub type FirstTickAnswers = fn(&[u8], &mut [u8], &mut [u64]) -> u32;
 
 #[derive(Clone, Copy)]
 pub struct Calls {
@@ -36,6 +40,8 @@ pub struct Calls {
     pub fetch: Fetch,
     pub part: Part,
     pub narrow: Narrow,
+    pub first_tick: FirstTick,
+    pub first_tick_answers: FirstTickAnswers,
 }
 
 /// The calls of this implementation.
@@ -50,6 +56,8 @@ pub const COMPARE: Calls = Calls {
     fetch,
     part,
     narrow,
+    first_tick,
+    first_tick_answers,
 };
 
 /// The figures of an answer, and the entries that its buffer must have.
@@ -179,6 +187,26 @@ fn narrow(table: &[u8], ties: &[u8], sets: &mut [u64], answer: &mut [u64]) -> u3
         let front = front_after_length(table, answer)?;
         let nodes = crate::narrow(table, ties, sets)?;
         *front = [nodes as u64, 0, 0];
+        Ok(())
+    })
+}
+
+/// The figures are the entries, 0 and 0.
+fn first_tick(table: &[u8], answer: &mut [u64]) -> u32 {
+    returned(|| {
+        let front = front_after_length(table, answer)?;
+        let entries = crate::first_tick(table)?;
+        *front = [entries as u64, 0, 0];
+        Ok(())
+    })
+}
+
+/// The figures are the entries, the length of the list and 0.
+fn first_tick_answers(table: &[u8], answers: &mut [u8], answer: &mut [u64]) -> u32 {
+    returned(|| {
+        let front = front_after_length(table, answer)?;
+        let (entries, length) = crate::first_tick_answers(table, answers)?;
+        *front = [entries as u64, length as u64, 0];
         Ok(())
     })
 }

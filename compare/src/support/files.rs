@@ -4,7 +4,7 @@ use std::path::Path;
 use std::process::ExitCode;
 
 use super::arguments::{self, Arguments};
-use super::SEED;
+use super::{hex, SEED};
 
 /// Both as they grow. None is written before all cases are there, so that one that
 /// disagrees leaves the old files alone.
@@ -33,6 +33,24 @@ impl Files {
         let length = u16::try_from(case.len()).expect("a length of two bytes");
         self.input.extend(length.to_le_bytes());
         self.add_encoded(case, expected);
+    }
+
+    /// Adds a table whose line is known, if this implementation gives the same.
+    pub fn add_known_line(
+        &mut self,
+        name: &str,
+        table: &[u8],
+        line: &str,
+        ours: &str,
+    ) -> Result<(), String> {
+        if ours != line {
+            let table = hex::encode(table);
+            return Err(format!(
+                "{name} disagrees\ntable {table}\nexpected: {line}ours:     {ours}"
+            ));
+        }
+        self.add(table, line);
+        Ok(())
     }
 
     /// Says how much of what there is, and writes it.

@@ -1,6 +1,6 @@
 //! What the tests, the generators and the comparisons share: hexadecimal,
-//! random numbers, vector files, tables, instants, runs, files of blocks and ties
-//! to try, and how the generators write them.
+//! random numbers, vector files, tables, instants, starts, runs, files of blocks and
+//! ties to try, and how the generators write them.
 
 pub mod answers;
 pub mod arguments;
@@ -28,11 +28,14 @@ pub mod nodes;
 pub mod numbers;
 pub mod older_texts;
 pub mod partitions;
+pub mod plan_edges;
+pub mod plans;
 pub mod printer;
 pub mod programs;
 pub mod random;
 pub mod reentries;
 pub mod runs;
+pub mod starts;
 pub mod states;
 pub mod text_edges;
 pub mod texts;
@@ -43,6 +46,7 @@ pub mod ties;
 pub mod vectors;
 pub mod wrong_blocks;
 pub mod wrong_marks;
+pub mod wrong_plans;
 pub mod wrong_readers;
 pub mod wrong_ties;
 

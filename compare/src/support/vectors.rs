@@ -44,7 +44,8 @@ pub struct TextVector {
     pub outcome: Result<(Vec<u8>, usize), Refusal>,
 }
 
-pub struct TickVector {
+/// A table and what a program prints for it.
+pub struct LineVector {
     pub table: Vec<u8>,
     pub line: String,
 }
@@ -128,10 +129,10 @@ pub fn read_texts(file: &Path) -> Vec<TextVector> {
         .collect()
 }
 
-pub fn read_ticks(file: &Path) -> Vec<TickVector> {
+pub fn read_lines(file: &Path) -> Vec<LineVector> {
     read_objects(file)
         .iter()
-        .map(|object| TickVector {
+        .map(|object| LineVector {
             table: bytes(object, "table"),
             line: text(object, "line").to_string(),
         })

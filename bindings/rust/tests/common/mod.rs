@@ -3,9 +3,10 @@
 #![allow(dead_code)] // each test file uses a part of this
 
 use bavzhrono::{analyse, narrow, read, read_place, render, resume, start, table_of, tick};
+use bavzhrono::{first_tick, first_tick_answers};
 use bavzhrono::{
-    Analysis, Closed, CodeSet, Completion, Mark, Placed, Reading, Refusal, Tick, BLOCK, MAX_NODES,
-    MAX_TEXT, SIGNALS, TICK_ANSWERS,
+    Analysis, Closed, CodeSet, Completion, FirstTick, Mark, Placed, Reading, Refusal, Tick, BLOCK,
+    MAX_NODES, MAX_TEXT, SIGNALS, TICK_ANSWERS,
 };
 
 pub const W1: &[u8] = &[2, 0, 3, 7, 9, 0, 8, 0];
@@ -103,6 +104,10 @@ impl Buffers {
     pub fn narrow(&mut self, table: &[u8], ties: &[u8]) -> Result<usize, Refusal> {
         narrow(table, ties, &mut self.start_sets)
     }
+
+    pub fn first_tick_answers(&mut self, table: &[u8]) -> Result<FirstTick<'_>, Refusal> {
+        first_tick_answers(table, &mut self.answers)
+    }
 }
 
 pub fn refused<T>(number: u32, node: usize) -> Result<T, Refusal> {
@@ -132,6 +137,8 @@ pub fn assert_refused(table: &[u8], number: u32, node: usize) {
     for tie in [0, FILL] {
         assert_eq!(lent.narrow(table, &[tie; SIGNALS]), refused(number, node));
     }
+    assert_eq!(first_tick(table), refused(number, node));
+    assert_eq!(lent.first_tick_answers(table), refused(number, node));
     assert_eq!(lent, before);
     assert_eq!(
         bavzhrono::listing(table),

@@ -7,7 +7,7 @@ use compare::support::every::{every_table, Letter};
 use compare::support::random::Random;
 use compare::support::ties::{tied, ABSENT};
 
-use super::first_difference;
+use super::{first_difference, plans};
 use crate::tally::{Difference, Tally};
 use crate::trials::{Analysis, Finding, Instant, Narrowing, Rendering};
 
@@ -88,6 +88,7 @@ fn every_call(tally: &mut Tally, table: &[u8]) -> Result<(), Difference> {
         tally.compare(&Finding::with_answers(table, length))?;
     }
     tally.compare(&Narrowing::new(table, &tied(&[(3, ABSENT)])))?;
+    plans::both_calls(tally, table)?;
     every_answer_list(tally, Call::Start, table, &vec![9; size])?;
     // A refused table is refused from any state.
     let states = if is_accepted { 1 << size } else { 1 };

@@ -11,6 +11,7 @@ mod exhaustive;
 mod instants;
 mod lengths;
 pub mod narrowings;
+pub mod plans;
 pub mod refusals;
 pub mod runs;
 mod tables;
@@ -25,7 +26,7 @@ pub struct Group {
     pub random: bool,
 }
 
-pub const GROUPS: [Group; 52] = [
+pub const GROUPS: [Group; 56] = [
     Group {
         name: "Table W and the edges",
         run: tables::edges,
@@ -42,12 +43,12 @@ pub const GROUPS: [Group; 52] = [
         random: false,
     },
     Group {
-        name: "analysis, listing and tick of accepted programs up to 1,024 nodes",
+        name: "analysis, listing, tick and first tick of accepted programs up to 1,024 nodes",
         run: tables::accepted_programs,
         random: true,
     },
     Group {
-        name: "analysis, listing and tick of damaged tables",
+        name: "analysis, listing, tick and first tick of damaged tables",
         run: tables::damaged,
         random: true,
     },
@@ -139,6 +140,26 @@ pub const GROUPS: [Group; 52] = [
     Group {
         name: "ticks of long lists",
         run: ticks::long_lists,
+        random: true,
+    },
+    Group {
+        name: "first ticks at the edges, with answers of all lengths",
+        run: plans::edges,
+        random: false,
+    },
+    Group {
+        name: plans::ALL,
+        run: plans::all,
+        random: false,
+    },
+    Group {
+        name: "first ticks of tables up to 1,024 nodes",
+        run: plans::drawn,
+        random: true,
+    },
+    Group {
+        name: "first ticks of programs whose codes have numbers of their own",
+        run: plans::codes,
         random: true,
     },
     Group {

@@ -12,7 +12,7 @@ use compare::support::ties::ABSENT;
 use compare::{checks, listing, Refusal};
 
 use crate::tally::{Difference, Tally};
-use crate::trials::{Analysis, Finding, Instant, Narrowing, Rendering, Trial};
+use crate::trials::{Analysis, Finding, Handing, Instant, Narrowing, Planning, Rendering, Trial};
 
 /// The entries of an answer.
 const ANSWERS: [usize; 6] = [0, 1, 2, 3, 4, 8];
@@ -82,6 +82,9 @@ fn every_call(tally: &mut Tally, table: &[u8]) -> Result<(), Difference> {
         tally,
         &Narrowing::with_sets(table, &[ABSENT; SIGNALS], size + 5),
     )?;
+    every_answer(tally, &Planning::new(table))?;
+    every_answer(tally, &Handing::new(table))?;
+    every_answer(tally, &Handing::with_answers(table, 511))?;
     let text_length = listing(table).len();
     every_answer(tally, &Rendering::new(table, text_length))?;
     every_answer(tally, &Rendering::new(table, text_length - 1))

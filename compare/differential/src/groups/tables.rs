@@ -1,4 +1,4 @@
-//! Analyses, listings and ticks.
+//! Analyses, listings, ticks and first ticks.
 
 use compare::checks::MOST_TRAPS;
 use compare::listing;
@@ -8,7 +8,7 @@ use compare::support::families;
 use compare::support::programs::{accepted, ladder, longest_listing, SHAPES};
 use compare::support::random::Random;
 
-use super::compare_all;
+use super::{compare_all, plans};
 use crate::tally::{Difference, Tally};
 use crate::trials::{Analysis, Finding, Rendering};
 
@@ -51,5 +51,5 @@ fn all_but_instants(tally: &mut Tally, table: &[u8]) -> Result<(), Difference> {
     tally.compare(&Analysis::new(table))?;
     tally.compare(&Rendering::new(table, listing(table).len()))?;
     tally.compare(&Finding::new(table))?;
-    Ok(())
+    plans::both_calls(tally, table)
 }
