@@ -1,5 +1,5 @@
 -- The rows of the statements that are unused so far, on a stack, in the walk from the first node to the last.
-use mathlib.Core.Path.{_≡_, refl, sym, ap, subst, _∙_}
+use mathlib.Core.Path.{_≡_, refl, sym, ap, ap₂, subst, _∙_}
 use mathlib.Core.List.{List, [], _∷_}
 use Prim.Native.Nat.{ℕ, suc, _+_, _-_, _*_, _≤_, _<_}
 use native.Mathlib.Decide.{decLt}
@@ -9,11 +9,11 @@ use Rattle.codes.specs.Codes.{Codes}
 use Rattle.esterel.specs.Limits.{maxNodes, maxDepth}
 use Rattle.esterel.specs.Statement.{Stmt, leaf, one, two, kind, field, size, nodes}
 use Rattle.esterel.specs.Outcome.{statementAt}
-use Rattle.table.specs.Kinds.{kindOf, arityOf}
+use Rattle.table.specs.Kinds.{kindOf, arityOf, leafOf, leafCode}
 use Rattle.table.specs.Program.{programOf}
 use Rattle.table.specs.Columns.{stmtAt}
 use Rattle.table.specs.declared.Kind.{Kind}
-use Rattle.table.proofs.Bytes.{field-byte}
+use Rattle.table.proofs.Bytes.{childrenOf, arity-of, leaf-is, field-byte}
 use Rattle.table.proofs.Surveying.{few-nodes}
 use Rattle.table.proofs.Views.{spans}
 use Rattle.table.proofs.Walk.{Waiting, children, program, at-last}
@@ -27,8 +27,8 @@ use Rattle.starts.proofs.Cost.{below-low}
 use Rattle.starts.proofs.Theorems.{codes-below}
 use Rattle.rows.specs.Rows.{valueOf, valuesOf, maxNumber, LowRow, Holds}
 use Rattle.rows.specs.Filled.{RowAt, Stored}
-use Rattle.rows.proofs.Said.{list-low, row-low, holds-low, holds-all, OfChildren, row-is}
-use Rattle.planning.specs.Rows.{Lies, Pushed}
+use Rattle.rows.proofs.Said.{list-low, row-low, holds-low, holds-all, own-code, OfChildren, row-is}
+use Rattle.planning.specs.Rows.{Lies, NextRow, Pushed}
 
 -- the row at a place says the most entries of a statement
 pub record SaysAt (stack : List ℕ) (place : ℕ) (p : Stmt) : Type 0 where
@@ -74,11 +74,11 @@ module _ (d t l : ℕ) (P : Codes) {stack : List ℕ} where
   rest (one u p) ws (more _ _ e h) = h
   rest (two b p q) ws (more _ _ e (more _ _ e′ h)) = h
 
-  taken : (s : Stmt) (ws : List Waiting) {a b : List ℕ} (base : ℕ) → base ≡ length ws → Below 63 s → On stack (children d t l P s ws) → RowAt stack base a → RowAt stack (base + 1) b → OfChildren Entries s (valuesOf a) (valuesOf b)
-  taken (leaf x) ws base e low h ra rb = tt
-  taken (one u p) ws {a = a} base e low (more _ _ f h) ra rb =
+  taken : (s : Stmt) (ws : List Waiting) {a b : List ℕ} (base : ℕ) → base ≡ length ws → (childrenOf s ≡ 0 → ⊥) → Below 63 s → On stack (children d t l P s ws) → RowAt stack base a → RowAt stack (base + 1) b → OfChildren Entries s (valuesOf a) (valuesOf b)
+  taken (leaf x) ws base e some low h ra rb = absurd (some refl)
+  taken (one u p) ws {a = a} base e some low (more _ _ f h) ra rb =
       holds-all Entries p (said f (subst (λ i. RowAt stack i a) e ra)) (below-low 63 p (low .1))
-  taken (two c p q) ws {a = a} {b = b} base e low (more _ _ f (more _ _ g h)) ra rb =
+  taken (two c p q) ws {a = a} {b = b} base e some low (more _ _ f (more _ _ g h)) ra rb =
       let z : base + 1 ≡ suc (length ws) = omega arith in (
         holds-all Entries p (said g (subst (λ i. RowAt stack i a) e ra)) (below-low 63 p (low .1)),
         holds-all Entries q (said f (subst (λ i. RowAt stack i b) z rb)) (below-low 63 q (low .2)),
@@ -99,9 +99,6 @@ no-rows =
 
 -- a turn at node i, with the kind k, the field f and the number c of children that the code has read
 module _ {t : List ℕ} (ok : Placed t) {us : List Waiting} {unused i : ℕ} (o : Before (programOf t) us unused i) (inside : i < size (programOf t)) {k : Kind} {f c : ℕ} (ek : k ≡ kindOf (getD t (2 * i) 0)) (ef : f ≡ getD t (2 * i + 1) 0) (ec : c ≡ arityOf k) {stack : List ℕ} (rows : Rows us stack) where
-  pub lies : f < 256 → Lies stack (unused - c) f
-  lies h = record { room = omega (arith, low ok o inside ek ef ec, rows .long); low = rows .low; few = h }
-
   abbrev w : Waiting
   w = here ok o inside ek ef ec .top
 
@@ -111,15 +108,48 @@ module _ {t : List ℕ} (ok : Placed t) {us : List Waiting} {unused i : ℕ} (o 
   statement : stmtAt t i ≡ w .root
   statement = here ok o inside ek ef ec .statement
 
+  arity-here : arityOf k ≡ childrenOf (w .root)
+  arity-here = ap arityOf (kind-here ok o inside ek ef ec) ∙ arity-of (w .root)
+
+  low-codes : Below 63 (w .root)
+  low-codes = subst (Below 63) statement (codes-below (well-formed ok) i)
+
+  -- a leaf, as the code reads it
+  leaf-here : arityOf k ≡ 0 → w .root ≡ leaf (leafOf k f)
+  leaf-here z = go (w .root) refl (sym arity-here ∙ z)
+    where
+      go : (s : Stmt) → w .root ≡ s → childrenOf s ≡ 0 → w .root ≡ leaf (leafOf k f)
+      go (leaf l) e y =
+          let kind-is : k ≡ kindOf (kind (leaf l)) = kind-here ok o inside ek ef ec ∙ ap (λ s. kindOf (kind s)) e in
+          let field-is : f ≡ field (leaf l) = ef ∙ field-byte t (ok .readable) i inside ∙ ap field (statement ∙ e) in
+          e ∙ ap leaf (sym (ap₂ leafOf kind-is field-is ∙ leaf-is l))
+      go (one u p) e y = absurd (omega arith)
+      go (two b p q) e y = absurd (omega arith)
+
+  pub lies : f < 256 → Lies k f (unused - c) stack
+  lies h =
+      record {
+        room = omega (arith, low ok o inside ek ef ec, rows .long);
+        low = rows .low;
+        few = h;
+        known = λ z. (let at = below-low 63 (leaf (leafOf k f)) (subst (Below 63) (leaf-here z) low-codes) (leafCode (leafOf k f)) (own-code (leafOf k f)) in omega arith);
+      }
+
   on-top : On stack (children (w .depth) (w .traps) (w .loops) (w .context) (w .root) below)
   on-top = subst (On stack) (here ok o inside ek ef ec .is) (rows .on)
 
   few-below : size (w .root) ≤ maxNodes
   few-below = omega (arith, spans t i inside, few-nodes t (ok .readable), ap size statement)
 
+  row-here : {row : List ℕ} → NextRow k f (unused - c) stack row → Holds (mostEntries (w .root)) row
+  row-here {row} (NextRow.ofLeaf z h) = subst (λ s. Holds (mostEntries s) row) (sym (leaf-here z)) h
+  row-here (NextRow.ofChildren d a b ra rb is) =
+      row-is (w .root) (kind-here ok o inside ek ef ec)
+      (taken (w .depth) (w .traps) (w .loops) (w .context) (w .root) below (unused - c) (base-is ok o inside ek ef ec) (λ z. d (arity-here ∙ z)) low-codes on-top ra rb) is
+
   pub rows-next : {stack′ : List ℕ} → Pushed k f (unused - c) stack stack′ → Rows (after ok o inside ek ef ec) stack′
   rows-next p =
-      let is : Holds (mostEntries (w .root)) (p .row) = row-is (w .root) (kind-here ok o inside ek ef ec) (ef ∙ field-byte t (ok .readable) i inside ∙ ap field statement) (taken (w .depth) (w .traps) (w .loops) (w .context) (w .root) below (unused - c) (base-is ok o inside ek ef ec) (subst (Below 63) statement (codes-below (well-formed ok) i)) on-top (p .of-first) (p .of-second)) (p .is) in
+      let is : Holds (mostEntries (w .root)) (p .row) = row-here (p .is) in
       record {
         long = p .stored .long ∙ rows .long;
         low = stored-low (p .stored) (rows .low) (holds-low Entries (w .root) is few-below);

@@ -9,7 +9,7 @@ ghost use Rattle.analysis.specs.Passes.{Placed};
 ghost use Rattle.starts.specs.Summary.{mostEntries};
 ghost use Rattle.rows.specs.Rows.{maxNumber, Holds, LowRow};
 ghost use Rattle.planning.specs.Planning.{refusalOf, longestRefusal, Plans, Hands};
-ghost use Rattle.planning.specs.Rows.{Lies, Pushed, topOf, Tops, AnyCode};
+ghost use Rattle.planning.specs.Rows.{Lies, NextRow, Pushed, topOf, Tops, AnyCode};
 use rows::Row;
 use starts::Weight;
 use table::Check;
@@ -50,14 +50,25 @@ fn refused_longest(check: Check) -> Longest
 // The numbers of the rows of all statements that can be unused at a time, and of one more: two are read whatever the number of children.
 const PENDING: usize = 64 * (esterel::MAX_DEPTH + 1);
 
-// One node on the stack of the rows of the statements that are unused so far: its children's, on top from `base` on, give way to its own.
-fn push_row(kind: Kind, field: usize, stack: &mut [u16], base: usize)
-    requires { ⌜ Lies (now stack) base field ⌝ }
-    ensures { λ _. ⌜ Pushed kind field base (now (stack .entry)) (now (stack .exit)) ⌝ }
+// The row of a node, from the rows of the statements that are unused so far: its children's are on top, from `base` on.
+fn next_row(kind: Kind, field: usize, stack: &[u16], base: usize) -> Row
+    requires { ⌜ Lies kind field base (now stack) ⌝ }
+    ensures { λ r. ⌜ NextRow kind field base (now (stack .entry)) (r .of) ⌝ }
 {
+    if table::arity(kind) == 0 {
+        return rows::leaf_row(Weight::Entries, kind, field);
+    }
     let first = rows::load(stack, base);
     let second = rows::load(stack, base + 1);
-    let row = rows::row_of(Weight::Entries, kind, field, first, second);
+    rows::row_of(Weight::Entries, kind, first, second)
+}
+
+// One node on that stack: its children's rows give way to its own.
+fn push_row(kind: Kind, field: usize, stack: &mut [u16], base: usize)
+    requires { ⌜ Lies kind field base (now stack) ⌝ }
+    ensures { λ _. ⌜ Pushed kind field base (now (stack .entry)) (now (stack .exit)) ⌝ }
+{
+    let row = next_row(kind, field, stack, base);
     rows::store(stack, base, row);
 }
 

@@ -1,3 +1,4 @@
+pub mod Leaves
 pub mod Values
 pub mod Sweeps
 pub mod Said

@@ -1,5 +1,6 @@
 -- The loops over the codes.
 use mathlib.Core.Path.{_≡_, refl, ap, ap₂, _∙_}
+use mathlib.Core.Bool.{Bool, true}
 use mathlib.Core.Option.{Option, none, some}
 use mathlib.Core.List.{List, []}
 use Prim.Native.Nat.{ℕ, zero, suc, _+_, _-_, _*_, _≤_, _<_}
@@ -8,12 +9,14 @@ use native.Mathlib.Decide.{decLt}
 use native.Mathlib.Omega.{arith}
 use lib.ListN.{length, getD, set, length-set}
 use lib.Seq.{getD-set-same, getD-set-other}
+use Rattle.table.specs.Kinds.{isParallel}
 use Rattle.table.specs.declared.Kind.{Kind}
+use Rattle.table.specs.declared.Kind.the-variants.{Nothing, Pause, Emit, Exit, Signal, Present, Suspend, Loop, Sequence, Parallel, Trap, Unknown}
 use Rattle.starts.specs.declared.Weight.{Weight}
 use Rattle.starts.specs.Summary.{upTo, either, together, prefer, weigh, weights}
 use Rattle.rows.specs.Rows.{valueOf, valuesOf, maxNumber, Picks, Joins, LowRow, Found}
-use Rattle.rows.specs.Steps.{innerAt, IsInner, rowOf, IsRow}
-use Rattle.rows.proofs.Values.{pick-low}
+use Rattle.rows.specs.Steps.{besideAt, innerAt, IsInner, UpIf, rowOf, IsRow}
+use Rattle.rows.proofs.Values.{up-low}
 
 pub either-none : (pick : ℕ → ℕ → ℕ) (x : Option ℕ) → either pick x none ≡ x
 either-none pick none = refl
@@ -43,45 +46,60 @@ module _ (P : ℕ → ℕ → Type 0) where
 
 -- ---- row_of
 
-pub record Running (w : Weight) (kind : Kind) (n : ℕ) (a b of : List ℕ) (x y k : ℕ) : Type 0 where
+pub record Running (w : Weight) (kind : Kind) (a b of : List ℕ) (x y k : ℕ) : Type 0 where
   pub low : k ≤ 64
   pub long : length of ≡ 64
-  pub left : valueOf x ≡ below w (valuesOf a) k
-  pub right : valueOf y ≡ below w (valuesOf b) k
+  pub left : isParallel kind ≡ true → valueOf x ≡ below w (valuesOf a) k
+  pub right : isParallel kind ≡ true → valueOf y ≡ below w (valuesOf b) k
   pub small-left : x ≤ maxNumber
   pub small-right : y ≤ maxNumber
-  pub done : (j : ℕ) → j < k → valueOf (getD of j 0) ≡ rowOf w kind n (valuesOf a) (valuesOf b) j
+  pub done : (j : ℕ) → j < k → valueOf (getD of j 0) ≡ rowOf w kind (valuesOf a) (valuesOf b) j
 
-pub begins : {w : Weight} {kind : Kind} {n : ℕ} {a b of : List ℕ} → length of ≡ 64 → Running w kind n a b of 0 0 0
+pub begins : {w : Weight} {kind : Kind} {a b of : List ℕ} → length of ≡ 64 → Running w kind a b of 0 0 0
 begins z =
-    record { low = omega arith; long = z; left = refl; right = refl; small-left = omega arith; small-right = omega arith; done = λ j h. absurd (omega arith) }
+    record { low = omega arith; long = z; left = λ e. refl; right = λ e. refl; small-left = omega arith; small-right = omega arith; done = λ j h. absurd (omega arith) }
 
-pub ends : {w : Weight} {kind : Kind} {n : ℕ} {a b of : List ℕ} {x y k : ℕ} → Running w kind n a b of x y k → 64 ≤ k → IsRow w kind n a b of
+pub ends : {w : Weight} {kind : Kind} {a b of : List ℕ} {x y k : ℕ} → Running w kind a b of x y k → 64 ≤ k → IsRow w kind a b of
 ends o h = record { is = record { long = o .long; at = λ j l. o .done j (omega arith) } }
 
-pub step : {w : Weight} {kind : Kind} {n : ℕ} {a b of : List ℕ} {x y k x′ y′ e v r : ℕ} → LowRow maxNumber a → LowRow maxNumber b → Running w kind n a b of x y k → k < 64 → Picks w (getD a k 0) x x′ → Picks w (getD b k 0) y y′ → e ≡ suc (weigh w [] 1) → IsInner w kind n a b x′ y′ k v → Joins e v r → Running w kind n a b (set of k r) x′ y′ (k + 1)
-step {w} {kind} {n} {a} {b} {of} {x} {y} {k} {x′} {y′} {e} {v} {r} la lb o h p q ee g j =
+-- what is preferred up to the code counts in a parallel alone
+ups : (w : Weight) (kind : Kind) (f g : ℕ → Option ℕ) (x y x′ y′ : Option ℕ) (k : ℕ) → (isParallel kind ≡ true → x ≡ x′) → (isParallel kind ≡ true → y ≡ y′) → innerAt w kind f g x y k ≡ innerAt w kind f g x′ y′ k
+ups w Nothing f g x y x′ y′ k p q = refl
+ups w Pause f g x y x′ y′ k p q = refl
+ups w Emit f g x y x′ y′ k p q = refl
+ups w Exit f g x y x′ y′ k p q = refl
+ups w Signal f g x y x′ y′ k p q = refl
+ups w Present f g x y x′ y′ k p q = refl
+ups w Suspend f g x y x′ y′ k p q = refl
+ups w Loop f g x y x′ y′ k p q = refl
+ups w Sequence f g x y x′ y′ k p q = refl
+ups w Parallel f g x y x′ y′ k p q = ap₂ (λ z u. besideAt w (f k) (g k) z u) (p refl) (q refl)
+ups w Trap f g x y x′ y′ k p q = refl
+ups w Unknown f g x y x′ y′ k p q = refl
+
+pub step : {w : Weight} {kind : Kind} {a b of : List ℕ} {x y k x′ y′ e v r : ℕ} {asked : Bool} → LowRow maxNumber a → LowRow maxNumber b → asked ≡ isParallel kind → Running w kind a b of x y k → k < 64 → UpIf asked w (getD a k 0) x x′ → UpIf asked w (getD b k 0) y y′ → e ≡ suc (weigh w [] 1) → IsInner w kind a b x′ y′ k v → Joins e v r → Running w kind a b (set of k r) x′ y′ (k + 1)
+step {w} {kind} {a} {b} {of} {x} {y} {k} {x′} {y′} {e} {v} {r} la lb is o h p q ee g j =
     rw add-one
     record {
       low = omega (arith, o .low);
       long = length-set of k r ∙ o .long;
       left = left-up;
       right = right-up;
-      small-left = pick-low p (la .at k) (o .small-left);
-      small-right = pick-low q (lb .at k) (o .small-right);
-      done = set-next (λ i u. valueOf u ≡ rowOf w kind n (valuesOf a) (valuesOf b) i) of k r (omega (arith, o .long)) (o .done) here;
+      small-left = up-low p (la .at k) (o .small-left);
+      small-right = up-low q (lb .at k) (o .small-right);
+      done = set-next (λ i u. valueOf u ≡ rowOf w kind (valuesOf a) (valuesOf b) i) of k r (omega (arith, o .long)) (o .done) here;
     }
   where
-    left-up : valueOf x′ ≡ below w (valuesOf a) (suc k)
-    left-up = p .is ∙ ap (weights w .choice (valuesOf a k)) (o .left)
+    left-up : isParallel kind ≡ true → valueOf x′ ≡ below w (valuesOf a) (suc k)
+    left-up t = p .is (is ∙ t) .is ∙ ap (weights w .choice (valuesOf a k)) (o .left t)
 
-    right-up : valueOf y′ ≡ below w (valuesOf b) (suc k)
-    right-up = q .is ∙ ap (weights w .choice (valuesOf b k)) (o .right)
+    right-up : isParallel kind ≡ true → valueOf y′ ≡ below w (valuesOf b) (suc k)
+    right-up t = q .is (is ∙ t) .is ∙ ap (weights w .choice (valuesOf b k)) (o .right t)
 
-    inner : valueOf v ≡ innerAt w kind n (valuesOf a) (valuesOf b) (upTo (weights w) (valuesOf a) k) (upTo (weights w) (valuesOf b) k) k
-    inner = g .gets .is ∙ ap₂ (λ z u. innerAt w kind n (valuesOf a) (valuesOf b) z u k) (left-up ∙ below-upTo w (valuesOf a) k) (right-up ∙ below-upTo w (valuesOf b) k)
+    inner : valueOf v ≡ innerAt w kind (valuesOf a) (valuesOf b) (upTo (weights w) (valuesOf a) k) (upTo (weights w) (valuesOf b) k) k
+    inner = g .gets .is ∙ ups w kind (valuesOf a) (valuesOf b) _ _ _ _ k (λ t. left-up t ∙ below-upTo w (valuesOf a) k) (λ t. right-up t ∙ below-upTo w (valuesOf b) k)
 
-    here : valueOf r ≡ rowOf w kind n (valuesOf a) (valuesOf b) k
+    here : valueOf r ≡ rowOf w kind (valuesOf a) (valuesOf b) k
     here = j .is ∙ ap₂ (together _+_) (ap valueOf ee) inner
 
 -- ---- best_sum

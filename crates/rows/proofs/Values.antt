@@ -1,17 +1,21 @@
 -- What the numbers of a row say: the returns of the functions on single numbers.
 use mathlib.Core.Path.{_≡_, refl, sym, ap, ap₂, subst, _∙_}
+use mathlib.Core.Bool.{Bool, false}
 use mathlib.Core.Option.{Option, none, some}
 use mathlib.Core.List.{List, [], _∷_}
 use Prim.Native.Nat.{ℕ, zero, suc, _+_, _-_, _*_, _≤_, _<_, min}
 use native.Mathlib.Omega.{arith}
 use lib.ListN.{length, getD, List·getD-eq-default}
-use borrow.Author.Tests.{eq-eqb, ne-eqb}
+use types.Run.{OneOf, miss}
+use denote.Enum.Declared.{tagOf}
 use Rattle.table.specs.declared.Kind.{Kind}
+use Rattle.table.specs.declared.Kind.the-variants.{Nothing, Pause, Emit, Exit, Signal, Present, Suspend, Loop, Sequence, Parallel, Trap, Unknown}
+use Rattle.table.proofs.Kind.{the-type}
 use Rattle.starts.specs.declared.Weight.{Weight}
 use Rattle.starts.specs.declared.Weight.the-variants.{Answers, Entries}
 use Rattle.starts.specs.Summary.{tested, withoutEnded, followed, caught, either, together, weigh, weights}
 use Rattle.rows.specs.Rows.{valueOf, valuesOf, maxNumber, Gets, Picks, Joins, LowRow}
-use Rattle.rows.specs.Steps.{onlyAt, innerAt, IsInner}
+use Rattle.rows.specs.Steps.{innerAt, IsInner, UpIf}
 
 -- ---- lesser
 
@@ -54,6 +58,17 @@ as-weight e p = rw e p
 pub pick-low : {w : Weight} {a b r m : ℕ} → Picks w a b r → a ≤ m → b ≤ m → r ≤ m
 pick-low p h i = omega (arith, p .low)
 
+-- ---- up_if
+
+pub asked-up : {b : Bool} {w : Weight} {a up r : ℕ} → Picks w a up r → UpIf b w a up r
+asked-up p = record { is = λ e. p; low = p .low }
+
+pub unasked-up : {b : Bool} {w : Weight} {a up : ℕ} → b ≡ false → UpIf b w a up up
+unasked-up z = record { is = λ e. let y : _≡_ {A = ℕ} 0 1 = cc in absurd (omega arith); low = omega arith }
+
+pub up-low : {b : Bool} {w : Weight} {a up r m : ℕ} → UpIf b w a up r → a ≤ m → up ≤ m → r ≤ m
+up-low p h i = omega (arith, p .low)
+
 -- ---- join
 
 pub join-second : {a b : ℕ} → b ≡ 0 → Joins a b 0
@@ -81,8 +96,26 @@ gets-join h i j = record { is = j .is; low = omega (arith, j .low) }
 pub gets-pick : {w : Weight} {x y : Option ℕ} {a b r : ℕ} → Gets x a → Gets y b → Picks w a b r → Gets (weights w .choice x y) r
 gets-pick {w} g h p = record { is = p .is ∙ ap₂ (weights w .choice) (g .is) (h .is); low = omega (arith, p .low, g .low, h .low) }
 
-pub as-kind : {w : Weight} {kind l : Kind} {n : ℕ} {a b : List ℕ} {x y k r : ℕ} → kind ≡ l → Gets (innerAt w l n (valuesOf a) (valuesOf b) (valueOf x) (valueOf y) k) r → IsInner w kind n a b x y k r
+pub as-kind : {w : Weight} {kind l : Kind} {a b : List ℕ} {x y k r : ℕ} → kind ≡ l → Gets (innerAt w l (valuesOf a) (valuesOf b) (valueOf x) (valueOf y) k) r → IsInner w kind a b x y k r
 as-kind e g = record { gets = rw e g }
+
+-- a kind without children
+abbrev tags : List ℕ
+tags = 0 ∷ 1 ∷ 2 ∷ 3 ∷ 11 ∷ []
+
+pub no-inner : {w : Weight} (k : Kind) {a b : List ℕ} {x y c : ℕ} → OneOf tags (tagOf the-type k) → IsInner w k a b x y c 0
+no-inner Nothing h = record { gets = record { is = refl; low = omega arith } }
+no-inner Pause h = record { gets = record { is = refl; low = omega arith } }
+no-inner Emit h = record { gets = record { is = refl; low = omega arith } }
+no-inner Exit h = record { gets = record { is = refl; low = omega arith } }
+no-inner Signal h = absurd (miss tags 4 tt h)
+no-inner Present h = absurd (miss tags 5 tt h)
+no-inner Suspend h = absurd (miss tags 6 tt h)
+no-inner Loop h = absurd (miss tags 7 tt h)
+no-inner Sequence h = absurd (miss tags 8 tt h)
+no-inner Parallel h = absurd (miss tags 9 tt h)
+no-inner Trap h = absurd (miss tags 10 tt h)
+no-inner Unknown h = record { gets = record { is = refl; low = omega arith } }
 
 -- what a start weighs by one entry alone, and by one answer alone, whichever it is
 pub entry-low : (w : Weight) {e : ℕ} → e ≡ suc (weigh w [] 1) → e ≤ 2
@@ -98,12 +131,6 @@ either-answer Answers = refl
 either-answer Entries = refl
 
 -- ---- the returns of the functions for each kind
-
-pub only-here : (c k : ℕ) → c ≡ k → Gets (onlyAt c k) 1
-only-here c k e = record { is = rw (eq-eqb c k e); low = omega arith }
-
-pub only-not : (c k : ℕ) → (c ≡ k → ⊥) → Gets (onlyAt c k) 0
-only-not c k d = record { is = rw (ne-eqb c k d); low = omega arith }
 
 module _ (w : Weight) where
   pub test-is : {e a b u v r : ℕ} → e ≡ suc (weigh w (1 ∷ []) 0) → a ≤ maxNumber → b ≤ maxNumber → Joins e a u → Joins e b v → Picks w u v r → Gets (tested (weights w) (valueOf a) (valueOf b)) r

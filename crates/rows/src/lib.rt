@@ -5,13 +5,14 @@ ghost use mathlib.Core.List.{[], _∷_};
 ghost use Prim.Native.Nat.{suc, _+_, _*_, _<_, _≤_};
 ghost use lib.ListN.{length};
 ghost use Rattle.esterel.specs.Limits.{maxNodes};
-ghost use Rattle.esterel.specs.Statement.{size};
+ghost use Rattle.esterel.specs.Statement.{leaf, size};
+ghost use Rattle.table.specs.Kinds.{leafOf, leafCode};
 ghost use Rattle.table.specs.Program.{programOf};
 ghost use Rattle.table.specs.Columns.{stmtAt};
 ghost use Rattle.starts.specs.declared.Weight.the-variants.{Answers, Entries};
 ghost use Rattle.starts.specs.Summary.{tested as testedOf, withoutEnded, followed as followedOf, caught as caughtOf, weigh, weights, best};
 ghost use Rattle.rows.specs.Rows.{valueOf, valuesOf, maxNumber, Gets, Picks, Joins, LowRow, Holds, Found};
-ghost use Rattle.rows.specs.Steps.{onlyAt, besideAt, IsInner, IsRow};
+ghost use Rattle.rows.specs.Steps.{besideAt, IsInner, IsRow, UpIf};
 ghost use Rattle.rows.specs.Filled.{Formed, RowAt, Stored, RowsTo};
 use starts::Weight;
 use table::Kind;
@@ -93,11 +94,26 @@ fn answer(weight: Weight) -> u16
     }
 }
 
-// A statement without children, of one code.
-fn only(code: usize, k: usize) -> u16
-    ensures { λ r. ⌜ Gets (onlyAt code k) r ⌝ }
+// The code of a statement without children.
+pub fn leaf_code(kind: Kind, field: usize) -> usize
+    requires { ⌜ field < 256 ⌝ }
+    ensures { λ r. ⌜ r ≡ leafCode (leafOf kind field) ⌝ }
 {
-    if code == k { 1 } else { 0 }
+    match kind {
+        Kind::Pause => 1,
+        Kind::Exit => 2 + field,
+        _ => 0,
+    }
+}
+
+// Its row: no sweep, since only this code is given.
+pub fn leaf_row(weight: Weight, kind: Kind, field: usize) -> Row
+    requires { ⌜ (field < 256) × (leafCode (leafOf kind field) < 64) ⌝ }
+    ensures { λ r. ⌜ Holds (best weight (leaf (leafOf kind field))) (r .of) ⌝ }
+{
+    let mut of = [0u16; 64];
+    of[leaf_code(kind, field)] = entry(weight);
+    Row { of }
 }
 
 // A test takes one answer, and goes on with the then branch or the else branch.
@@ -157,25 +173,31 @@ fn caught(weight: Weight, body: &[u16; 64], k: usize) -> u16
     body[k + 1]
 }
 
-// The number of a node for one code, without its own entry, from its children's rows.
+// The preferred up to a code, with one code more, where it is asked for.
+fn up_if(asked: bool, weight: Weight, number: u16, up: u16) -> u16
+    ensures { λ r. ⌜ UpIf asked weight number up r ⌝ }
+{
+    if asked {
+        return pick(weight, number, up);
+    }
+    up
+}
+
+// The number of a node with children for one code, without its own entry, from their rows.
 fn inner_at(
     weight: Weight,
     kind: Kind,
-    field: usize,
     first: &[u16; 64],
     second: &[u16; 64],
     first_up: u16,
     second_up: u16,
     k: usize,
 ) -> u16
-    requires { ⌜ LowRow maxNumber (now first) × LowRow maxNumber (now second) × (length (now first) ≡ 64) × («first_up» ≤ maxNumber) × («second_up» ≤ maxNumber) × (field < 256) × (k < 64) ⌝ }
-    ensures { λ r. ⌜ IsInner weight kind field (now (first .entry)) (now (second .entry)) «first_up» «second_up» k r ⌝ }
+    requires { ⌜ LowRow maxNumber (now first) × LowRow maxNumber (now second) × (length (now first) ≡ 64) × («first_up» ≤ maxNumber) × («second_up» ≤ maxNumber) × (k < 64) ⌝ }
+    ensures { λ r. ⌜ IsInner weight kind (now (first .entry)) (now (second .entry)) «first_up» «second_up» k r ⌝ }
 {
     match kind {
-        Kind::Nothing => only(0, k),
-        Kind::Pause => only(1, k),
-        Kind::Emit => only(0, k),
-        Kind::Exit => only(2 + field, k),
+        Kind::Nothing | Kind::Pause | Kind::Emit | Kind::Exit | Kind::Unknown => 0,
         Kind::Signal => first[k],
         Kind::Present => tested(weight, first[k], second[k]),
         Kind::Suspend => first[k],
@@ -183,27 +205,27 @@ fn inner_at(
         Kind::Sequence => followed(weight, first, second, k),
         Kind::Parallel => beside(weight, first[k], second[k], first_up, second_up),
         Kind::Trap => caught(weight, first, k),
-        Kind::Unknown => 0,
     }
 }
 
-// The row of a node from those of its children, of the only one or the first, and of the second: one sweep over the codes for all
-// kinds.
-pub fn row_of(weight: Weight, kind: Kind, field: usize, first: Row, second: Row) -> Row
-    requires { ⌜ LowRow maxNumber (first .of) × LowRow maxNumber (second .of) × (length (first .of) ≡ 64) × (field < 256) ⌝ }
-    ensures { λ r. ⌜ IsRow weight kind field (first .of) (second .of) (r .of) ⌝ }
+// The row of a node with children from theirs, of the only one or the first, and of the second: one sweep over the codes for all
+// kinds. Only a parallel asks for the preferred up to each code.
+pub fn row_of(weight: Weight, kind: Kind, first: Row, second: Row) -> Row
+    requires { ⌜ LowRow maxNumber (first .of) × LowRow maxNumber (second .of) × (length (first .of) ≡ 64) ⌝ }
+    ensures { λ r. ⌜ IsRow weight kind (first .of) (second .of) (r .of) ⌝ }
 {
     let left = first.of;
     let right = second.of;
     let own = entry(weight);
+    let is_parallel = table::is_parallel(kind);
     let mut of = [0u16; 64];
     let mut left_up: u16 = 0;
     let mut right_up: u16 = 0;
     let mut k: usize = 0;
     while k < 64 {
-        left_up = pick(weight, left[k], left_up);
-        right_up = pick(weight, right[k], right_up);
-        let inner = inner_at(weight, kind, field, &left, &right, left_up, right_up, k);
+        left_up = up_if(is_parallel, weight, left[k], left_up);
+        right_up = up_if(is_parallel, weight, right[k], right_up);
+        let inner = inner_at(weight, kind, &left, &right, left_up, right_up, k);
         of[k] = join(own, inner);
         k += 1;
     }
@@ -263,15 +285,14 @@ fn row_at(weight: Weight, table: &[u8], sizes: &[u16], rows: &[u16], node: usize
     let field = table::field_at(table, node);
     let children = table::arity(kind);
     if children == 0 {
-        let none = Row { of: [0u16; 64] };
-        return row_of(weight, kind, field, none, none);
+        return leaf_row(weight, kind, field);
     }
     let last = load(rows, node - 1);
     if children == 1 {
-        return row_of(weight, kind, field, last, last);
+        return row_of(weight, kind, last, last);
     }
     let first = load(rows, node - 1 - table::size_at(sizes, node - 1));
-    row_of(weight, kind, field, first, last)
+    row_of(weight, kind, first, last)
 }
 
 // The rows of the nodes before one, children before parents.

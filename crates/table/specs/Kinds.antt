@@ -102,6 +102,9 @@ isExit k = isSame k Exit
 abbrev pub isSequence : Kind → Bool
 isSequence k = isSame k Sequence
 
+abbrev pub isParallel : Kind → Bool
+isParallel k = isSame k Parallel
+
 abbrev pub isSignal : Kind → Bool
 isSignal k = isSame k Signal
 

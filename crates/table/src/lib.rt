@@ -5,7 +5,7 @@ ghost use Prim.Native.Nat.{_+_, _-_, _*_, _/_, _<_, _≤_, max};
 ghost use lib.ListN.{length, getD};
 ghost use Rattle.esterel.specs.Limits.{maxNodes};
 ghost use Rattle.esterel.specs.Statement.{size};
-ghost use Rattle.table.specs.Kinds.{kindOf, arityOf, plainOf, numberOf, isSame, isTrap, isLoop, isExit, isSequence, isSignal, isPresent, isSuspend, isPause};
+ghost use Rattle.table.specs.Kinds.{kindOf, arityOf, plainOf, numberOf, isSame, isTrap, isLoop, isExit, isSequence, isParallel, isSignal, isPresent, isSuspend, isPause};
 ghost use Rattle.table.specs.Program.{programOf, Readable};
 ghost use Rattle.table.specs.Columns.{onto, sizesOf};
 ghost use Rattle.table.specs.Check.{lengthCheck, nodeCheck, nodesCheck, WellSized, Room, spanOf, refuseBelow, Shallow, TopOf, OnlyOf, SecondOf, Descended, Seen, Surveyed};
@@ -135,6 +135,12 @@ pub fn is_sequence(kind: Kind) -> bool
     ensures { λ r. ⌜ r ≡ isSequence kind ⌝ }
 {
     is_same(kind, Kind::Sequence)
+}
+
+pub fn is_parallel(kind: Kind) -> bool
+    ensures { λ r. ⌜ r ≡ isParallel kind ⌝ }
+{
+    is_same(kind, Kind::Parallel)
 }
 
 pub fn is_signal(kind: Kind) -> bool

@@ -1,7 +1,7 @@
 -- The returns of the small functions.
 use mathlib.Core.Path.{_≡_, refl, sym, ap, _∙_}
 use mathlib.Core.Bool.{Bool, true, false, cond, _&&_}
-use mathlib.Core.List.{List, [], _∷_}
+use mathlib.Core.List.{List}
 use Prim.Native.Nat.{ℕ, zero, suc, _<_, max}
 use native.Mathlib.Decide.{decLt}
 use native.Mathlib.Omega.{arith}
@@ -9,35 +9,13 @@ use lib.ListN.{getD}
 use lib.Dec.{eqb, leb}
 use borrow.Author.Tests.{ne-eqb, lt-leb, le-leb}
 use Rattle.esterel.specs.Codes.{catchCode}
-use types.Run.{OneOf, miss}
-use denote.Enum.Declared.{tagOf}
-use Rattle.table.specs.Kinds.{leafOf, leafCode, isTrap, isLoop}
+use Rattle.table.specs.Kinds.{isTrap, isLoop}
 use Rattle.table.specs.declared.Kind.{Kind}
-use Rattle.table.specs.declared.Kind.the-variants.{Nothing, Pause, Emit, Exit, Signal, Present, Suspend, Loop, Sequence, Parallel, Trap, Unknown}
-use Rattle.table.proofs.Kind.{the-type}
 use Rattle.starts.specs.declared.Weight.{Weight}
 use Rattle.starts.specs.declared.Weight.the-variants.{Answers, Entries}
 use Rattle.starts.specs.Walk.{noWorse}
 use Rattle.rows.specs.Rows.{valueOf}
 use Rattle.walk.specs.Needs.{underAt}
-
--- all kinds but pause and exit
-abbrev tags : List ℕ
-tags = 0 ∷ 2 ∷ 4 ∷ 5 ∷ 6 ∷ 7 ∷ 8 ∷ 9 ∷ 10 ∷ 11 ∷ []
-
-pub other-code : (k : Kind) (field : ℕ) → OneOf tags (tagOf the-type k) → 0 ≡ leafCode (leafOf k field)
-other-code Nothing f h = refl
-other-code Pause f h = absurd (miss tags 1 tt h)
-other-code Emit f h = refl
-other-code Exit f h = absurd (miss tags 3 tt h)
-other-code Signal f h = refl
-other-code Present f h = refl
-other-code Suspend f h = refl
-other-code Loop f h = refl
-other-code Sequence f h = refl
-other-code Parallel f h = refl
-other-code Trap f h = refl
-other-code Unknown f h = refl
 
 -- no_worse
 module _ (w : Weight) where

@@ -4,7 +4,6 @@ ghost use mathlib.Core.Path.{_≡_};
 ghost use mathlib.Core.Bool.{true, false};
 ghost use Prim.Native.Nat.{_+_, _*_, _<_, _≤_};
 ghost use lib.ListN.{length};
-ghost use Rattle.table.specs.Kinds.{leafOf, leafCode};
 ghost use Rattle.table.specs.Columns.{stmtAt};
 ghost use Rattle.starts.specs.Walk.{noWorse};
 ghost use Rattle.rows.specs.Rows.{valueOf, maxNumber, LowRow};
@@ -18,18 +17,6 @@ use table::Kind;
 pub struct Walked {
     pub code: usize,
     pub at: usize,
-}
-
-// The code of a statement without children.
-fn leaf_code(kind: Kind, field: usize) -> usize
-    requires { ⌜ field < 256 ⌝ }
-    ensures { λ r. ⌜ r ≡ leafCode (leafOf kind field) ⌝ }
-{
-    match kind {
-        Kind::Pause => 1,
-        Kind::Exit => 2 + field,
-        _ => 0,
-    }
 }
 
 // Whether x is no worse than y; a number that says nothing is worse than any other.
@@ -175,7 +162,7 @@ pub fn walk_at(
     let kind = table::kind_at(table, node);
     let children = table::arity(kind);
     if children == 0 {
-        let code = leaf_code(kind, table::field_at(table, node));
+        let code = rows::leaf_code(kind, table::field_at(table, node));
         return Walked { code, at };
     }
     let last = node - 1;

@@ -5,6 +5,7 @@ use borrow.Fn.PlainCycle.{Measures, is, falls, and}
 use Rattle.walk.proofs.walk_at.Reads as walk-at
 use Rattle.walk.proofs.walk_at.Kinds as walk-at-kinds
 use Rattle.walk.proofs.+walk_at.Lts-walk_at as walk-at-lts
+use Rattle.rows.proofs.leaf_code.Reads as leaf-code-reads
 use Rattle.rows.proofs.load.Reads as load-reads
 use Rattle.table.proofs.arity.Reads as arity-reads
 use Rattle.table.proofs.field_at.Reads as field-at-reads
@@ -14,7 +15,6 @@ use Rattle.table.proofs.kind_at.Reads as kind-at-reads
 use Rattle.table.proofs.larger.Reads as larger-reads
 use Rattle.table.proofs.size_at.Reads as size-at-reads
 use Rattle.walk.proofs.goes_absent.Reads as goes-absent-reads
-use Rattle.walk.proofs.leaf_code.Reads as leaf-code-reads
 use Rattle.walk.proofs.leave.Reads as leave-reads
 use Rattle.walk.proofs.need_first.Reads as need-first-reads
 use Rattle.walk.proofs.need_under.Reads as need-under-reads

@@ -1,9 +1,9 @@
--- `walk::leaf_code` meets its contract.
-use Rattle.walk.proofs.Small.{other-code}
+-- `rows::leaf_code` meets its contract.
+use Rattle.rows.proofs.Leaves.{other-code}
 use mathlib.Core.Path.{refl}
 use borrow.Author.Needs.{needs}
-use Rattle.walk.proofs.leaf_code.Statement.{statement}
-use Rattle.walk.proofs.leaf_code.Tie as tie
+use Rattle.rows.proofs.leaf_code.Statement.{statement}
+use Rattle.rows.proofs.leaf_code.Tie as tie
 
 enum-told : tie.Need-enum-told
 enum-told c = search needs
