@@ -272,8 +272,16 @@ impl Trial for Placing {
     }
 }
 
+/// Which answers are to be found for a table.
+#[derive(Clone, Copy, PartialEq)]
+enum Goal {
+    Tick,
+    MostEntries,
+}
+
 #[derive(Clone, PartialEq)]
 pub struct Finding {
+    goal: Goal,
     pub table: Guarded<u8>,
     pub answers: Guarded<u8>,
     pub answer: Guarded<u64>,
@@ -287,20 +295,40 @@ impl Finding {
 
     pub fn with_answers(table: &[u8], answers_length: usize) -> Finding {
         Finding {
+            goal: Goal::Tick,
             table: Guarded::with(table),
             answers: Guarded::untouched(answers_length),
             answer: Guarded::untouched(FIGURES),
         }
     }
+
+    /// The same buffers, lent for the answers that give the most entries.
+    pub fn of_most_entries(self) -> Finding {
+        let goal = Goal::MostEntries;
+        Finding { goal, ..self }
+    }
+
+    /// After such a call that is not refused: whether the list is a reason for the number.
+    pub fn reaches(&mut self) -> bool {
+        let length = self.answer.lent()[1] as usize;
+        reaches(self.table.lent(), &self.answers.lent()[..length])
+    }
 }
 
 impl Trial for Finding {
     fn name(&self) -> &'static str {
-        "tick"
+        match self.goal {
+            Goal::Tick => "tick",
+            Goal::MostEntries => "first_tick_answers",
+        }
     }
 
     fn call(&mut self, calls: &Calls) -> u32 {
-        (calls.tick)(self.table.lent(), self.answers.lent(), self.answer.lent())
+        let find = match self.goal {
+            Goal::Tick => calls.tick,
+            Goal::MostEntries => calls.first_tick_answers,
+        };
+        find(self.table.lent(), self.answers.lent(), self.answer.lent())
     }
 
     fn with_answer(self, length: usize) -> Finding {
@@ -348,58 +376,6 @@ impl Trial for Planning {
 
     fn buffers(&self) -> Vec<(&'static str, String)> {
         vec![("table", self.table.hex()), ("answer", self.answer.hex())]
-    }
-}
-
-#[derive(Clone, PartialEq)]
-pub struct Handing {
-    pub table: Guarded<u8>,
-    pub answers: Guarded<u8>,
-    pub answer: Guarded<u64>,
-}
-
-impl Handing {
-    /// With answers of exactly the length needed.
-    pub fn new(table: &[u8]) -> Handing {
-        Handing::with_answers(table, TICK_ANSWERS)
-    }
-
-    pub fn with_answers(table: &[u8], answers_length: usize) -> Handing {
-        Handing {
-            table: Guarded::with(table),
-            answers: Guarded::untouched(answers_length),
-            answer: Guarded::untouched(FIGURES),
-        }
-    }
-
-    /// After a call that is not refused: whether the list is a reason for the number.
-    pub fn reaches(&mut self) -> bool {
-        let length = self.answer.lent()[1] as usize;
-        reaches(self.table.lent(), &self.answers.lent()[..length])
-    }
-}
-
-impl Trial for Handing {
-    fn name(&self) -> &'static str {
-        "first_tick_answers"
-    }
-
-    fn call(&mut self, calls: &Calls) -> u32 {
-        let (table, answers) = (self.table.lent(), self.answers.lent());
-        (calls.first_tick_answers)(table, answers, self.answer.lent())
-    }
-
-    fn with_answer(self, length: usize) -> Handing {
-        let answer = Guarded::untouched(length);
-        Handing { answer, ..self }
-    }
-
-    fn buffers(&self) -> Vec<(&'static str, String)> {
-        vec![
-            ("table", self.table.hex()),
-            ("answers", self.answers.hex()),
-            ("answer", self.answer.hex()),
-        ]
     }
 }
 

@@ -11,8 +11,8 @@ use compare::{sets, table, Sets};
 use differential::groups::{refusals, texts};
 use differential::tally::{Difference, Tally};
 use differential::trials::{
-    Analysis, Fetching, Finding, Handing, Instant, Narrowing, Placing, Planning, Reading,
-    Rendering, Taking, Trial,
+    Analysis, Fetching, Finding, Instant, Narrowing, Placing, Planning, Reading, Rendering, Taking,
+    Trial,
 };
 
 fn assert_noticed(wrong: Calls, trial: &impl Trial) {
@@ -181,7 +181,7 @@ fn a_fourth_figure() {
     assert_noticed(wrong, &Finding::new(W8).with_answer(4));
     assert_noticed(wrong, &narrowing(W1).with_answer(4));
     assert_noticed(wrong, &Planning::new(W1).with_answer(4));
-    assert_noticed(wrong, &Handing::new(W1).with_answer(4));
+    assert_noticed(wrong, &Finding::new(W1).of_most_entries().with_answer(4));
     let fetching = Fetching::new(&stored_w1(), PROGRAM);
     assert_noticed(wrong, &fetching.with_answer(4));
     let taking = Taking::new(&stored_w1(), (PROGRAM, 1), 0);
@@ -211,7 +211,7 @@ fn an_answer_written_on_a_refusal() {
     assert_noticed(wrong, &Fetching::new(&[], PROGRAM));
     assert_noticed(wrong, &narrowing(W2));
     assert_noticed(wrong, &Planning::new(W2));
-    assert_noticed(wrong, &Handing::new(W2));
+    assert_noticed(wrong, &Finding::new(W2).of_most_entries());
     assert_noticed_by(refusals::edges, wrong);
 }
 
@@ -229,7 +229,7 @@ fn a_node_that_is_lost() {
     assert_noticed(wrong, &Instant::new(Call::Resume, W8, &[], &[9; 8]));
     assert_noticed(wrong, &narrowing(W8));
     assert_noticed(wrong, &Planning::new(W8));
-    assert_noticed(wrong, &Handing::new(W8));
+    assert_noticed(wrong, &Finding::new(W8).of_most_entries());
     assert_noticed_by(refusals::edges, wrong);
     assert_noticed_by(texts::edges, wrong);
 }
@@ -266,7 +266,7 @@ fn a_short_answer_refused_before_1_and_2() {
     assert_noticed(wrong, &Finding::new(&[]).with_answer(2));
     assert_noticed(wrong, &narrowing(&[]).with_answer(2));
     assert_noticed(wrong, &Planning::new(&[]).with_answer(2));
-    assert_noticed(wrong, &Handing::new(&[]).with_answer(2));
+    assert_noticed(wrong, &Finding::new(&[]).of_most_entries().with_answer(2));
     for call in [Call::Start, Call::Resume] {
         assert_noticed(
             wrong,
@@ -304,7 +304,7 @@ fn a_short_answer_refused_after_all_other_checks() {
     assert_noticed(wrong, &Finding::new(&[12, 0]).with_answer(2));
     assert_noticed(wrong, &narrowing(W2).with_answer(2));
     assert_noticed(wrong, &Planning::new(W2).with_answer(2));
-    assert_noticed(wrong, &Handing::new(W2).with_answer(2));
+    assert_noticed(wrong, &Finding::new(W2).of_most_entries().with_answer(2));
     assert_noticed(wrong, &Fetching::new(&[], PROGRAM).with_answer(2));
     assert_noticed_by(refusals::edges, wrong);
 }
@@ -332,7 +332,7 @@ fn a_short_answer_that_is_accepted() {
     assert_noticed(wrong, &Finding::new(W8).with_answer(2));
     assert_noticed(wrong, &narrowing(W1).with_answer(2));
     assert_noticed(wrong, &Planning::new(W1).with_answer(2));
-    assert_noticed(wrong, &Handing::new(W1).with_answer(2));
+    assert_noticed(wrong, &Finding::new(W1).of_most_entries().with_answer(2));
     let fetching = Fetching::new(&stored_w1(), PROGRAM);
     assert_noticed(wrong, &fetching.with_answer(2));
     let taking = Taking::new(&stored_w1(), (PROGRAM, 1), 0);

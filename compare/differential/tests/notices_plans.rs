@@ -11,7 +11,7 @@ use compare::support::wrong_plans::{self as wrong, Rule};
 use compare::support::SEED;
 use differential::groups::plans;
 use differential::tally::Tally;
-use differential::trials::{Handing, Planning, Trial};
+use differential::trials::{Finding, Planning, Trial};
 
 fn assert_noticed(first_tick: FirstTick, trial: &Planning) {
     let wrong = Calls {
@@ -21,7 +21,7 @@ fn assert_noticed(first_tick: FirstTick, trial: &Planning) {
     assert_wrong(wrong, trial);
 }
 
-fn assert_list_noticed(first_tick_answers: FirstTickAnswers, trial: &Handing) {
+fn assert_list_noticed(first_tick_answers: FirstTickAnswers, trial: &Finding) {
     let wrong = Calls {
         first_tick_answers,
         ..COMPARE
@@ -253,7 +253,7 @@ fn present_where_absent_reaches_the_number_too() {
             (usize::MAX - entries, present_first)
         })
     }
-    assert_list_noticed(call, &Handing::new(EITHER));
+    assert_list_noticed(call, &Finding::new(EITHER).of_most_entries());
 }
 
 #[test]
@@ -263,7 +263,7 @@ fn a_shorter_list_before_absent() {
             (usize::MAX - entries, list.len(), list.to_vec())
         })
     }
-    assert_list_noticed(call, &Handing::new(LONGER_IF_ABSENT));
+    assert_list_noticed(call, &Finding::new(LONGER_IF_ABSENT).of_most_entries());
 }
 
 #[test]
@@ -271,7 +271,7 @@ fn a_list_that_does_not_reach_the_number() {
     fn call(table: &[u8], answers: &mut [u8], answer: &mut [u64]) -> u32 {
         another_list(table, answers, answer, |list, _| list.to_vec())
     }
-    assert_list_noticed(call, &Handing::new(MORE_IF_PRESENT));
+    assert_list_noticed(call, &Finding::new(MORE_IF_PRESENT).of_most_entries());
 }
 
 #[test]
@@ -284,7 +284,7 @@ fn the_entries_of_another_list() {
             }
         })
     }
-    assert_list_noticed(call, &Handing::new(MORE_IF_PRESENT));
+    assert_list_noticed(call, &Finding::new(MORE_IF_PRESENT).of_most_entries());
 }
 
 #[test]
@@ -295,8 +295,8 @@ fn an_answer_that_is_left_over() {
             answer[1] += 1;
         })
     }
-    assert_list_noticed(call, &Handing::new(EITHER));
-    assert_list_noticed(call, &Handing::new(W1));
+    assert_list_noticed(call, &Finding::new(EITHER).of_most_entries());
+    assert_list_noticed(call, &Finding::new(W1).of_most_entries());
 }
 
 #[test]
@@ -306,8 +306,8 @@ fn a_byte_written_past_the_list() {
             answers[answer[1] as usize] = 0;
         })
     }
-    assert_list_noticed(call, &Handing::new(EITHER));
-    assert_list_noticed(call, &Handing::with_answers(W1, 600));
+    assert_list_noticed(call, &Finding::new(EITHER).of_most_entries());
+    assert_list_noticed(call, &Finding::with_answers(W1, 600).of_most_entries());
 }
 
 #[test]
@@ -318,7 +318,7 @@ fn another_byte_for_present() {
             list.iter_mut().for_each(|byte| *byte *= 255);
         })
     }
-    assert_list_noticed(call, &Handing::new(MORE_IF_PRESENT));
+    assert_list_noticed(call, &Finding::new(MORE_IF_PRESENT).of_most_entries());
 }
 
 #[test]
@@ -326,7 +326,7 @@ fn a_length_that_is_not_told() {
     fn call(table: &[u8], answers: &mut [u8], answer: &mut [u64]) -> u32 {
         handed_then(table, answers, answer, |_, answer| answer[1] = 0)
     }
-    assert_list_noticed(call, &Handing::new(EITHER));
+    assert_list_noticed(call, &Finding::new(EITHER).of_most_entries());
 }
 
 #[test]
@@ -338,9 +338,9 @@ fn answers_written_on_a_refusal() {
         }
         returned
     }
-    assert_list_noticed(call, &Handing::new(W8));
-    assert_list_noticed(call, &Handing::with_answers(W1, 511));
-    assert_list_noticed(call, &Handing::new(W1).with_answer(2));
+    assert_list_noticed(call, &Finding::new(W8).of_most_entries());
+    assert_list_noticed(call, &Finding::with_answers(W1, 511).of_most_entries());
+    assert_list_noticed(call, &Finding::new(W1).of_most_entries().with_answer(2));
 }
 
 #[test]
@@ -351,8 +351,8 @@ fn lent_answers_that_are_long_enough_for_the_list_alone() {
         answers.copy_from_slice(&longer[..answers.len()]);
         returned
     }
-    assert_list_noticed(call, &Handing::with_answers(EITHER, 511));
-    assert_list_noticed(call, &Handing::with_answers(W1, 0));
+    assert_list_noticed(call, &Finding::with_answers(EITHER, 511).of_most_entries());
+    assert_list_noticed(call, &Finding::with_answers(W1, 0).of_most_entries());
 }
 
 #[test]
@@ -363,7 +363,7 @@ fn short_answers_refused_after_all_other_checks() {
             refused => refused,
         }
     }
-    assert_list_noticed(call, &Handing::with_answers(W8, 511));
+    assert_list_noticed(call, &Finding::with_answers(W8, 511).of_most_entries());
 }
 
 #[test]
@@ -374,6 +374,9 @@ fn short_answers_refused_before_1_and_2() {
         }
         (COMPARE.first_tick_answers)(table, answers, answer)
     }
-    assert_list_noticed(call, &Handing::with_answers(&[2; 2050], 511));
-    assert_list_noticed(call, &Handing::with_answers(&[], 0));
+    assert_list_noticed(
+        call,
+        &Finding::with_answers(&[2; 2050], 511).of_most_entries(),
+    );
+    assert_list_noticed(call, &Finding::with_answers(&[], 0).of_most_entries());
 }

@@ -1,13 +1,10 @@
 // The first tick, to the entry (F-10): the greatest number of entries that any answers can give when a program is started, and answers that
 // reach it.
 ghost use mathlib.Core.Path.{_≡_};
-ghost use Prim.Native.Nat.{_+_, _*_, _≤_};
-ghost use lib.ListN.{length};
-ghost use Rattle.esterel.specs.Statement.{size};
 ghost use Rattle.table.specs.Program.{programOf};
 ghost use Rattle.analysis.specs.Passes.{Placed};
 ghost use Rattle.starts.specs.Summary.{mostEntries};
-ghost use Rattle.rows.specs.Rows.{maxNumber, Holds, LowRow};
+ghost use Rattle.rows.specs.Rows.{Holds};
 ghost use Rattle.planning.specs.Planning.{refusalOf, longestRefusal, Plans, Hands};
 ghost use Rattle.planning.specs.Rows.{Lies, NextRow, Pushed, topOf, Tops, AnyCode};
 use rows::Row;

@@ -7,7 +7,7 @@ use compare::support::programs::{accepted, SHAPES};
 use compare::support::random::Random;
 
 use crate::tally::{Difference, Tally};
-use crate::trials::{Analysis, Finding, Handing, Instant, Rendering, Trial};
+use crate::trials::{Analysis, Finding, Instant, Rendering, Trial};
 
 /// In a text of this length any listing fits.
 const ANY_LISTING: usize = 67_584;
@@ -67,13 +67,13 @@ fn renderings(tally: &mut Tally, table: &[u8]) -> Result<(), Difference> {
 fn findings(tally: &mut Tally, table: &[u8]) -> Result<(), Difference> {
     for answers_length in [0, 511, 512, 513, 1024] {
         tally.compare(&Finding::with_answers(table, answers_length))?;
-        tally.compare(&Handing::with_answers(table, answers_length))?;
+        tally.compare(&Finding::with_answers(table, answers_length).of_most_entries())?;
     }
     for answer_length in 0..6 {
         for answers_length in [511, 512] {
             let trial = Finding::with_answers(table, answers_length);
             tally.compare(&trial.with_answer(answer_length))?;
-            let trial = Handing::with_answers(table, answers_length);
+            let trial = Finding::with_answers(table, answers_length).of_most_entries();
             tally.compare(&trial.with_answer(answer_length))?;
         }
     }

@@ -8,7 +8,7 @@ use compare::support::random::Random;
 
 use super::first_difference;
 use crate::tally::{Difference, Tally};
-use crate::trials::{Handing, Planning, Trial};
+use crate::trials::{Finding, Planning, Trial};
 
 pub const ALL: &str = "2,355,328 tables: first ticks of all of up to 8 nodes over 10 letters";
 const ALL_NODES: usize = 8;
@@ -30,7 +30,7 @@ pub fn edges(tally: &mut Tally, _random: &mut Random) -> Result<(), Difference> 
             tally.compare(&Planning::new(&table).with_answer(answer_length))?;
         }
         for length in LENT {
-            let trial = Handing::with_answers(&table, length);
+            let trial = Finding::with_answers(&table, length).of_most_entries();
             hand_out(tally, &trial)?;
             hand_out(tally, &trial.with_answer(length % 5))?;
         }
@@ -41,11 +41,11 @@ pub fn edges(tally: &mut Tally, _random: &mut Random) -> Result<(), Difference> 
 /// The number, and the answers that reach it.
 pub fn both_calls(tally: &mut Tally, table: &[u8]) -> Result<(), Difference> {
     tally.compare(&Planning::new(table))?;
-    hand_out(tally, &Handing::new(table))
+    hand_out(tally, &Finding::new(table).of_most_entries())
 }
 
 /// A list on which both sides agree is run, too: it must reach the number.
-fn hand_out(tally: &mut Tally, trial: &Handing) -> Result<(), Difference> {
+fn hand_out(tally: &mut Tally, trial: &Finding) -> Result<(), Difference> {
     let (returned, mut after) = tally.compare_and_keep(trial)?;
     if returned != 0 || after.reaches() {
         return Ok(());

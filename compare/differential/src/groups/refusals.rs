@@ -12,7 +12,7 @@ use compare::support::ties::ABSENT;
 use compare::{checks, listing, Refusal};
 
 use crate::tally::{Difference, Tally};
-use crate::trials::{Analysis, Finding, Handing, Instant, Narrowing, Planning, Rendering, Trial};
+use crate::trials::{Analysis, Finding, Instant, Narrowing, Planning, Rendering, Trial};
 
 /// The entries of an answer.
 const ANSWERS: [usize; 6] = [0, 1, 2, 3, 4, 8];
@@ -83,8 +83,8 @@ fn every_call(tally: &mut Tally, table: &[u8]) -> Result<(), Difference> {
         &Narrowing::with_sets(table, &[ABSENT; SIGNALS], size + 5),
     )?;
     every_answer(tally, &Planning::new(table))?;
-    every_answer(tally, &Handing::new(table))?;
-    every_answer(tally, &Handing::with_answers(table, 511))?;
+    every_answer(tally, &Finding::new(table).of_most_entries())?;
+    every_answer(tally, &Finding::with_answers(table, 511).of_most_entries())?;
     let text_length = listing(table).len();
     every_answer(tally, &Rendering::new(table, text_length))?;
     every_answer(tally, &Rendering::new(table, text_length - 1))
