@@ -40,7 +40,7 @@ VECTORS = ../shared/vectors
 vectors:
 	@cd compare && cargo build --release --offline --quiet
 	@compare/target/release/tables --listing-vectors $(VECTORS)/listing7_open.jsonl --tables-of $(VECTORS)/listing5_open.jsonl --tables-of $(VECTORS)/listing_open.jsonl --marks-of $(VECTORS)/reentry_open.jsonl crates/tables/stdin crates/tables/stdout
-	@compare/target/release/instants --instant-vectors $(VECTORS)/instants7_open.jsonl --instants-of $(VECTORS)/instants_open.jsonl --runs-of $(VECTORS)/reentry_open.jsonl crates/instants/stdin crates/instants/stdout
+	@compare/target/release/instants --instant-vectors $(VECTORS)/packed_open.jsonl --instants-of $(VECTORS)/instants7_open.jsonl --instants-of $(VECTORS)/instants_open.jsonl --runs-of $(VECTORS)/reentry_open.jsonl crates/instants/stdin crates/instants/stdout
 	@compare/target/release/texts --text-vectors $(VECTORS)/text_open.jsonl --text-vectors $(VECTORS)/dialect_open.jsonl crates/texts/stdin crates/texts/stdout
 	@compare/target/release/ticks --tick-vectors $(VECTORS)/tick_open.jsonl crates/ticks/stdin crates/ticks/stdout
 	@compare/target/release/partitions --block-vectors $(VECTORS)/blocks_open.jsonl crates/partitions/stdin crates/partitions/stdout

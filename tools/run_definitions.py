@@ -6,7 +6,7 @@
 
 Each vector becomes a theorem `what the definitions give ≡ what is expected`, proved by refl, so that the checker has to
 compute the definitions. All is written to a temporary repository, which has copies of crates/codes, crates/esterel,
-crates/grammar, crates/starts, crates/blocks and crates/tied, and of what it stands on. The theorem listing17 is the vector
+crates/grammar, crates/starts, crates/blocks, crates/instant and crates/tied, and of what it stands on. The theorem listing17 is the vector
 in line 17 of the listings; edges are numbered as they stand below.
 
 A text's derivation cannot be computed: its tree is the one that the machine of crates/grammar finds, of which it is proved
@@ -25,15 +25,14 @@ import argparse, collections, json, os, random, re, shutil, subprocess, sys, tem
 from pathlib import Path
 
 ROOT = Path(__file__).resolve().parent.parent
-COPIED = ("codes", "esterel", "grammar", "starts", "blocks", "table", "analysis", "tied")
+COPIED = ("codes", "esterel", "grammar", "starts", "blocks", "table", "analysis", "packing", "instant", "tied")
 CRATES_TXT = "codes:\nesterel: codes\ngrammar: esterel\nstarts: esterel codes\nblocks: esterel codes bytes\n" + (
-    "table: esterel\nanalysis: table esterel codes\ntied: analysis table esterel codes\n") + "".join(
-    f"{name}: tied analysis table blocks starts grammar esterel codes\n" for name in ("control", "vectors"))
+    "table: esterel\nanalysis: table esterel codes\npacking: table esterel codes\ninstant: packing analysis table esterel codes\ntied: analysis table esterel codes\n") + "".join(
+    f"{name}: tied instant packing analysis table blocks starts grammar esterel codes\n" for name in ("control", "vectors"))
 
 # ---- the theorems in antt
 
-# The calls of document 01 and the reader of F-1, put together from the definitions. Check 3 stands between 2 and 4: `checkLength` makes 1 and 2,
-# and `verdict` makes them once more, with 4 to 11. The emission buffer is taken to be long enough.
+# The calls of document 01 and the reader of F-1, put together from the definitions. The emission buffer is taken to be long enough.
 CALLS = """
 use Prim.Native.Nat.{ℕ, zero, suc, _-_, _/_, max}
 use mathlib.Core.Path.{_≡_, refl, sym, ap, subst}
@@ -48,8 +47,8 @@ use Rattle.esterel.specs.Statement.{Stmt, size, nodes, loopDepth}
 use Rattle.esterel.specs.Table.{Verdict, passed, refused, read, checkLength, postfix}
 use Rattle.esterel.specs.Checks.{verdict, listing, Line, planned}
 use Rattle.esterel.specs.Sets.{placesOf, mark}
-use Rattle.esterel.specs.Instant.{Mode, started, resumed, Entry, entry, Result, closed, starved, stuck, start, resume, admitted}
-use Rattle.esterel.specs.Outcome.{Outcome, done, needsAnswer, noRule, outcome, statementAt}
+use Rattle.esterel.specs.Instant.{Mode, started, resumed, Entry, entry, Result, closed, starved, stuck, start, resume}
+use Rattle.esterel.specs.Outcome.{statementAt}
 use Rattle.esterel.specs.Reentry.{Twice, Entered}
 use Rattle.grammar.specs.Limits.{maxSource}
 use Rattle.grammar.specs.Tokens.{tokens, byteOf}
@@ -62,6 +61,7 @@ use Rattle.starts.specs.Ticks.{Leads, presents}
 use Rattle.blocks.specs.Editions as B
 use Rattle.blocks.specs.Fetching as F
 use Rattle.tied.specs.Calls as N
+use Rattle.instant.specs.Calls as I
 
 pub data Shown : Type 0 where
   ok : (n d planned : ℕ) (lines : List Line) → Shown
@@ -72,7 +72,6 @@ pub data Shown : Type 0 where
   went : (marks : List ℕ) (twice : List (List ℕ)) → Shown
   refusal : (number node : ℕ) → Shown
   refusedAt : (number place : ℕ) → Shown
-  withoutRule : Shown
   noList : Shown
 
 abbrev pub shown : Verdict → Shown
@@ -84,22 +83,14 @@ abbrev pub figures : Verdict → Shown
 figures (passed p) = ok (size p) (loopDepth p) (planned p) []
 figures (refused number node) = refusal number node
 
--- the state's bytes past the program's keep their value
-abbrev pub handedBack : List ℕ → Outcome → Shown
-handedBack past (done code taken entries state emissions) = ran code taken entries (state ++ past) emissions
-handedBack past needsAnswer = refusal 13 0
-handedBack past noRule = withoutRule
-
-abbrev pub instant : Mode → (state answers : List ℕ) → Verdict → Shown
-instant mode state answers (refused number node) = refusal number node
-instant started state answers (passed p) = handedBack (drop (size p) state) (outcome p (start 0 p answers))
-instant resumed state answers (passed p) =
-    cond (admitted p (take (size p) state))
-    (handedBack (drop (size p) state) (outcome p (resume 0 p (take (size p) state) answers))) (refusal 12 0)
+-- the calls by their own contracts, with the whole state
+abbrev pub handedBack : List ℕ → I.Call → Shown
+handedBack state (I.closes code taken entries packed emissions) = ran code taken entries (I.stateAfter (I.closes code taken entries packed emissions) state) emissions
+handedBack state (I.refuses number node) = refusal number node
 
 abbrev pub call : Mode → (bytes state answers : List ℕ) → Shown
-call mode bytes state answers =
-    instant mode state answers (checkLength bytes (cond (ltb (length state) (length bytes / 2)) (refused 3 0) (verdict bytes)))
+call started bytes state answers = handedBack state (I.startCall (I.verdictFor bytes (length state) maxSignals) answers)
+call resumed bytes state answers = handedBack state (I.resumeCall (I.verdictFor bytes (length state) maxSignals) state answers)
 
 abbrev pub told : M.Outcome → Verdict
 told (M.accepted t) = verdictOfTree t
@@ -327,8 +318,12 @@ use Rattle.blocks.specs.Fetching.{handed}
 use Rattle.analysis.specs.Analysis.{checked}
 use Rattle.tied.specs.Narrowed.{wordsOf}
 use Rattle.tied.specs.Calls.{setsAfter}
+use Rattle.codes.specs.Codes.{wordBelow}
+use Rattle.codes.specs.Words.{_∋_}
+use Rattle.packing.specs.Packing.{heldBit, column, unpack, bitsFrom, byteOf as packedByte, pack, isClearFrom}
+use Rattle.instant.specs.Calls.{startCall, resumeCall}
 """
-UNFOLDING = "unfolding word tokens classOf beginnings byteOf wordOf firstCheck secondCheck checksMatch lengthFits zeroFilled good fileFits blocksIn blockAt isFor counted partsOf completes whole tableOf handed checked wordsOf setsAfter"
+UNFOLDING = "unfolding word tokens classOf beginnings byteOf wordOf firstCheck secondCheck checksMatch lengthFits zeroFilled good fileFits blocksIn blockAt isFor counted partsOf completes whole tableOf handed checked wordsOf setsAfter wordBelow _∋_ heldBit column unpack bitsFrom packedByte pack isClearFrom startCall resumeCall"
 Theorem = collections.namedtuple("Theorem", "name left right")  # left: a call of the definitions; right: what is expected
 
 refused = "refusal {} {}".format  # number, node
@@ -458,8 +453,11 @@ def under(kind, times, body):
 def branches(count):  # a balanced parallel of pauses, of 2 * count - 1 nodes
     return PAUSE if count == 1 else branches(count // 2) + branches(count - count // 2) + [10, 0]
 
+def holding(*nodes):  # a state of 128 bytes: node i at bit i modulo 8, lowest first, of byte i divided by 8
+    return list(sum(1 << node for node in nodes).to_bytes(128, "little"))
+
 FULL = under(5, 1, branches(512))  # 1,024 nodes
-HELD = [int(kind == 2) for kind in FULL[::2]]
+HELD = holding(*(node for node, kind in enumerate(FULL[::2]) if kind == 2))
 
 # an exit to the outermost of 62 traps, beside a pause; all this beside a pause, in a loop
 BESIDE_A_PAUSE = under(11, 62, [4, 61, 2, 0, 10, 0]) + [2, 0, 10, 0, 8, 0]
@@ -468,9 +466,6 @@ LOCK_62 = under(11, 62, [2, 0, 8, 0, 2, 0, 4, 61, 9, 0, 10, 0]) + [8, 0]
 
 def up_to(code):  # the set of the codes from 0 on
     return 2 ** (code + 1) - 1
-
-def held(size, *pauses):
-    return [int(node in pauses) for node in range(size)]
 
 REFUSED = {  # the number and the node, and tables that are refused so
     (1, 0): [branches(513), FULL + [2]], (2, 0): [[], [2], [12, 0, 1], FULL[:-1]],
@@ -532,28 +527,31 @@ RUNS = [  # table, the answers of each instant, marks, and what is entered twice
 INSTANTS = [  # mode, table, state, answers
     # 1 and 2, then 3, then 4; a start's state is measured too, and its old bytes are not looked at
     ("started", branches(513), [], [], refused(1, 0)), ("resumed", [12], [], [], refused(2, 0)),
-    ("resumed", [12, 0], [], [], refused(3, 0)), ("started", W1, [0, 0, 0], [], refused(3, 0)),
-    ("started", W1, [9] * 5, [], ran(1, 0, 3, [1, 0, 0, 0, 9], [])), ("resumed", W1, [1, 0, 0, 0, 9], [], ran(1, 0, 6, [1, 0, 0, 0, 9], [7])),
-    # bytes past the program's hold nothing; both children of a sequence may not hold, both of a parallel may
-    ("resumed", W1, [0, 0, 0, 0, 1], [], refused(12, 0)), ("resumed", [2, 0, 2, 0, 9, 0], [1, 1, 0], [], refused(12, 0)),
-    ("resumed", [2, 0, 2, 0, 10, 0], [1, 1, 0], [], ran(0, 0, 3, [0] * 3, [])),
+    ("resumed", [12, 0], holding(0)[:127], [], refused(3, 0)), ("started", W1, [0] * 127, [], refused(3, 0)),
+    ("resumed", [12, 0], holding(0), [], refused(4, 0)),
+    ("started", W1, [9] * 130, [], ran(1, 0, 3, holding(0) + [9, 9], [])), ("resumed", W1, holding(0) + [9], [], ran(1, 0, 6, holding(0) + [9], [7])),
+    # no bit; bits of other nodes and from n on, also in the byte of the last node; a bit past the 128 bytes is none
+    ("resumed", W1, holding(), [], refused(12, 0)), ("resumed", W1, holding() + [1], [], refused(12, 0)),
+    *(("resumed", W1, holding(0, stray), [], refused(12, 0)) for stray in (1, 3, 4, 7, 8, 1023)), ("resumed", W1, holding(7), [], refused(12, 0)),
+    # both children of a sequence may not hold, both of a parallel may
+    ("resumed", [2, 0, 2, 0, 9, 0], holding(0, 1), [], refused(12, 0)), ("resumed", [2, 0, 2, 0, 10, 0], holding(0, 1), [], ran(0, 0, 3, holding(), [])),
     # an emit under a signal of its number; the right branch runs after an exit on the left; what a trap catches is dropped
-    ("started", [3, 7, 5, 7], [0, 0], [], ran(0, 0, 2, [0, 0], [7])), ("started", [4, 0, 3, 7, 10, 0, 11, 0], [0] * 4, [], ran(0, 0, 4, [0] * 4, [7])),
-    ("started", [2, 0, 4, 0, 10, 0, 11, 0], [1] * 4, [], ran(0, 0, 4, [0] * 4, [])),
-    ("resumed", [2, 0, 4, 0, 10, 0, 11, 0], [1, 0, 0, 0], [], ran(0, 0, 3, [0] * 4, [])),
+    ("started", [3, 7, 5, 7], holding(), [], ran(0, 0, 2, holding(), [7])), ("started", [4, 0, 3, 7, 10, 0, 11, 0], holding(), [], ran(0, 0, 4, holding(), [7])),
+    ("started", [2, 0, 4, 0, 10, 0, 11, 0], [255] * 128, [], ran(0, 0, 4, holding(), [])),
+    ("resumed", [2, 0, 4, 0, 10, 0, 11, 0], holding(0), [], ran(0, 0, 3, holding(), [])),
     # any answer but 0 is present, and those left over are not looked at; a suspend asks only when it is resumed
-    ("started", [3, 0, 3, 255, 6, 5], [0] * 3, [255, 0], ran(0, 1, 2, [0] * 3, [0])),
-    ("started", [3, 0, 3, 255, 6, 5], [0] * 3, [0], ran(0, 1, 2, [0] * 3, [255])),
-    ("started", [2, 0, 7, 1], [0, 0], [], ran(1, 0, 2, [1, 0], [])), ("resumed", [2, 0, 7, 1], [1, 0], [], refused(13, 0)),
+    ("started", [3, 0, 3, 255, 6, 5], holding(), [255, 0], ran(0, 1, 2, holding(), [0])),
+    ("started", [3, 0, 3, 255, 6, 5], holding(), [0], ran(0, 1, 2, holding(), [255])),
+    ("started", [2, 0, 7, 1], holding(), [], ran(1, 0, 2, holding(0), [])), ("resumed", [2, 0, 7, 1], holding(0), [], refused(13, 0)),
     # the largest program, and the deepest: of 255 loops the innermost alone starts its body once more
-    ("started", FULL, [0] * 1024, [], ran(1, 0, 1024, HELD, [])), ("resumed", FULL, HELD, [], ran(0, 0, 1024, [0] * 1024, [])),
-    ("resumed", under(8, 255, PAUSE), [1] + [0] * 255, [], ran(1, 0, 257, [1] + [0] * 255, [])),
+    ("started", FULL, holding(), [], ran(1, 0, 1024, HELD, [])), ("resumed", FULL, HELD, [], ran(0, 0, 1024, holding(), [])),
+    ("resumed", under(8, 255, PAUSE), holding(0), [], ran(1, 0, 257, holding(0), [])),
     # code 63 goes up to the outermost of 62 traps, which drops the pauses beneath it; the loop then starts its body once more
-    ("started", under(11, 62, [4, 61]), [9] * 63, [], ran(0, 0, 63, [0] * 63, [])),
-    ("started", BESIDE_A_PAUSE, [0] * 68, [], ran(1, 0, 68, held(68, 65), [])), ("resumed", BESIDE_A_PAUSE, held(68, 65), [], ran(1, 0, 3 + 67, held(68, 65), [])),
-    ("resumed", BESIDE_A_PAUSE, held(68, 1), [], ran(1, 0, 66 + 67, held(68, 65), [])),
-    ("started", LOCK_62, [0] * 69, [], ran(1, 0, 68, held(69, 0, 2), [])),
-    ("resumed", LOCK_62, held(69, 0, 2), [], ran(1, 0, 70 + 67, held(69, 0, 2), [])),
+    ("started", under(11, 62, [4, 61]), [9] * 128, [], ran(0, 0, 63, holding(), [])),
+    ("started", BESIDE_A_PAUSE, holding(), [], ran(1, 0, 68, holding(65), [])), ("resumed", BESIDE_A_PAUSE, holding(65), [], ran(1, 0, 3 + 67, holding(65), [])),
+    ("resumed", BESIDE_A_PAUSE, holding(1), [], ran(1, 0, 66 + 67, holding(65), [])),
+    ("started", LOCK_62, holding(), [], ran(1, 0, 68, holding(0, 2), [])),
+    ("resumed", LOCK_62, holding(0, 2), [], ran(1, 0, 70 + 67, holding(0, 2), [])),
 ]
 
 def a_block(program, edition, part, parts, content, used=None, filler=0, seals=lambda *checks: checks):
@@ -676,8 +674,8 @@ def control_theorems():
     lines = [(2, 0, 2, 3, 1, 1), (3, 7, 1, 1, 0, 0), (9, 0, 2, 3, 1, 1)]
     rights = [ok(4, 1, 8, lines + [(8, 0, 2, 2, 0, 0)]), ok(4, 1, 8, lines + [(8, 0, 2, 2, 1, 0)]), ok(4, 1, 8, lines), refused(11, 3)]
     edges = [(verdict(W1), right) for right in rights]
-    rights = [ran(1, 0, 5, [1, 0, 0, 0], [7]), ran(1, 0, 6, [1, 0, 0, 0], [8]), ran(1, 0, 6, [0] * 4, [7])]
-    edges += [(call("resumed", W1, [1, 0, 0, 0], []), right) for right in rights]
+    rights = [ran(1, 0, 5, holding(0), [7]), ran(1, 0, 6, holding(0), [8]), ran(1, 0, 6, holding(), [7]), ran(1, 0, 6, holding(7), [7])]
+    edges += [(call("resumed", W1, holding(0), []), right) for right in rights]
     edges += [(f"readText {a_list(b'emit A;pause')}", "written " + a_list(right)) for right in ([3, 0, 2, 0, 9, 0, 9, 0], [3, 1, 2, 0, 9, 0])]
     edges += [(f"readPlace {a_list(b'emit case')}", f"refusedAt {right}") for right in ("20 4", "14 5")]
     edges += [("firstTick (1 ∷ 0 ∷ 2 ∷ 0 ∷ 6 ∷ 5 ∷ 8 ∷ 0 ∷ []) 2", f"tick {right}") for right in ("3 []", "3 (0 ∷ [])", "2 (1 ∷ [])")]
@@ -744,7 +742,7 @@ def tell(theorem, message):
 def run(repo, args):
     chance = random.Random(args.seed)
     listings = vectors(args.vectors / "listing7_open.jsonl", args.listings, chance, listing_theorem)
-    instants = vectors(args.vectors / "instants7_open.jsonl", args.instants, chance, instant_theorem)
+    instants = vectors(args.vectors / "packed_open.jsonl", args.instants, chance, instant_theorem)
     texts = vectors(args.vectors / "text_open.jsonl", args.texts, chance, text_theorem, is_of_f1)
     dialect = vectors(args.vectors / "dialect_open.jsonl", args.dialect, chance, lambda *vector: text_theorem(*vector, "dialect"))
     ticks = sum(vectors(args.vectors / "tick_open.jsonl", args.ticks, chance, lambda *vector: list(tick_theorems(*vector))), [])

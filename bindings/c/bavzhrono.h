@@ -99,6 +99,30 @@
  * Completion code 0 is ended, 1 is paused, 2 + level is an exit. A set of codes is a 64-bit number
  * with bit k for code k. No set of an accepted program has a code above 63.
  *
+ * The state
+ *
+ * Between two instants a program is in the pauses that it holds. bavzhrono_start and
+ * bavzhrono_resume leave them in BAVZHRONO_STATE_BYTES bytes, 128 whatever the program, with a bit
+ * for each node that a table can have: node i has bit i % 8, the lowest first, of byte i / 8. The
+ * bit is 1 if the node is a held pause, and else 0. So node i, below 1,024, is held if
+ *
+ *     state[i / 8] >> (i % 8) & 1
+ *
+ * is 1. With the pauses 0 and 9 held, as by `[await A; emit B || await C]` once it is started, byte
+ * 0 is 0x01, byte 1 is 0x02, and all others are 0. With none held, as after code 0, all are 0.
+ *
+ * A state is admitted if at least one bit is 1, each bit that is 1 is that of a pause, and no
+ * sequence or present holds pauses in both children. The bits of other nodes and those from n on
+ * are 0 then.
+ *
+ * The bytes are the same on every machine: they can be stored, as on a power warning, and lent to
+ * bavzhrono_resume again as they are, with the table that they are of. They do not say which table
+ * that is, and have no check bytes: a state of another table, or one that was damaged, is refused
+ * only where it is not admitted.
+ *
+ * Before, a state had n bytes, one for each node. One that was stored in that form must be turned
+ * into bits before it is lent: it can be mistaken for another state.
+ *
  * What comes back
  *
  * Each function returns 0, or number + 256 * node of a refusal: the number of the first check that
@@ -155,7 +179,7 @@
  *
  * Threads and stack
  *
- * The functions keep no state of their own and allocate nothing: any number of threads may call
+ * The functions keep nothing of their own and allocate nothing: any number of threads may call
  * them at once, each with buffers of its own to be written.
  * stack: up to about 110 KiB
  * bavzhrono_read, bavzhrono_read_place: up to about 1590 KiB
@@ -170,6 +194,8 @@
 
 /* The most nodes of a table, of two bytes each: enough for every buffer of n entries. */
 #define BAVZHRONO_MAX_NODES 1024
+/* The bytes of a state, with a bit for each node that a table can have. */
+#define BAVZHRONO_STATE_BYTES 128
 /* The number of signals, and the length of the emissions and of the ties. */
 #define BAVZHRONO_SIGNALS 256
 /* A text of so many bytes holds the listing of any table. It is no limit of bavzhrono_read. */
@@ -226,8 +252,9 @@ uint32_t bavzhrono_analyse(const uint8_t *table, size_t table_length,
  *
  * In:  the table, and the answers to the presence tests in the order met: 0 absent, any other
  *      byte present. A started present takes one. Answers left over are not looked at.
- * Out: state      n bytes needed: 1 at each held pause and 0 elsewhere, all 0 after code 0. The
- *                 old bytes are not looked at.
+ * Out: state      BAVZHRONO_STATE_BYTES bytes needed, for a short table too: all of them are
+ *                 written, with the bits of the held pauses, all 0 after code 0. The old bytes
+ *                 are not looked at.
  *      emissions  256 bytes needed: byte s is 1 if an emit of signal s was entered, else 0.
  *      answer     (code, answers taken, entries). The code is 0 if the program ended and 1 if it
  *                 paused. Entries is the number of times that a statement was started or resumed.
@@ -242,9 +269,8 @@ uint32_t bavzhrono_start(const uint8_t *table, size_t table_length,
  * One instant, in which the program is resumed from the pauses that the state holds; checks 1 to
  * 13.
  *
- * In:  as for bavzhrono_start, and the state. A started present and a resumed suspend take one
- *      answer each. A state is admitted if at least one byte is 1, each 1 stands at a pause, none
- *      is above 1, and no sequence or present holds pauses in both children.
+ * In:  as for bavzhrono_start, and the state, BAVZHRONO_STATE_BYTES bytes. One that is not admitted
+ *      is refused by 12. A started present and a resumed suspend take one answer each.
  * Out: as for bavzhrono_start. The state is that after the instant.
  */
 uint32_t bavzhrono_resume(const uint8_t *table, size_t table_length,

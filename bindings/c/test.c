@@ -4,8 +4,9 @@
  * The expected values are those that document 01 prints (Table W and its edges) or that its rules,
  * as F-5 and F-7 amend them, give by hand; the sets of W3 are those of the implementation in
  * compare/. The tables of texts and the places of their faults, the lists of ticks, what files of
- * blocks give, what ties leave of start sets, and the entries of first ticks and their lists are by
- * hand, from F-1, F-2, F-4, F-8, F-9 and F-10 of document 02 and their readings.
+ * blocks give, what ties leave of start sets, the entries of first ticks and their lists, and the
+ * bits of held pauses are by hand, from F-1, F-2, F-4 and F-8 to F-11 of document 02 and their
+ * readings.
  */
 #include "bavzhrono.h"
 #include "bavzhrono.h" /* twice, for the include guard */
@@ -26,7 +27,7 @@ typedef struct {
     uint64_t any_sets[NODE_ROOM];
     uint64_t contexts[NODE_ROOM];
     uint8_t marks[NODE_ROOM];
-    uint8_t state[NODE_ROOM];
+    uint8_t state[BAVZHRONO_STATE_BYTES + SPARE];
     uint8_t emissions[BAVZHRONO_SIGNALS + SPARE];
     uint8_t text[BAVZHRONO_MAX_TEXT + SPARE];
     uint8_t table[TABLE_NEED + SPARE];
@@ -100,7 +101,7 @@ static void check(const char *call, const char *name, uint32_t returned, uint32_
 /* No more than the call needs. */
 static lengths needed(size_t nodes, size_t text)
 {
-    lengths lent = {nodes, nodes, nodes, nodes, nodes, BAVZHRONO_SIGNALS,
+    lengths lent = {nodes, nodes, nodes, nodes, BAVZHRONO_STATE_BYTES, BAVZHRONO_SIGNALS,
                     text, TABLE_NEED, BAVZHRONO_TICK_ANSWERS, BAVZHRONO_SIGNALS, BAVZHRONO_ANSWER};
     return lent;
 }
@@ -109,6 +110,7 @@ static lengths needed(size_t nodes, size_t text)
 static lengths spare(void)
 {
     lengths lent = needed(NODE_ROOM, BAVZHRONO_MAX_TEXT + SPARE);
+    lent.state += SPARE;
     lent.emissions += SPARE;
     lent.table += SPARE;
     lent.answers += SPARE;
@@ -415,6 +417,8 @@ static void test_macros(void)
            "macros", "uint32_t");
     report(BAVZHRONO_TIE_UNKNOWN == 0 && BAVZHRONO_TIE_ABSENT == 1 && BAVZHRONO_TIE_PRESENT == 2,
            "macros", "ties");
+    report(BAVZHRONO_STATE_BYTES == 128 && 8 * BAVZHRONO_STATE_BYTES == BAVZHRONO_MAX_NODES,
+           "macros", "a bit for each node");
 }
 
 /* Short buffers: refused with 3, and nothing is written. */
@@ -432,14 +436,40 @@ static void test_short_sets(void)
     check("analyse", "3 before 4", analyse(unknown, sizeof unknown, needed(0, 0)), 3);
 }
 
+/* A state that is too short is refused by 3 in its place. */
+static void test_short_state(const char *call_name, instant_call *call, size_t state_length,
+                             const char *table_name, const uint8_t *table, size_t length,
+                             uint32_t number)
+{
+    char name[64];
+    lengths lent = spare();
+    lent.state = state_length;
+    sprintf(name, "state of %u, %s", (unsigned)state_length, table_name);
+    check(call_name, name, instant(call, table, length, NULL, 0, lent), number);
+}
+
 static void test_short_instant(const char *name, instant_call *call)
 {
-    lengths short_state = needed(sizeof w1 / 2 - 1, 0);
+    static const size_t state_lengths[] = {0, 1, sizeof w1 / 2, BAVZHRONO_STATE_BYTES - 1};
+    static uint8_t table[2 * BAVZHRONO_MAX_NODES + 2];
+    size_t full = full_table(table), too_long = full + put(table + full, 8, 0);
     lengths short_emissions = needed(sizeof w1 / 2, 0);
     short_emissions.emissions -= 1;
 
-    check(name, "short state", instant(call, w1, sizeof w1, NULL, 0, short_state), 3);
     check(name, "short emissions", instant(call, w1, sizeof w1, NULL, 0, short_emissions), 3);
+    for (size_t i = 0; i < sizeof state_lengths / sizeof state_lengths[0]; i++) {
+        size_t state = state_lengths[i];
+        test_short_state(name, call, state, "2,050 bytes", table, too_long, 1);
+        test_short_state(name, call, state, "odd length", w1, sizeof w1 - 1, 2);
+        test_short_state(name, call, state, "an unknown kind", unknown, sizeof unknown, 3);
+        test_short_state(name, call, state, "W1", w1, sizeof w1, 3);
+        test_short_state(name, call, state, "W2", w2, sizeof w2, 3);
+        test_short_state(name, call, state, "2,048 bytes", table, full, 3);
+    }
+    check(name, "state NULL",
+          call(w1, sizeof w1, NULL, 0, NULL, 0, actual.emissions, BAVZHRONO_SIGNALS,
+               actual.answer, BAVZHRONO_ANSWER),
+          3);
 }
 
 /* An answer that is too short is refused by 3 in its place; for a listing no check comes before. */
@@ -479,7 +509,8 @@ static void test_short_answers(void)
           bavzhrono_render(w1, sizeof w1, actual.text, sizeof actual.text, NULL, 0), 3);
 }
 
-/* Instants. States and answers are written as digits, a byte each. */
+/* Instants. States are written as digits, a bit for each node from 0 on, and answers likewise, a
+   byte each. */
 
 typedef struct {
     const char *name;
@@ -505,9 +536,18 @@ static size_t read_digits(uint8_t *bytes, const char *digits)
     return length;
 }
 
+/* All bytes of a state, with 1 for the bits of these nodes. */
+static void read_state(uint8_t *state, const char *digits)
+{
+    memset(state, 0, BAVZHRONO_STATE_BYTES);
+    for (size_t node = 0; digits[node] != '\0'; node++)
+        if (digits[node] == '1')
+            state[node / 8] |= (uint8_t)(1 << node % 8);
+}
+
 static void expect_closed(const instant_test *test)
 {
-    read_digits(expected.state, test->after);
+    read_state(expected.state, test->after);
     memset(expected.emissions, 0, BAVZHRONO_SIGNALS);
     if (test->emitted != NONE)
         expected.emissions[test->emitted] = 1;
@@ -519,8 +559,10 @@ static void run_instant(const instant_test *test, lengths lent, const char *how)
     char call[32];
     uint8_t answers[SPARE];
     size_t answers_length = read_digits(answers, test->answers);
-    read_digits(actual.state, test->before);
-    read_digits(expected.state, test->before);
+    if (test->before[0] != '\0') {
+        read_state(actual.state, test->before);
+        read_state(expected.state, test->before);
+    }
     if (test->refused == 0)
         expect_closed(test);
     sprintf(call, "%s%s", test->call == STARTED ? "start" : "resume", how);
@@ -542,10 +584,16 @@ static const uint8_t aborted[] = {3, 0, 2, 0, 9, 0, 8, 0, 7, 1, 4, 0, 9, 0, 2,
 /* weak abort sustain 0 when 1 end */
 static const uint8_t weakly_aborted[] = {3, 0, 2, 0, 9, 0, 8, 0, 4, 0, 9, 0, 2, 0,
                                          4, 0, 1, 0, 6, 1, 9, 0, 8, 0, 10, 0, 11, 0};
+/* [await 0; emit 1 || await 2] */
+static const uint8_t granted[] = {2, 0, 4, 0, 1, 0, 6, 0, 9, 0, 8, 0, 11, 0, 3, 1, 9, 0,
+                                  2, 0, 4, 0, 1, 0, 6, 2, 9, 0, 8, 0, 11, 0, 10, 0};
 #define ABORT_HELD "010000010000000"
 #define ABORT_OVER "000000000000000"
 #define WEAK_HELD "01000010000000"
 #define WEAK_OVER "00000000000000"
+#define BOTH_HELD "10000000010000000"
+#define RIGHT_HELD "00000000010000000"
+#define BOTH_OVER "00000000000000000"
 
 static const instant_test instant_tests[] = {
     {"W9, W1 started", STARTED, w1, 4, "", "", 0, 1, 0, 3, "1000", NONE},
@@ -573,9 +621,18 @@ static const instant_test instant_tests[] = {
      WEAK_OVER, 0},
     {"a weak abort when absent", RESUMED, weakly_aborted, 14, WEAK_HELD, "0", 0, 1, 1, 16,
      WEAK_HELD, 0},
+    {"two awaits take no answer", STARTED, granted, 17, "", "", 0, 1, 0, 10, BOTH_HELD, NONE},
+    {"two awaits when absent", RESUMED, granted, 17, BOTH_HELD, "00", 0, 1, 2, 18, BOTH_HELD, NONE},
+    {"two awaits, the first when present", RESUMED, granted, 17, BOTH_HELD, "10", 0, 1, 2, 17,
+     RIGHT_HELD, 1},
+    {"two awaits, the first is over", RESUMED, granted, 17, RIGHT_HELD, "1", 0, 0, 1, 7,
+     BOTH_OVER, NONE},
+    {"one answer for two awaits", RESUMED, granted, 17, BOTH_HELD, "0", 13, 0, 0, 0, "", NONE},
     {"nothing held", RESUMED, w1, 4, "0000", "", 12, 0, 0, 0, "", NONE},
     {"an emit held", RESUMED, w1, 4, "1100", "", 12, 0, 0, 0, "", NONE},
-    {"a byte above 1", RESUMED, w1, 4, "2000", "", 12, 0, 0, 0, "", NONE},
+    {"a loop held", RESUMED, w1, 4, "1001", "", 12, 0, 0, 0, "", NONE},
+    {"a node past the last held", RESUMED, w1, 4, "10001", "", 12, 0, 0, 0, "", NONE},
+    {"a node in a byte past the last held", RESUMED, w1, 4, "100000001", "", 12, 0, 0, 0, "", NONE},
     {"both children of a sequence held", RESUMED, pauses, 3, "110", "", 12, 0, 0, 0, "", NONE},
 };
 
@@ -585,6 +642,174 @@ static void test_instants(void)
         run_instant(&instant_tests[i], needed(instant_tests[i].nodes, 0), "");
         run_instant(&instant_tests[i], spare(), ", more lent");
     }
+}
+
+/* Held pauses as bits. */
+
+/* Starts the program upon old bytes of 255. The first bytes of the state are as given, the rest of
+   those needed are 0, and what lies past them stays. */
+static void test_started_bytes(const char *name, const uint8_t *table, size_t length,
+                               const uint8_t *bytes, size_t count, uint64_t code, uint64_t entries)
+{
+    memset(actual.state, 255, BAVZHRONO_STATE_BYTES);
+    memset(expected.state, 0, BAVZHRONO_STATE_BYTES);
+    memcpy(expected.state, bytes, count);
+    memset(expected.emissions, 0, BAVZHRONO_SIGNALS);
+    expect_answer(code, 0, entries);
+    check("start, bytes", name, instant(STARTED, table, length, NULL, 0, spare()), 0);
+}
+
+static void test_started_bytes_by_hand(void)
+{
+    static const uint8_t node_0[] = {0x01}, node_1[] = {0x02}, node_7[] = {0x80};
+    static const uint8_t node_8[] = {0x00, 0x01}, nodes_0_and_9[] = {0x01, 0x02};
+    static const uint8_t nodes_0_and_2[] = {0x05};
+    static const uint8_t nothing[] = {1, 0};
+    /* Four times nothing, and then the sequence of a nothing and a pause. */
+    static const uint8_t late[] = {1, 0, 1, 0, 9, 0, 1, 0, 9, 0, 1,
+                                   0, 9, 0, 1, 0, 2, 0, 9, 0, 9, 0};
+
+    test_started_bytes("W1", w1, sizeof w1, node_0, 1, 1, 3);
+    test_started_bytes("W3", w3, sizeof w3, node_7, 1, 1, 10);
+    test_started_bytes("W7", w7, sizeof w7, node_1, 1, 1, 3);
+    test_started_bytes("the lock program of F-5", lock, sizeof lock, nodes_0_and_2, 1, 1, 7);
+    test_started_bytes("two awaits", granted, sizeof granted, nodes_0_and_9, 2, 1, 10);
+    test_started_bytes("the first of a byte", late, sizeof late, node_8, 2, 1, 11);
+    test_started_bytes("nothing is held after code 0", nothing, sizeof nothing, node_0, 0, 0, 1);
+}
+
+/* The expression of the header. */
+static int is_held(const uint8_t *state, size_t node)
+{
+    return state[node / 8] >> (node % 8) & 1;
+}
+
+/* A loop around parallels of 512 pauses: all are held, and none of the other nodes. */
+static void test_all_pauses_held(void)
+{
+    static uint8_t table[2 * BAVZHRONO_MAX_NODES];
+    size_t length = balanced(table, 10, 9);
+    size_t held = 0;
+    int passed;
+
+    length += put(table + length, 8, 0);
+    passed = instant(STARTED, table, length, NULL, 0, needed(0, 0)) == 0;
+    for (int resumed = 0; resumed < 2; resumed++) {
+        for (size_t node = 0; node < BAVZHRONO_MAX_NODES; node++) {
+            passed = passed && is_held(actual.state, node) == (table[2 * node] == 2);
+            held += (size_t)is_held(actual.state, node);
+        }
+        passed = passed && instant(RESUMED, table, length, NULL, 0, needed(0, 0)) == 0;
+    }
+    report(passed && held == 2 * 512, "start and resume", "512 pauses held at once");
+    prepare();
+}
+
+/* A loop around sequences of 512 pauses: each is held alone in its turn, and after the last the
+   first again. The bytes are stored after each instant, and lent again from there. */
+static void test_pauses_held_in_turns(void)
+{
+    static uint8_t table[2 * BAVZHRONO_MAX_NODES];
+    uint8_t stored[BAVZHRONO_STATE_BYTES], alone[BAVZHRONO_STATE_BYTES];
+    size_t length = full_table(table), instants = 0;
+    int passed = instant(STARTED, table, length, NULL, 0, needed(0, 0)) == 0;
+
+    for (size_t node = 0; node < BAVZHRONO_MAX_NODES; node++) {
+        if (table[2 * node] != 2)
+            continue;
+        memset(alone, 0, sizeof alone);
+        alone[node / 8] = (uint8_t)(1 << node % 8);
+        passed = passed && memcmp(actual.state, alone, sizeof alone) == 0;
+        memcpy(stored, actual.state, sizeof stored);
+        prepare();
+        memcpy(actual.state, stored, sizeof stored);
+        passed = passed && instant(RESUMED, table, length, NULL, 0, needed(0, 0)) == 0;
+        instants++;
+    }
+    report(passed && instants == 512 && actual.state[0] == 1, "start and resume",
+           "512 pauses held in turns, stored in between");
+    prepare();
+}
+
+static void hold(size_t node)
+{
+    actual.state[node / 8] |= (uint8_t)(1 << node % 8);
+    expected.state[node / 8] |= (uint8_t)(1 << node % 8);
+}
+
+/* A start leaves the state of the program, which holds all its pauses. With one more bit, wherever
+   it stands, or with that bit alone, it is refused by 12, and nothing changes. */
+static void test_stray_bits(const char *name, const uint8_t *table, size_t length)
+{
+    uint8_t held[BAVZHRONO_STATE_BYTES];
+    int passed = instant(STARTED, table, length, NULL, 0, needed(0, 0)) == 0;
+    size_t strays = 0, pauses_held = 0;
+
+    memcpy(held, actual.state, sizeof held);
+    for (size_t node = 0; node < BAVZHRONO_MAX_NODES; node++) {
+        if (2 * node < length && table[2 * node] == 2) {
+            passed = passed && is_held(held, node);
+            pauses_held++;
+            continue;
+        }
+        for (int alone = 0; alone < 2; alone++) {
+            prepare();
+            memset(actual.state, 0, sizeof held);
+            if (!alone)
+                memcpy(actual.state, held, sizeof held);
+            memcpy(expected.state, actual.state, sizeof held);
+            hold(node);
+            passed = passed && instant(RESUMED, table, length, NULL, 0, spare()) == 12 &&
+                     memcmp(&actual, &expected, sizeof actual) == 0;
+        }
+        strays++;
+    }
+    report(passed && strays + pauses_held == BAVZHRONO_MAX_NODES, "resume, stray bits", name);
+    prepare();
+}
+
+static void test_stray_bits_of_programs(void)
+{
+    static uint8_t table[2 * BAVZHRONO_MAX_NODES];
+    size_t length;
+
+    test_stray_bits("W1", w1, sizeof w1);
+    test_stray_bits("W7", w7, sizeof w7);
+    test_stray_bits("the lock program of F-5", lock, sizeof lock);
+    test_stray_bits("two awaits", granted, sizeof granted);
+    length = balanced(table, 10, 9);
+    length += put(table + length, 8, 0);
+    test_stray_bits("1,024 nodes", table, length);
+}
+
+/* Of a longer state what lies past the bytes needed is neither looked at nor changed. */
+static void test_longer_states(void)
+{
+    for (size_t more = 0; more <= SPARE; more++) {
+        char name[32];
+        lengths lent = needed(0, 0);
+        lent.state += more;
+        sprintf(name, "W1, state of %u", (unsigned)lent.state);
+        read_state(expected.state, "1000");
+        memset(expected.emissions, 0, BAVZHRONO_SIGNALS);
+        expect_answer(1, 0, 3);
+        check("start", name, instant(STARTED, w1, sizeof w1, NULL, 0, lent), 0);
+        read_state(actual.state, "1000");
+        read_state(expected.state, "1000");
+        memset(expected.emissions, 0, BAVZHRONO_SIGNALS);
+        expected.emissions[7] = 1;
+        expect_answer(1, 0, 6);
+        check("resume", name, instant(RESUMED, w1, sizeof w1, NULL, 0, lent), 0);
+    }
+}
+
+static void test_held_bits(void)
+{
+    test_started_bytes_by_hand();
+    test_all_pauses_held();
+    test_pauses_held_in_turns();
+    test_stray_bits_of_programs();
+    test_longer_states();
 }
 
 /* The text of W1, as document 01 prints it. */
@@ -2540,6 +2765,7 @@ int main(void)
     test_short_instant("resume", bavzhrono_resume);
     test_short_answers();
     test_instants();
+    test_held_bits();
     test_render();
     test_short_text();
     test_read_by_hand();

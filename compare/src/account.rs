@@ -28,8 +28,8 @@ pub struct Account {
     pub code: Code,
     /// The number of answers taken.
     pub taken: usize,
-    /// The pauses that are held afterwards.
-    pub state: Vec<u8>,
+    /// The pauses that are held afterwards, lowest first.
+    pub held: Vec<usize>,
     /// Entered, then over or dropped, and started again: these are F-6's. Lowest first.
     pub reentered: Vec<usize>,
     /// Held and not entered, then dropped, and started. Lowest first.
@@ -38,14 +38,14 @@ pub struct Account {
 
 /// The account of a resumption from held pauses or, without them, of a start. The program
 /// is accepted and the state admitted. There is none if the answers don't suffice.
-pub fn account(tree: &Tree, held: Option<&[u8]>, answers: &[u8]) -> Option<Account> {
-    let how = match held {
+pub fn account(tree: &Tree, before: Option<&[usize]>, answers: &[u8]) -> Option<Account> {
+    let how = match before {
         None => Started,
         Some(_) => Resumed,
     };
     let mut moment = Moment {
         tree,
-        standing: standing_before(tree, held),
+        standing: standing_before(tree, before.unwrap_or_default()),
         entered: vec![None; tree.size()],
         codes: vec![None; tree.size()],
         running: Vec::new(),
@@ -57,23 +57,19 @@ pub fn account(tree: &Tree, held: Option<&[u8]>, answers: &[u8]) -> Option<Accou
     Some(Account {
         code,
         taken: answers.len() - moment.answers.len(),
-        state: moment.state(),
+        held: moment.held_pauses(),
         reentered: places(&moment.reentered),
         dropped_unentered: places(&moment.dropped_unentered),
     })
 }
 
 /// A statement is held if a pause within it is.
-fn standing_before(tree: &Tree, held: Option<&[u8]>) -> Vec<Standing> {
-    let holds = |node: usize| match held {
-        None => false,
-        Some(state) => state[tree.lowest[node]..=node].contains(&1),
-    };
+fn standing_before(tree: &Tree, held: &[usize]) -> Vec<Standing> {
     let standing = |node| {
-        if holds(node) {
-            Standing::Held
-        } else {
-            Standing::Idle
+        let own = tree.lowest[node]..=node;
+        match held.iter().any(|pause| own.contains(pause)) {
+            true => Standing::Held,
+            false => Standing::Idle,
         }
     };
     (0..tree.size()).map(standing).collect()
@@ -216,11 +212,10 @@ impl Moment<'_> {
         self.answers.next().map(|&answer| answer != 0)
     }
 
-    fn state(&self) -> Vec<u8> {
-        let is_held = |node| self.is_held(node) && self.tree.statements[node] == Statement::Pause;
-        (0..self.tree.size())
-            .map(|node| u8::from(is_held(node)))
-            .collect()
+    fn held_pauses(&self) -> Vec<usize> {
+        let is_pause = |&node: &usize| self.tree.statements[node] == Statement::Pause;
+        let pauses = (0..self.tree.size()).filter(is_pause);
+        pauses.filter(|&node| self.is_held(node)).collect()
     }
 }
 

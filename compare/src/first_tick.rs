@@ -15,6 +15,7 @@ use std::cmp::Ordering;
 use std::collections::BTreeMap;
 
 use crate::best::{best_starts, out_of_trap, Start};
+use crate::held::STATE_BYTES;
 use crate::instant::{Code, CAUGHT, ENDED, PAUSED, SIGNALS};
 use crate::listing::refusal_line;
 use crate::table::{Statement, Tree};
@@ -72,8 +73,8 @@ pub fn reaches(table: &[u8], answers: &[u8]) -> bool {
     let Ok(entries) = first_tick(table) else {
         return false;
     };
-    let mut state = vec![0; table.len() / 2];
-    let closed = start(table, answers, &mut state, &mut [0; SIGNALS]);
+    let (state, emissions) = (&mut [0; STATE_BYTES], &mut [0; SIGNALS]);
+    let closed = start(table, answers, state, emissions);
     answers.iter().all(|&answer| answer <= 1)
         && closed.is_ok_and(|closed| closed.taken == answers.len() && closed.entries == entries)
 }

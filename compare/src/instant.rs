@@ -1,6 +1,7 @@
 //! One instant: a program is started, or resumed from its held pauses.
 
 use crate::checks;
+use crate::held::{Held, STATE_BYTES};
 use crate::table::{Statement, Tree};
 use crate::Refusal;
 
@@ -49,7 +50,8 @@ pub struct Entry {
     pub code: Code,
 }
 
-/// Starts the program. The state is written only, its old bytes don't count.
+/// Starts the program. The state is written only, its old bytes don't count. Of a longer
+/// buffer just the first 128 bytes are the state.
 pub fn start(
     table: &[u8],
     answers: &[u8],
@@ -105,26 +107,23 @@ fn run(
     state: &mut [u8],
     emissions: &mut [u8],
 ) -> Result<(Closed, Option<Vec<Entry>>), Refusal> {
-    let program = checks::accept(table, |size| {
-        state.len() >= size && emissions.len() >= SIGNALS
+    let program = checks::accept(table, |_| {
+        state.len() >= STATE_BYTES && emissions.len() >= SIGNALS
     })?;
     let tree = &program.tree;
-    let size = tree.size();
-    let (held, holds) = match how {
-        How::Started => (vec![0; size], vec![false; size]),
+    let held = match how {
+        How::Started => Held::default(),
         How::Resumed => {
-            let held = state[..size].to_vec();
-            let holds = holding(tree, &held);
-            if !is_admitted(tree, &held, &holds) {
+            let held = Held::read(state);
+            if !admitted(tree, &held) {
                 return Err(Refusal::whole(12));
             }
-            (held, holds)
+            held
         }
     };
 
     let mut runner = Runner {
         tree,
-        holds,
         answers,
         taken: 0,
         entries: 0,
@@ -136,67 +135,47 @@ fn run(
         How::Started => runner.start(tree.root())?,
         How::Resumed => runner.resume(tree.root())?,
     };
-    state[..size].copy_from_slice(&runner.held);
+    state[..STATE_BYTES].copy_from_slice(&runner.held.bytes());
     emissions[..SIGNALS].copy_from_slice(&runner.emissions);
     let closed = Closed::new(code, runner.taken, runner.entries);
     Ok((closed, runner.trail))
 }
 
-/// Whether the state, one byte a node, is one to resume from.
-pub fn admitted(tree: &Tree, state: &[u8]) -> bool {
-    is_admitted(tree, state, &holding(tree, state))
+/// Whether the state is one to resume from. Bits from n on are no pauses.
+pub fn admitted(tree: &Tree, held: &Held) -> bool {
+    let holds = |node: usize| held.holds_any(tree.lowest[node]..node + 1);
+    let on_one_side = |&statement: &Statement| match statement {
+        Statement::Present {
+            then: one,
+            otherwise: other,
+        }
+        | Statement::Sequence {
+            first: one,
+            second: other,
+        } => !(holds(one) && holds(other)),
+        _ => true,
+    };
+    !held.is_empty() && held.is_within(&pauses(tree)) && tree.statements.iter().all(on_one_side)
 }
 
-/// For each statement, whether a byte that is not 0 stands within it.
-fn holding(tree: &Tree, state: &[u8]) -> Vec<bool> {
-    let mut holds: Vec<bool> = Vec::with_capacity(tree.size());
-    for (node, &statement) in tree.statements.iter().enumerate() {
-        let below = match statement {
-            Statement::Nothing
-            | Statement::Pause
-            | Statement::Emit { .. }
-            | Statement::Exit { .. } => false,
-            Statement::Signal { body }
-            | Statement::Suspend { body }
-            | Statement::Loop { body }
-            | Statement::Trap { body } => holds[body],
-            Statement::Present { then, otherwise } => holds[then] || holds[otherwise],
-            Statement::Sequence { first, second } => holds[first] || holds[second],
-            Statement::Parallel { left, right } => holds[left] || holds[right],
-        };
-        holds.push(below || state[node] != 0);
+/// All pauses of the program.
+fn pauses(tree: &Tree) -> Held {
+    let mut pauses = Held::default();
+    for (node, statement) in tree.statements.iter().enumerate() {
+        if *statement == Statement::Pause {
+            pauses.hold(node);
+        }
     }
-    holds
-}
-
-fn is_admitted(tree: &Tree, state: &[u8], holds: &[bool]) -> bool {
-    holds[tree.root()]
-        && tree
-            .statements
-            .iter()
-            .zip(state)
-            .all(|(&statement, &byte)| match statement {
-                Statement::Pause => byte <= 1,
-                Statement::Present { then, otherwise } => {
-                    byte == 0 && !(holds[then] && holds[otherwise])
-                }
-                Statement::Sequence { first, second } => {
-                    byte == 0 && !(holds[first] && holds[second])
-                }
-                _ => byte == 0,
-            })
+    pauses
 }
 
 /// An instant under way.
 struct Runner<'a> {
     tree: &'a Tree,
-    /// The statements that hold a pause as the instant begins. A statement is
-    /// resumed at most once, before anything within it has changed.
-    holds: Vec<bool>,
     answers: &'a [u8],
     taken: usize,
     entries: usize,
-    held: Vec<u8>,
+    held: Held,
     emissions: [u8; SIGNALS],
     trail: Option<Vec<Entry>>,
 }
@@ -207,7 +186,7 @@ impl Runner<'_> {
         let code = match self.tree.statements[node] {
             Statement::Nothing => ENDED,
             Statement::Pause => {
-                self.held[node] = 1;
+                self.held.hold(node);
                 PAUSED
             }
             Statement::Emit { signal } => {
@@ -249,12 +228,12 @@ impl Runner<'_> {
                 unreachable!("only a statement that holds a pause is resumed")
             }
             Statement::Pause => {
-                self.held[node] = 0;
+                self.held.let_go(node);
                 ENDED
             }
             Statement::Signal { body } => self.resume(body)?,
             Statement::Present { then, otherwise } => {
-                if self.holds[then] {
+                if self.holds(then) {
                     self.resume(then)?
                 } else {
                     self.resume(otherwise)?
@@ -272,7 +251,7 @@ impl Runner<'_> {
                 code => code,
             },
             Statement::Sequence { first, second } => {
-                if self.holds[second] {
+                if self.holds(second) {
                     self.resume(second)?
                 } else {
                     match self.resume(first)? {
@@ -295,9 +274,15 @@ impl Runner<'_> {
         Ok(code)
     }
 
+    /// Whether a pause within the statement is held. A statement is resumed at most once,
+    /// before anything within it has changed.
+    fn holds(&self, node: usize) -> bool {
+        self.held.holds_any(self.tree.lowest[node]..node + 1)
+    }
+
     /// A branch that holds nothing has ended earlier and is not entered.
     fn resume_branch(&mut self, branch: usize) -> Result<Code, Refusal> {
-        if self.holds[branch] {
+        if self.holds(branch) {
             self.resume(branch)
         } else {
             Ok(ENDED)
@@ -316,7 +301,7 @@ impl Runner<'_> {
             ENDED | PAUSED => code,
             CAUGHT => {
                 let lowest = self.tree.lowest[trap];
-                self.held[lowest..trap].fill(0);
+                self.held.let_go_all(lowest..trap);
                 ENDED
             }
             further_out => further_out - 1,

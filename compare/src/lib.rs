@@ -1,9 +1,9 @@
 //! Statement tables of pure Esterel, read from documents 01 and 02 alone: all of
-//! document 01, as F-5 and F-7 of document 02 amend it, the programs as text of F-1 in the
-//! dialect of F-9, the ticks of F-2, the blocks of F-4, the narrowed sets of F-8, and the
+//! document 01, as F-5, F-7 and F-11 of document 02 amend it, the programs as text of F-1 in
+//! the dialect of F-9, the ticks of F-2, the blocks of F-4, the narrowed sets of F-8, and the
 //! greatest number of entries of a start of F-10.
 //!
-//! The specification is in `table`, `checks`, `sets`, `analysis`, `listing`,
+//! The specification is in `table`, `checks`, `sets`, `analysis`, `listing`, `held`,
 //! `instant`, `text`, `tick`, `blocks`, `narrow` and `first_tick`, with `best` for the lists of
 //! `tick` and `first_tick`. What F-6 says of runs is for tests to try: `reentry` and `account`
 //! tell what is entered again in an instant.
@@ -15,6 +15,7 @@ pub mod best;
 pub mod blocks;
 pub mod checks;
 pub mod first_tick;
+pub mod held;
 pub mod instant;
 pub mod listing;
 pub mod narrow;
@@ -28,6 +29,7 @@ pub mod tick;
 pub use analysis::{analyse, Sets};
 pub use blocks::{fetch, part, Fetched};
 pub use first_tick::{first_tick, first_tick_answers, first_tick_line, reaches};
+pub use held::{held_nodes, packed, Held, STATE_BYTES};
 pub use instant::{resume, resume_with_trail, start, start_with_trail, Closed, Entry, How};
 pub use listing::listing;
 pub use narrow::narrow;

@@ -3,12 +3,11 @@
 
 use compare::sets;
 use compare::support::edges::{edges, LOCK, W1};
-use compare::{analyse, listing, resume, start, Refusal, Sets};
+use compare::{analyse, listing, resume, start, Refusal, Sets, STATE_BYTES};
 
 #[test]
 fn every_call_judges_the_edge_tables_alike() {
     for edge in edges() {
-        let size = edge.table.len() / 2;
         let text = match edge.refusal {
             Some(refusal) => format!("refused {} {}\n", refusal.number, refusal.node),
             None => "ok ".to_string(),
@@ -19,11 +18,11 @@ fn every_call_judges_the_edge_tables_alike() {
             continue;
         };
         for call in [start, resume] {
-            let mut state = vec![0; size];
+            let mut state = [7; STATE_BYTES];
             let mut emissions = vec![7; 256];
             let answer = call(&edge.table, &[], &mut state, &mut emissions);
             assert_eq!(answer, Err(refusal), "{}", edge.name);
-            assert_eq!(state, vec![0; size], "{}", edge.name);
+            assert_eq!(state, [7; STATE_BYTES], "{}", edge.name);
             assert_eq!(emissions, vec![7; 256], "{}", edge.name);
         }
     }

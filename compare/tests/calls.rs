@@ -2,6 +2,7 @@
 
 use compare::support::calls::COMPARE;
 use compare::support::edges::{edges, W1, W2, W8};
+use compare::STATE_BYTES;
 
 /// What stands in every lent entry before a call.
 const FILL: u8 = 9;
@@ -24,7 +25,7 @@ impl Lent {
         Lent {
             sets: [(); 3].map(|_| vec![u64::from(FILL); nodes]),
             marks: vec![FILL; nodes],
-            state: vec![FILL; nodes],
+            state: vec![FILL; STATE_BYTES],
             emissions: vec![FILL; 256],
             text: vec![FILL; 90],
             answers: vec![FILL; 512],

@@ -6,7 +6,7 @@ use compare::support::programs::{accepted, traps_around, SHAPES};
 use compare::support::random::Random;
 use compare::support::SEED;
 use compare::table;
-use compare::{resume_with_trail, start_with_trail, Closed, Entry, How, Sets};
+use compare::{packed, resume_with_trail, start_with_trail, Closed, Entry, How, Sets, STATE_BYTES};
 
 const CODE_63: u64 = 0x8000_0000_0000_0000;
 const ALL_CODES: u64 = 0xffff_ffff_ffff_ffff;
@@ -95,17 +95,13 @@ fn pausing_traps(outermost: usize) -> Vec<Entry> {
 
 /// Starts the program and resumes it. Both instants leave the same pauses held.
 fn check_instants(table: &[u8], held: &[usize], first: Vec<Entry>, second: Vec<Entry>) {
-    let mut held_state = vec![0; table.len() / 2];
-    for &pause in held {
-        held_state[pause] = 1;
-    }
-    let mut state = vec![9; table.len() / 2];
+    let mut state = [9; STATE_BYTES];
     let answer = start_with_trail(table, &[], &mut state, &mut [9; 256]);
     assert_eq!(answer, Ok((Closed::new(1, 0, first.len()), first)));
-    assert_eq!(state, held_state);
+    assert_eq!(state, packed(held));
     let answer = resume_with_trail(table, &[], &mut state, &mut [9; 256]);
     assert_eq!(answer, Ok((Closed::new(1, 0, second.len()), second)));
-    assert_eq!(state, held_state);
+    assert_eq!(state, packed(held));
 }
 
 #[test]

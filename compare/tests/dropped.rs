@@ -3,13 +3,13 @@
 
 use compare::support::edges::LOCK;
 use compare::How::{Resumed, Started};
-use compare::{resume_with_trail, start_with_trail, Closed, Entry, How, Sets};
+use compare::{packed, resume_with_trail, start_with_trail, Closed, Entry, How, Sets, STATE_BYTES};
 
 /// The inner loop, the left branch of the parallel.
 const INNER_LOOP: usize = 1;
 
 /// Both pauses are held after each instant.
-const HELD: [u8; 8] = [1, 0, 1, 0, 0, 0, 0, 0];
+const HELD: [usize; 2] = [0, 2];
 
 /// What the outer loop starts: the trap and all beneath it that is come to.
 const BODY: [(usize, How, u32); 6] = [
@@ -29,19 +29,19 @@ fn trail(parts: &[&[(usize, How, u32)]]) -> Vec<Entry> {
 }
 
 fn second_instant() -> (Closed, Vec<Entry>) {
-    let mut state = HELD;
+    let mut state = packed(&HELD);
     let answer = resume_with_trail(LOCK, &[], &mut state, &mut [9; 256]);
-    assert_eq!(state, HELD);
+    assert_eq!(state, packed(&HELD));
     answer.expect("an admitted state")
 }
 
 #[test]
 fn started_both_branches_pause() {
-    let mut state = [9; 8];
+    let mut state = [9; STATE_BYTES];
     let answer = start_with_trail(LOCK, &[], &mut state, &mut [9; 256]);
     let expected = trail(&[&[(7, Started, 1)], &BODY]);
     assert_eq!(answer, Ok((Closed::new(1, 0, 7), expected)));
-    assert_eq!(state, HELD);
+    assert_eq!(state, packed(&HELD));
 }
 
 #[test]

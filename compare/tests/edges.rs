@@ -3,7 +3,7 @@
 
 use compare::support::edges::{edges, W3, W7};
 use compare::support::states;
-use compare::{listing, resume, start, table, Closed, Sets};
+use compare::{listing, packed, resume, start, table, Closed, Held, Sets, STATE_BYTES};
 
 /// All answers are absent; there are enough for any table.
 const ABSENT: [u8; 4096] = [0; 4096];
@@ -73,10 +73,10 @@ fn an_exit_loses_a_level_at_each_trap() {
     }
     assert_eq!(start_sets[62], 1);
 
-    let mut state = [9; 63];
+    let mut state = [9; STATE_BYTES];
     let answer = start(&table, &[], &mut state, &mut [9; 256]);
     assert_eq!(answer, Ok(Closed::new(0, 0, 63)));
-    assert_eq!(state, [0; 63]);
+    assert_eq!(state, [0; STATE_BYTES]);
 }
 
 #[test]
@@ -94,9 +94,8 @@ fn first_lines_at_the_limits() {
 #[test]
 fn instants_at_depth_256() {
     let suspends = around(&[2, 0], &[7, 1], 255);
-    let mut held = vec![0; 256];
-    held[0] = 1;
-    let mut state = vec![9; 256];
+    let held = packed(&[0]);
+    let mut state = [9; STATE_BYTES];
     let answer = start(&suspends, &[], &mut state, &mut [0; 256]);
     assert_eq!(answer, Ok(Closed::new(1, 0, 256)));
     assert_eq!(state, held);
@@ -106,11 +105,11 @@ fn instants_at_depth_256() {
     assert_eq!(state, held);
     let answer = resume(&suspends, &ABSENT, &mut state, &mut [0; 256]);
     assert_eq!(answer, Ok(Closed::new(0, 255, 256)));
-    assert_eq!(state, [0; 256]);
+    assert_eq!(state, [0; STATE_BYTES]);
 
     // The innermost of 255 loops starts its body again, the others pause.
     let loops = around(&[2, 0], &[8, 0], 255);
-    let mut state = held.clone();
+    let mut state = held;
     let answer = resume(&loops, &[], &mut state, &mut [0; 256]);
     assert_eq!(answer, Ok(Closed::new(1, 0, 257)));
     assert_eq!(state, held);
@@ -120,16 +119,17 @@ fn instants_at_depth_256() {
 fn every_accepted_edge_runs_from_all_it_holds() {
     for edge in edges().iter().filter(|edge| edge.refusal.is_none()) {
         let tree = table::read(&edge.table).expect("an accepted table");
-        let mut state = vec![9; tree.size()];
+        let mut state = [9; STATE_BYTES];
         let closed = start(&edge.table, &ABSENT, &mut state, &mut [0; 256]);
         let closed = closed.unwrap_or_else(|refusal| panic!("{}: {refusal:?}", edge.name));
-        assert_eq!(state.contains(&1), closed.code == 1, "{}", edge.name);
+        let holds = !Held::read(&state).is_empty();
+        assert_eq!(holds, closed.code == 1, "{}", edge.name);
         assert!(closed.entries <= tree.size(), "{}", edge.name);
         if states::pauses(&tree).len() > 12 {
             continue;
         }
-        for mut state in states::all_admitted(&tree) {
-            let answer = resume(&edge.table, &ABSENT, &mut state, &mut [0; 256]);
+        for held in states::all_admitted(&tree) {
+            let answer = resume(&edge.table, &ABSENT, &mut packed(&held), &mut [0; 256]);
             assert!(answer.is_ok(), "{}", edge.name);
         }
     }
@@ -141,7 +141,7 @@ fn an_answer_list_has_no_limit_of_length() {
     let mut answers = vec![0; 1_000_000];
     answers[0] = 255;
     let mut emissions = [0; 256];
-    let answer = start(&present, &answers, &mut [0; 3], &mut emissions);
+    let answer = start(&present, &answers, &mut [0; STATE_BYTES], &mut emissions);
     assert_eq!(answer, Ok(Closed::new(0, 1, 2)));
     assert_eq!(emissions[..3], [0, 1, 0]);
 }
@@ -152,8 +152,8 @@ fn the_sets_and_instants_of_w3() {
     let sets = [8, 4, 8, 4, 8, 4, 1, 2, 2, 2, 2];
     assert_eq!(start_sets(W3), sets);
 
-    let held = [0, 0, 0, 0, 0, 0, 0, 1, 0, 0, 0];
-    let mut state = [9; 11];
+    let held = packed(&[7]);
+    let mut state = [9; STATE_BYTES];
     let answer = start(W3, &[], &mut state, &mut [0; 256]);
     // Node 4 alone is not entered.
     assert_eq!(answer, Ok(Closed::new(1, 0, 10)));
@@ -166,11 +166,11 @@ fn the_sets_and_instants_of_w3() {
 
 #[test]
 fn the_instants_of_w7() {
-    let mut state = [9; 3];
+    let mut state = [9; STATE_BYTES];
     let answer = start(W7, &[], &mut state, &mut [0; 256]);
     assert_eq!(answer, Ok(Closed::new(1, 0, 3)));
-    assert_eq!(state, [0, 1, 0]);
+    assert_eq!(state, packed(&[1]));
     let answer = resume(W7, &[], &mut state, &mut [0; 256]);
     assert_eq!(answer, Ok(Closed::new(0, 0, 2)));
-    assert_eq!(state, [0; 3]);
+    assert_eq!(state, [0; STATE_BYTES]);
 }

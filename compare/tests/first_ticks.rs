@@ -5,6 +5,7 @@ use std::thread;
 
 use compare::checks;
 use compare::first_tick::{most_of_nodes, reaching_list};
+use compare::held::STATE_BYTES;
 use compare::instant::SIGNALS;
 use compare::support::calls::COMPARE;
 use compare::support::damage::{bad_table, BAD_NUMBERS};
@@ -252,8 +253,8 @@ fn large_programs() {
         assert!(reaches(&table, &handed_out(&table, entries)), "{table:?}");
         for _ in 0..10 {
             let answers: Vec<u8> = random.bytes(1024).iter().map(|byte| byte % 2).collect();
-            let mut state = vec![0; table.len() / 2];
-            let closed = start(&table, &answers, &mut state, &mut [0; SIGNALS]);
+            let (state, emissions) = (&mut [0; STATE_BYTES], &mut [0; SIGNALS]);
+            let closed = start(&table, &answers, state, emissions);
             let closed = closed.expect("more answers than there are nodes");
             assert!(closed.entries <= entries, "{table:?} {answers:?}");
             below += usize::from(closed.entries < entries);

@@ -5,6 +5,7 @@ use std::convert::Infallible;
 use std::thread;
 
 use compare::checks::{self, Program};
+use compare::held::STATE_BYTES;
 use compare::instant::SIGNALS;
 use compare::narrow::Answer;
 use compare::support::answers::every_list;
@@ -215,9 +216,8 @@ fn codes_where_tied(table: &[u8], ties: &[u8]) -> u64 {
     let known = under_ties.known_answers();
     let mut codes = 0;
     let Ok(()) = every_list(|list| -> Result<bool, Infallible> {
-        let mut state = vec![0; root + 1];
-        let Ok((closed, trail)) = start_with_trail(table, list, &mut state, &mut [0; SIGNALS])
-        else {
+        let (state, emissions) = (&mut [0; STATE_BYTES], &mut [0; SIGNALS]);
+        let Ok((closed, trail)) = start_with_trail(table, list, state, emissions) else {
             return Ok(true);
         };
         if let Some(others) = others_where_tied(&program.tree, &known, &trail, list) {

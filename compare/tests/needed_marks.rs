@@ -82,9 +82,8 @@ fn examples_of_document_004() {
 #[test]
 fn answers_that_no_signal_gives() {
     let table = table("signal S in loop pause; emit S; present S then pause end end end");
-    let held = [1, 0, 0, 0, 0, 0, 0, 0, 0];
     let twice = |answer| {
-        let instant = Instant::of(&table, Some(&held), &[answer]).expect("a reached state");
+        let instant = Instant::of(&table, Some(&[0]), &[answer]).expect("a reached state");
         entered_twice(&instant.trail)
     };
     assert_eq!(twice(1), []);

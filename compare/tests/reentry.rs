@@ -6,18 +6,17 @@ use std::convert::Infallible;
 
 use compare::account::{account, Account};
 use compare::checks::{MOST_DEPTH, MOST_TRAPS};
-use compare::instant::admitted;
 use compare::reentry::{entered_twice, later_entries_are_starts};
 use compare::support::edges::{edges, exits_through_all_traps};
 use compare::support::every::{deciding_in_runs, every_program, every_table};
 use compare::support::families;
 use compare::support::frames::{exiting, framed};
 use compare::support::programs::{accepted, any_shape, statement, Room, ALL_SHAPES};
-use compare::support::programs::{ladder, ladder_answers, ladder_state};
+use compare::support::programs::{ladder, ladder_answers, LADDER_HELD};
 use compare::support::random::Random;
 use compare::support::reentries::check_marks_of;
 use compare::support::runs::{every_instant, every_instant_from, run, Instant};
-use compare::support::states::all_admitted;
+use compare::support::states::{all_admitted, is_admitted};
 use compare::support::vectors::{directory, read_runs};
 use compare::support::SEED;
 use compare::table::{self, Tree};
@@ -43,14 +42,14 @@ impl Tried<'_> {
             .expect("enough answers");
         assert_eq!(account.code, instant.closed.code, "{table:?}");
         assert_eq!(account.taken, instant.closed.taken, "{table:?}");
-        assert_eq!(account.state, instant.after, "{table:?}");
+        assert_eq!(account.held, instant.after, "{table:?}");
         assert_eq!(account.reentered, entered_twice(trail), "{table:?}");
         self.check_marks(&account);
         self.check_codes(instant);
         assert!(later_entries_are_starts(trail), "{table:?}");
         // A start enters nothing twice.
         assert!(instant.before.is_some() || account.reentered.is_empty());
-        let is_admitted = admitted(&self.tree, &instant.after);
+        let is_admitted = is_admitted(&self.tree, &instant.after);
         assert_eq!(is_admitted, account.code == 1, "{table:?}");
         account
     }
@@ -118,7 +117,7 @@ impl Counts {
         self.tables += 1;
         self.programs += 1;
         for case in families::run(random, table) {
-            let instant = Instant::of(table, case.before(), &case.answers);
+            let instant = Instant::of(table, case.before().as_deref(), &case.answers);
             let instant = instant.expect("as many answers as it takes");
             self.count(&instant, &tried.check(&instant));
         }
@@ -243,7 +242,7 @@ fn edges_and_many_traps() {
         // After two pauses the ladder can be climbed.
         let answers = [vec![1], vec![1], ladder_answers(steps)];
         let instants = run(&table, &answers).expect("enough answers");
-        assert_eq!(instants[2].before, Some(ladder_state(steps)));
+        assert_eq!(instants[2].before, Some(LADDER_HELD.to_vec()));
         for instant in &instants {
             counts.count(instant, &tried.check(instant));
         }
@@ -256,7 +255,7 @@ fn edges_and_many_traps() {
 #[test]
 fn a_suspended_pause_that_is_dropped() {
     let table = [2, 0, 7, 0, 2, 0, 4, 0, 9, 0, 10, 0, 11, 0, 8, 0];
-    let held = [1, 0, 1, 0, 0, 0, 0, 0];
+    let held = [0, 2];
     let tried = Tried::of(&table).expect("an accepted table");
     let check = |answer| {
         let instant = Instant::of(&table, Some(&held), &[answer]).expect("an admitted state");
@@ -278,21 +277,21 @@ fn admitted_states_that_are_not_reached() {
     let mut found = Vec::new();
     every_program(&deciding_in_runs(), 5, |table, sets| {
         let tree = table::read(table).expect("an accepted table");
-        found.extend(all_admitted(&tree).iter().filter_map(|state| {
-            let unmarked = every_instant_from(table, Some(state), |instant| {
+        found.extend(all_admitted(&tree).iter().filter_map(|held| {
+            let unmarked = every_instant_from(table, Some(held), |instant| {
                 check_marks_of(&tree, &sets.marks, &instant)
             });
-            Some((table.to_vec(), state.clone(), unmarked.err()?.nodes))
+            Some((table.to_vec(), held.clone(), unmarked.err()?.nodes))
         }));
     });
-    let expected: [(&[u8], &[u8], usize); 6] = [
-        (&[2, 0, 2, 0, 8, 0, 10, 0, 8, 0], &[1, 0, 0, 0, 0], 3),
-        (&[2, 0, 4, 0, 10, 0, 8, 0, 11, 0], &[1, 0, 0, 0, 0], 2),
-        (&[2, 0, 8, 0, 2, 0, 9, 0, 8, 0], &[0, 0, 1, 0, 0], 3),
-        (&[2, 0, 8, 0, 2, 0, 10, 0, 8, 0], &[0, 0, 1, 0, 0], 3),
-        (&[4, 0, 2, 0, 9, 0, 8, 0, 11, 0], &[0, 1, 0, 0, 0], 2),
-        (&[4, 0, 2, 0, 10, 0, 8, 0, 11, 0], &[0, 1, 0, 0, 0], 2),
+    let expected: [(&[u8], usize, usize); 6] = [
+        (&[2, 0, 2, 0, 8, 0, 10, 0, 8, 0], 0, 3),
+        (&[2, 0, 4, 0, 10, 0, 8, 0, 11, 0], 0, 2),
+        (&[2, 0, 8, 0, 2, 0, 9, 0, 8, 0], 2, 3),
+        (&[2, 0, 8, 0, 2, 0, 10, 0, 8, 0], 2, 3),
+        (&[4, 0, 2, 0, 9, 0, 8, 0, 11, 0], 1, 2),
+        (&[4, 0, 2, 0, 10, 0, 8, 0, 11, 0], 1, 2),
     ];
-    let expected = expected.map(|(table, held, node)| (table.to_vec(), held.to_vec(), vec![node]));
+    let expected = expected.map(|(table, held, node)| (table.to_vec(), vec![held], vec![node]));
     assert_eq!(found, expected);
 }

@@ -1,7 +1,7 @@
 //! Table W of document 01.
 
 use compare::support::edges::*;
-use compare::{listing, resume, start, Closed, Refusal, Sets};
+use compare::{listing, packed, resume, start, Closed, Refusal, Sets, STATE_BYTES};
 
 #[test]
 fn w1_is_listed_as_the_document_prints_it() {
@@ -30,16 +30,16 @@ fn last_start_set(table: &[u8]) -> Result<u64, Refusal> {
 
 #[test]
 fn w9_started_and_resumed() {
-    let mut state = [9; 4];
+    let mut state = [9; STATE_BYTES];
     let mut emissions = [9; 256];
     let closed = start(W1, &[], &mut state, &mut emissions).unwrap();
     assert_eq!(closed, Closed::new(1, 0, 3));
-    assert_eq!(state, [1, 0, 0, 0]);
+    assert_eq!(state, packed(&[0]));
     assert_eq!(emissions, [0; 256]);
 
     let closed = resume(W1, &[], &mut state, &mut emissions).unwrap();
     assert_eq!(closed, Closed::new(1, 0, 6));
-    assert_eq!(state, [1, 0, 0, 0]);
+    assert_eq!(state, packed(&[0]));
     let mut seven = [0; 256];
     seven[7] = 1;
     assert_eq!(emissions, seven);

@@ -1,11 +1,13 @@
 //! What holds of every trail, tried on random programs and states.
 
 use compare::checks::MOST_TRAPS;
-use compare::support::programs::{accepted, ladder, ladder_answers, ladder_state, SHAPES};
+use compare::support::programs::{accepted, ladder, ladder_answers, LADDER_HELD, SHAPES};
 use compare::support::random::Random;
 use compare::support::{states, SEED};
 use compare::table::{self, Statement, Tree};
-use compare::{resume_with_trail, start_with_trail, Closed, Entry, How, Sets};
+use compare::{
+    held_nodes, packed, resume_with_trail, start_with_trail, Closed, Entry, How, Sets, STATE_BYTES,
+};
 
 struct Tried {
     table: Vec<u8>,
@@ -20,18 +22,20 @@ impl Tried {
         Tried { table, tree, sets }
     }
 
-    fn check(&self, closed: Closed, trail: &[Entry], state: &[u8]) {
+    /// Hands back the pauses that are held.
+    fn check(&self, closed: Closed, trail: &[Entry], state: &[u8]) -> Vec<usize> {
         assert_eq!(closed.entries, trail.len());
         assert_eq!(closed.taken, self.answers_taken(trail));
         assert_eq!(closed.code, trail[0].code);
         assert!(closed.entries <= self.tree.size() * (1 + self.sets.loop_depth));
         assert!(closed.code <= 1);
-        let holds = state.contains(&1);
-        assert_eq!(holds, closed.code == 1);
+        let held = held_nodes(state);
+        assert_eq!(!held.is_empty(), closed.code == 1);
         for entry in trail.iter().filter(|entry| entry.how == How::Started) {
             assert_eq!(self.sets.start_sets[entry.node] >> entry.code & 1, 1);
             assert!(entry.code != 0 || !self.is_loop_body(entry.node));
         }
+        held
     }
 
     /// The started presents and the resumed suspends.
@@ -54,21 +58,20 @@ impl Tried {
             .contains(&Statement::Loop { body: node })
     }
 
-    fn start(&self, answers: &[u8]) -> Vec<u8> {
-        let mut state = vec![255; self.tree.size()];
+    fn start(&self, answers: &[u8]) -> Vec<usize> {
+        let mut state = [255; STATE_BYTES];
         let (closed, trail) =
             start_with_trail(&self.table, answers, &mut state, &mut [0; 256]).unwrap();
         assert!(closed.entries <= self.tree.size());
         assert!(trail.iter().all(|entry| entry.how == How::Started));
-        self.check(closed, &trail, &state);
-        state
+        self.check(closed, &trail, &state)
     }
 
-    fn resume(&self, answers: &[u8], mut state: Vec<u8>) -> Vec<u8> {
+    fn resume(&self, answers: &[u8], held: &[usize]) -> Vec<usize> {
+        let mut state = packed(held);
         let (closed, trail) =
             resume_with_trail(&self.table, answers, &mut state, &mut [0; 256]).unwrap();
-        self.check(closed, &trail, &state);
-        state
+        self.check(closed, &trail, &state)
     }
 }
 
@@ -89,15 +92,15 @@ fn trails_of_random_programs() {
         let shape = &SHAPES[number % SHAPES.len()];
         let tried = Tried::new(accepted(random, shape, nodes));
 
-        let mut state = tried.start(&answers(random));
+        let mut held = tried.start(&answers(random));
         for _ in 0..4 {
-            if !state.contains(&1) {
+            if held.is_empty() {
                 break;
             }
-            state = tried.resume(&answers(random), state);
+            held = tried.resume(&answers(random), &held);
         }
-        if let Some(state) = states::random_admitted(random, &tried.tree) {
-            tried.resume(&answers(random), state);
+        if let Some(held) = states::random_admitted(random, &tried.tree) {
+            tried.resume(&answers(random), &held);
         }
     }
 }
@@ -109,8 +112,8 @@ fn trails_from_all_admitted_states_of_small_programs() {
     for number in 0..900 {
         let shape = &SHAPES[number % SHAPES.len()];
         let tried = Tried::new(accepted(random, shape, 14));
-        for state in states::all_admitted(&tried.tree) {
-            tried.resume(&answers(random), state);
+        for held in states::all_admitted(&tried.tree) {
+            tried.resume(&answers(random), &held);
             tries += 1;
         }
     }
@@ -121,7 +124,7 @@ fn trails_from_all_admitted_states_of_small_programs() {
 fn a_ladder_enters_its_choice_once_more_than_its_loops() {
     for steps in 1..=MOST_TRAPS {
         let tried = Tried::new(ladder(steps));
-        let mut state = ladder_state(steps);
+        let mut state = packed(&LADDER_HELD);
         let (closed, trail) = resume_with_trail(
             &tried.table,
             &ladder_answers(steps),

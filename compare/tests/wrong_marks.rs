@@ -23,7 +23,7 @@ fn refusals(nodes: usize, marks_of: fn(&[u8]) -> Vec<u8>) -> Vec<(Vec<u8>, Unmar
     refusals
 }
 
-fn unmarked(before: &[u8], nodes: &[usize]) -> Unmarked {
+fn unmarked(before: &[usize], nodes: &[usize]) -> Unmarked {
     Unmarked {
         before: Some(before.to_vec()),
         answers: Vec::new(),
@@ -36,8 +36,8 @@ fn unmarked(before: &[u8], nodes: &[usize]) -> Unmarked {
 fn without_code_1_under_a_parallel() {
     let mirrored = vec![2, 0, 4, 0, 9, 0, 2, 0, 8, 0, 10, 0, 11, 0, 8, 0];
     let expected = [
-        (mirrored, unmarked(&[1, 0, 0, 1, 0, 0, 0, 0], &[4])),
-        (LOCK.to_vec(), unmarked(&[1, 0, 1, 0, 0, 0, 0, 0], &[1])),
+        (mirrored, unmarked(&[0, 3], &[4])),
+        (LOCK.to_vec(), unmarked(&[0, 2], &[1])),
     ];
     assert_eq!(refusals(8, before_f5), expected);
 }
@@ -46,14 +46,14 @@ fn without_code_1_under_a_parallel() {
 #[test]
 fn without_code_2_under_a_trap() {
     let table = vec![2, 0, 4, 0, 9, 0, 11, 0, 8, 0];
-    let expected = [(table, unmarked(&[1, 0, 0, 0, 0], &[0, 2]))];
+    let expected = [(table, unmarked(&[0], &[0, 2]))];
     assert_eq!(refusals(5, without_caught), expected);
 }
 
 /// A loop of a pause.
 #[test]
 fn by_k_in_place_of_a() {
-    let expected = [(vec![2, 0, 8, 0], unmarked(&[1, 0], &[0]))];
+    let expected = [(vec![2, 0, 8, 0], unmarked(&[0], &[0]))];
     assert_eq!(refusals(2, by_start_sets), expected);
 }
 

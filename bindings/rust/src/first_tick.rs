@@ -43,7 +43,7 @@ pub struct FirstTick<'a> {
 /// does so this one has 0 at the first difference. It can be empty, and has at most 511 answers.
 ///
 /// ```
-/// use bavzhrono::{first_tick_answers, start, SIGNALS, TICK_ANSWERS};
+/// use bavzhrono::{first_tick_answers, start, State, SIGNALS, TICK_ANSWERS};
 ///
 /// // Present 1 then nothing; pause else nothing end; pause.
 /// let table = [1, 0, 2, 0, 9, 0, 1, 0, 6, 1, 2, 0, 9, 0];
@@ -51,9 +51,10 @@ pub struct FirstTick<'a> {
 /// let first = first_tick_answers(&table, &mut lent)?;
 /// assert_eq!((first.entries, first.answers), (5, &[1][..]));
 ///
-/// let closed = start(&table, first.answers, &mut [0; 7], &mut [0; SIGNALS])?;
+/// let (mut state, mut emissions) = (State::EMPTY, [0; SIGNALS]);
+/// let closed = start(&table, first.answers, &mut state, &mut emissions)?;
 /// assert_eq!((closed.taken, closed.entries), (1, 5));
-/// let with_absent = start(&table, &[0], &mut [0; 7], &mut [0; SIGNALS])?;
+/// let with_absent = start(&table, &[0], &mut state, &mut emissions)?;
 /// assert_eq!((with_absent.taken, with_absent.entries), (1, 4));
 /// # Ok::<(), bavzhrono::Refusal>(())
 /// ```

@@ -1,4 +1,4 @@
-use crate::{raw, Refusal};
+use crate::{raw, Refusal, State};
 
 /// How the program finished the instant. Its exits are all caught, so there is no third way.
 #[derive(Clone, Copy, Debug, PartialEq, Eq, Hash)]
@@ -39,31 +39,33 @@ impl Closed {
 ///
 /// - `answers` are those to the presence tests in the order met: 0 absent, any other byte
 ///   present. A started present takes one. Answers left over are not looked at.
-/// - `state` needs n bytes: afterwards 1 at each held pause and 0 elsewhere. The old bytes are not
-///   looked at.
+/// - `state` shows the held pauses afterwards, and nothing else. What it held before is not looked
+///   at.
 /// - `emissions` needs 256 bytes: afterwards byte s is 1 if an emit of signal s was entered, else
 ///   0.
 ///
 /// ```
-/// use bavzhrono::{start, Completion, SIGNALS};
+/// use bavzhrono::{start, Completion, State, SIGNALS};
 ///
 /// // Present 5: then nothing, else pause.
 /// let table = [1, 0, 2, 0, 6, 5];
-/// let mut state = [0; 3];
+/// let mut state = State::EMPTY;
 /// let mut emissions = [0; SIGNALS];
 /// let present = start(&table, &[1], &mut state, &mut emissions)?;
 /// assert_eq!(present.code, Completion::Terminated);
+/// assert!(state.is_empty());
 /// let absent = start(&table, &[0], &mut state, &mut emissions)?;
 /// assert_eq!(absent.code, Completion::Paused);
-/// assert_eq!(state, [0, 1, 0]);
+/// assert!(state.held().eq([1]));
 /// # Ok::<(), bavzhrono::Refusal>(())
 /// ```
 pub fn start(
     table: &[u8],
     answers: &[u8],
-    state: &mut [u8],
+    state: &mut State,
     emissions: &mut [u8],
 ) -> Result<Closed, Refusal> {
+    let state = state.as_mut_bytes();
     Refusal::or_figures(|answer| raw::start(table, answers, state, emissions, answer))
         .map(Closed::of)
 }
@@ -72,26 +74,35 @@ pub fn start(
 /// to 13.
 ///
 /// The buffers are as for [`start`]; a resumed suspend takes an answer too. The state goes in as
-/// well. It is admitted if at least one byte is 1, each 1 stands at a pause, none is above 1, and
+/// well. It is admitted if at least one node is held, each held node is a pause of the program, and
 /// no sequence or present holds pauses in both children.
 ///
 /// ```
-/// use bavzhrono::{resume, Closed, Completion, SIGNALS};
+/// use bavzhrono::{resume, Closed, Completion, State, SIGNALS};
 ///
 /// let table = [2, 0, 3, 7, 9, 0, 8, 0];
-/// let mut state = [1, 0, 0, 0];
+/// let mut state: State = [0].into_iter().collect();
 /// let mut emissions = [0; SIGNALS];
 /// let closed = resume(&table, &[], &mut state, &mut emissions)?;
 /// assert_eq!(closed, Closed { code: Completion::Paused, taken: 0, entries: 6 });
 /// assert_eq!(emissions[7], 1);
+///
+/// // Node 1 is no pause, and the table has no node 4: such a state is not admitted, and stays.
+/// for stray in [1, 4] {
+///     let mut state: State = [0, stray].into_iter().collect();
+///     let refusal = resume(&table, &[], &mut state, &mut emissions).unwrap_err();
+///     assert_eq!(refusal.number, 12);
+///     assert!(state.is_held(stray));
+/// }
 /// # Ok::<(), bavzhrono::Refusal>(())
 /// ```
 pub fn resume(
     table: &[u8],
     answers: &[u8],
-    state: &mut [u8],
+    state: &mut State,
     emissions: &mut [u8],
 ) -> Result<Closed, Refusal> {
+    let state = state.as_mut_bytes();
     Refusal::or_figures(|answer| raw::resume(table, answers, state, emissions, answer))
         .map(Closed::of)
 }

@@ -28,14 +28,16 @@
 //! refused call changes no buffer. [`Sets::of`], [`listing`], [`table_of`], [`Fault::of`],
 //! [`table_in`], [`narrowed_sets`] and [`Plan::of`] bring their own buffers. [`read_place`],
 //! [`part`] and [`first_tick`] need none: they hand back a place of the lent text, a part of the lent
-//! file, and a number. The calls keep no state, and any number of threads may make them at once;
-//! [`raw`] has the exported functions as they are. How much stack they need, [`read`] and
-//! [`read_place`] the most, is said in the header for C, `bindings/c/bavzhrono.h`.
+//! file, and a number. The pauses that a program holds between two instants are a [`State`] of
+//! [`STATE_BYTES`] bytes, which can be stored as they are. The calls keep nothing of their own, and
+//! any number of threads may make them at once; [`raw`] has the exported functions as they are. How
+//! much stack they need, [`read`] and [`read_place`] the most, is said in the header for C,
+//! `bindings/c/bavzhrono.h`.
 //!
 //! A loop of pause and emit 7, analysed and run for two instants:
 //!
 //! ```
-//! use bavzhrono::{resume, start, Closed, CodeSet, Completion, Sets, SIGNALS};
+//! use bavzhrono::{resume, start, Closed, CodeSet, Completion, Sets, State, SIGNALS};
 //!
 //! let table = [2, 0, 3, 7, 9, 0, 8, 0];
 //!
@@ -43,17 +45,40 @@
 //! assert_eq!(sets.analysis.bound(), 8);
 //! assert_eq!(sets.start_sets.last(), Some(&CodeSet(1 << 1)));
 //!
-//! let mut state = [0; 4];
+//! let mut state = State::EMPTY;
 //! let mut emissions = [0; SIGNALS];
 //! let first = start(&table, &[], &mut state, &mut emissions)?;
 //! assert_eq!(first, Closed { code: Completion::Paused, taken: 0, entries: 3 });
-//! assert_eq!(state, [1, 0, 0, 0]);
+//! assert!(state.held().eq([0]));
 //! assert_eq!(emissions[7], 0);
 //!
 //! let second = resume(&table, &[], &mut state, &mut emissions)?;
 //! assert_eq!(second, Closed { code: Completion::Paused, taken: 0, entries: 6 });
-//! assert_eq!(state, [1, 0, 0, 0]);
+//! assert!(state.held().eq([0]));
 //! assert_eq!(emissions[7], 1);
+//! # Ok::<(), bavzhrono::Refusal>(())
+//! ```
+//!
+//! A program whose held pauses are saved on a power warning, as bits, and that goes on from them:
+//!
+//! ```
+//! use bavzhrono::{resume, start, table_of, Completion, State, SIGNALS, STATE_BYTES};
+//!
+//! let table = table_of(b"[await Request; emit Granted || await PowerWarning]")?;
+//! let mut emissions = [0; SIGNALS];
+//! let mut state = State::EMPTY;
+//! start(&table, &[], &mut state, &mut emissions)?;
+//!
+//! // Pauses 0 and 9, one of either await, are held.
+//! let saved: [u8; STATE_BYTES] = *state.as_bytes();
+//! assert_eq!(saved[..3], [0x01, 0x02, 0x00]);
+//!
+//! // Signal 0, the request, is present now, and the power warning is not.
+//! let mut state = State::from_bytes(saved);
+//! let closed = resume(&table, &[1, 0], &mut state, &mut emissions)?;
+//! assert_eq!(closed.code, Completion::Paused);
+//! assert_eq!(emissions[1], 1);
+//! assert!(state.held().eq([9]));
 //! # Ok::<(), bavzhrono::Refusal>(())
 //! ```
 //!
@@ -147,7 +172,7 @@
 //! The first tick of a program, to the entry, and answers that bring it about:
 //!
 //! ```
-//! use bavzhrono::{first_tick, start, table_of, Plan, SIGNALS};
+//! use bavzhrono::{first_tick, start, table_of, Plan, State, SIGNALS};
 //!
 //! let table = table_of(b"present PowerWarning then emit Saved; pause end; emit Ready")?;
 //! assert_eq!(first_tick(&table)?, 5);
@@ -155,7 +180,7 @@
 //! // With the power warning the program pauses after more entries than without.
 //! let plan = Plan::of(&table)?;
 //! assert_eq!(plan.answers, [1]);
-//! let mut state = vec![0; table.len() / 2];
+//! let mut state = State::EMPTY;
 //! let closed = start(&table, &plan.answers, &mut state, &mut [0; SIGNALS])?;
 //! assert_eq!(closed.entries, 5);
 //! # Ok::<(), bavzhrono::Refusal>(())
@@ -173,6 +198,7 @@ mod listing;
 #[allow(unsafe_code)]
 pub mod raw;
 mod refusal;
+mod state;
 mod text;
 mod tick;
 mod ties;
@@ -184,12 +210,16 @@ pub use first_tick::{first_tick, first_tick_answers, FirstTick, Plan};
 pub use instant::{resume, start, Closed, Completion};
 pub use listing::{listing, render};
 pub use refusal::Refusal;
+pub use state::{Held, State};
 pub use text::{read, read_place, table_of, Placed, Reading};
 pub use tick::{tick, Fault, Tick};
 pub use ties::{narrow, narrowed_sets, Tie};
 
 /// The most nodes of a table, of two bytes each.
 pub const MAX_NODES: usize = 1024;
+
+/// The bytes of a [`State`], with a bit for each node that a table can have.
+pub const STATE_BYTES: usize = MAX_NODES / 8;
 
 /// The number of signals, and the length of the emissions and of the ties.
 pub const SIGNALS: usize = 256;

@@ -173,7 +173,8 @@ pub fn analyse(
     }
 }
 
-/// The figures are the code, the answers taken and the entries.
+/// The figures are the code, the answers taken and the entries. The state needs
+/// [`STATE_BYTES`](crate::STATE_BYTES) bytes, those of a [`State`](crate::State).
 pub fn start(
     table: &[u8],
     answers: &[u8],
@@ -184,7 +185,7 @@ pub fn start(
     instant(bavzhrono_start, table, answers, state, emissions, answer)
 }
 
-/// The figures are as for [`start`].
+/// The figures and the state are as for [`start`].
 pub fn resume(
     table: &[u8],
     answers: &[u8],

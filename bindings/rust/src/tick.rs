@@ -28,7 +28,7 @@ pub enum Tick<'a> {
 /// this one has 0 at the first difference. It can be empty, and has at most 511 answers.
 ///
 /// ```
-/// use bavzhrono::{start, tick, Closed, Completion, Tick, TICK_ANSWERS, SIGNALS};
+/// use bavzhrono::{start, tick, Closed, Completion, State, Tick, SIGNALS, TICK_ANSWERS};
 ///
 /// // W8, a loop of two tests: present 5 then pause; present 5 else pause.
 /// let table = [2, 0, 1, 0, 6, 5, 1, 0, 2, 0, 6, 5, 9, 0, 8, 0];
@@ -40,7 +40,7 @@ pub enum Tick<'a> {
 ///
 /// // The body, which here is all before the loop, is started with these answers, and ends.
 /// let body = &table[..2 * node];
-/// let closed = start(body, answers, &mut [0; 7], &mut [0; SIGNALS])?;
+/// let closed = start(body, answers, &mut State::default(), &mut [0; SIGNALS])?;
 /// assert_eq!(closed, Closed { code: Completion::Terminated, taken: 2, entries: 5 });
 /// # Ok::<(), bavzhrono::Refusal>(())
 /// ```

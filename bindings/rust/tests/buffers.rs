@@ -1,4 +1,5 @@
-//! Lent buffers: what is too short is refused and unchanged, and so is what lies past the need.
+//! Lent buffers: what is too short is refused and unchanged, and so is what lies past the need. For
+//! states, whose length the compiler sees to, that is in `held_bits.rs`.
 
 mod common;
 
@@ -36,19 +37,10 @@ fn assert_too_short_to_analyse(shorten: impl Fn(&mut Buffers)) {
 }
 
 #[test]
-fn a_short_state() {
-    assert_too_short_to_run(|lent| lent.state.truncate(3));
-}
-
-#[test]
 fn short_emissions() {
-    assert_too_short_to_run(|lent| lent.emissions.truncate(SIGNALS - 1));
-}
-
-fn assert_too_short_to_run(shorten: impl Fn(&mut Buffers)) {
     let mut lent = Buffers::for_table(W1, 0);
-    lent.state = vec![1, 0, 0, 0];
-    shorten(&mut lent);
+    lent.state = holding(&[0]);
+    lent.emissions.truncate(SIGNALS - 1);
     let before = lent.clone();
     assert_eq!(lent.start(W1, &[]), refused(3, 0));
     assert_eq!(lent.resume(W1, &[]), refused(3, 0));
@@ -69,6 +61,7 @@ fn a_short_text() {
 #[test]
 fn empty_buffers_come_after_the_length_and_before_the_kinds() {
     let mut none = Buffers::for_table(&[], 0);
+    none.emissions.clear();
     assert_eq!(none.analyse(&[]), refused(2, 0));
     assert_eq!(none.analyse(&[12, 0]), refused(3, 0));
     assert_eq!(none.start(&[12, 0], &[]), refused(3, 0));
@@ -95,7 +88,7 @@ fn analyse_leaves_what_lies_past_the_nodes() {
 fn instants_leave_what_lies_past_the_need() {
     let mut lent = Buffers::for_table(W1, MORE);
     let mut expected = lent.clone();
-    expected.state[..4].copy_from_slice(&[1, 0, 0, 0]);
+    expected.state = holding(&[0]);
     expected.emissions[..SIGNALS].fill(0);
     assert_eq!(lent.start(W1, &[]), closed(Completion::Paused, 0, 3));
     assert_eq!(lent, expected);

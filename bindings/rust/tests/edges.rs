@@ -37,9 +37,7 @@ fn the_longest_table_is_listed_and_run() {
     // Loop, nine sequences down to the first pause, and that pause.
     assert_eq!(lent.start(&table, &[]), closed(Completion::Paused, 0, 11));
     assert_eq!(first_tick(&table), Ok(11));
-    let mut held = vec![0; MAX_NODES];
-    held[0] = 1;
-    assert_eq!(lent.state, held);
+    assert_eq!(lent.state, holding(&[0]));
 }
 
 #[test]
@@ -119,17 +117,13 @@ fn code_63_in_all_sets() {
 /// Starts the program and resumes it, with so many entries. Both instants pause with the same
 /// pauses held. It has no test, so that its first tick is the one that there is.
 fn assert_pauses_twice(table: &[u8], held: &[usize], entries: [usize; 2]) {
-    let mut state = vec![0; table.len() / 2];
-    for &pause in held {
-        state[pause] = 1;
-    }
     let mut lent = Buffers::for_table(table, 0);
     let [started, resumed] = entries.map(|entries| closed(Completion::Paused, 0, entries));
     assert_eq!(first_tick(table), Ok(entries[0]));
     assert_eq!(lent.start(table, &[]), started);
-    assert_eq!(lent.state, state);
+    assert_eq!(lent.state, holding(held));
     assert_eq!(lent.resume(table, &[]), resumed);
-    assert_eq!(lent.state, state);
+    assert_eq!(lent.state, holding(held));
 }
 
 #[test]

@@ -6,12 +6,11 @@ mod common;
 use std::thread;
 
 use bavzhrono::{first_tick, first_tick_answers, start, table_of, FirstTick, Plan};
-use bavzhrono::{Closed, Refusal, MAX_NODES, SIGNALS, TICK_ANSWERS};
+use bavzhrono::{Closed, Refusal, State, MAX_NODES, SIGNALS, TICK_ANSWERS};
 use common::*;
 
 fn started(table: &[u8], answers: &[u8]) -> Result<Closed, Refusal> {
-    let mut state = vec![0; table.len() / 2];
-    start(table, answers, &mut state, &mut [0; SIGNALS])
+    start(table, answers, &mut State::default(), &mut [0; SIGNALS])
 }
 
 /// Into answers that just suffice and into longer ones, of which only the front changes.
@@ -207,44 +206,6 @@ fn the_deepest_and_the_longest_do_not_exhaust_the_stack() {
     for (call, stack) in calls {
         let thread = thread::Builder::new().stack_size(stack).spawn(call);
         thread.expect("a thread starts").join().unwrap();
-    }
-}
-
-/// Numbers that look random, the same in every run.
-struct Drawn(u64);
-
-impl Drawn {
-    fn below(&mut self, end: usize) -> usize {
-        self.0 = self
-            .0
-            .wrapping_mul(6364136223846793005)
-            .wrapping_add(1442695040888963407);
-        (self.0 >> 33) as usize % end
-    }
-
-    /// A statement of about so many nodes within so many traps.
-    fn statement(&mut self, nodes: usize, traps: usize) -> Vec<u8> {
-        if nodes < 3 {
-            return match self.below(6) {
-                0 | 1 => vec![1, 0],
-                2 | 3 if traps > 0 => vec![4, self.below(traps.min(3)) as u8],
-                _ => vec![2, 0],
-            };
-        }
-        let one = |drawn: &mut Drawn, traps| drawn.statement(nodes - 1, traps);
-        match self.below(12) {
-            0 => [one(self, traps), vec![5, 0]].concat(),
-            1 => [one(self, traps), vec![7, 0]].concat(),
-            // A pause at the end, so that most bodies do not end at once.
-            2 => [self.statement(nodes - 3, traps), vec![2, 0, 9, 0, 8, 0]].concat(),
-            3 if traps < 62 => [one(self, traps + 1), vec![11, 0]].concat(),
-            drawn => {
-                let first = self.below(nodes - 2) + 1;
-                let kind = [6, 9, 10][drawn % 3];
-                let children = [first, nodes - 1 - first].map(|part| self.statement(part, traps));
-                [children.concat(), vec![kind, 0]].concat()
-            }
-        }
     }
 }
 

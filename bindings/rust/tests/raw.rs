@@ -2,7 +2,8 @@
 
 mod common;
 
-use bavzhrono::{raw, BLOCK, MAX_BLOCKS, MAX_NODES, MAX_SOURCE, MAX_TEXT, SIGNALS, TICK_ANSWERS};
+use bavzhrono::{raw, BLOCK, MAX_BLOCKS, MAX_NODES, MAX_SOURCE, MAX_TEXT, SIGNALS};
+use bavzhrono::{STATE_BYTES, TICK_ANSWERS};
 use common::*;
 
 const FILL_NUMBER: u64 = FILL_SET.0;
@@ -31,7 +32,7 @@ impl Lent {
             any_sets: vec![FILL_NUMBER; MAX_NODES],
             contexts: vec![FILL_NUMBER; MAX_NODES],
             marks: vec![FILL; MAX_NODES],
-            state: vec![FILL; MAX_NODES],
+            state: vec![FILL; STATE_BYTES],
             emissions: vec![FILL; SIGNALS],
             text: vec![FILL; MAX_TEXT],
             table: vec![FILL; 2 * MAX_NODES],
@@ -236,7 +237,8 @@ fn a_refused_file_is_a_number_and_leaves_table_and_answer() {
 #[test]
 fn refusals_3_12_13_and_19_name_no_node_and_leave_the_answer() {
     let mut short = Lent::with_answer(3);
-    (short.marks, short.state, short.text) = (vec![FILL; 3], vec![FILL; 3], vec![FILL; 3]);
+    (short.marks, short.text) = (vec![FILL; 3], vec![FILL; 3]);
+    short.state.truncate(STATE_BYTES - 1);
     short.answers.truncate(TICK_ANSWERS - 1);
     short.ties.truncate(SIGNALS - 1);
     for function in WITH_BUFFERS {

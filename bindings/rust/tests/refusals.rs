@@ -1,11 +1,12 @@
-//! Each check refuses with its number and node, and says why. Check 3 is in `buffers.rs`, checks of
-//! a text are in `text.rs`, checks of a file are in `blocks.rs`, and that of ties is in `ties.rs`.
+//! Each check refuses with its number and node, and says why. Check 3 is in `buffers.rs` and, for a
+//! state, with more of check 12, in `held_bits.rs`; checks of a text are in `text.rs`, checks of a
+//! file are in `blocks.rs`, and that of ties is in `ties.rs`.
 
 mod common;
 
 use std::collections::HashSet;
 
-use bavzhrono::{Completion, Refusal};
+use bavzhrono::{Completion, Refusal, State};
 use common::*;
 
 /// Present 1: then emit 5, else pause.
@@ -74,14 +75,15 @@ fn check_11_a_body_that_ends_at_once() {
 #[test]
 fn check_12_a_state_that_is_not_admitted() {
     let not_admitted = [
-        (W1, vec![0, 0, 0, 0]),
-        (W1, vec![2, 0, 0, 0]),
-        (W1, vec![1, 1, 0, 0]),
-        (PAUSES, vec![1, 1, 0]),
+        (W1, vec![]),
+        (W1, vec![0, 1]),
+        (W1, vec![0, 4]),
+        (W1, vec![0, 1023]),
+        (PAUSES, vec![0, 1]),
     ];
-    for (table, state) in not_admitted {
+    for (table, held) in not_admitted {
         let mut lent = Buffers::for_table(table, 0);
-        lent.state = state;
+        lent.state = holding(&held);
         let before = lent.clone();
         assert_eq!(lent.resume(table, &[]), refused(12, 0));
         assert_eq!(lent, before);
@@ -112,12 +114,12 @@ fn check_13_a_suspend_without_an_answer() {
     assert_eq!(lent.resume(SUSPEND, &[]), refused(13, 0));
     assert_eq!(lent, before);
     assert_eq!(lent.resume(SUSPEND, &[1]), closed(Completion::Paused, 1, 1));
-    assert_eq!(lent.state, [1, 0]);
+    assert_eq!(lent.state, holding(&[0]));
     assert_eq!(
         lent.resume(SUSPEND, &[0]),
         closed(Completion::Terminated, 1, 2)
     );
-    assert_eq!(lent.state, [0, 0]);
+    assert_eq!(lent.state, State::EMPTY);
 }
 
 #[test]

@@ -72,11 +72,11 @@ fn w9_started_and_resumed() {
     let mut lent = Buffers::for_table(W1, 0);
     let mut emissions = [0; 256];
     assert_eq!(lent.start(W1, &[]), closed(Completion::Paused, 0, 3));
-    assert_eq!(lent.state, [1, 0, 0, 0]);
+    assert_eq!(lent.state, holding(&[0]));
     assert_eq!(lent.emissions, emissions);
 
     assert_eq!(lent.resume(W1, &[]), closed(Completion::Paused, 0, 6));
-    assert_eq!(lent.state, [1, 0, 0, 0]);
+    assert_eq!(lent.state, holding(&[0]));
     emissions[7] = 1;
     assert_eq!(lent.emissions, emissions);
 }
@@ -92,7 +92,7 @@ fn the_lock_program_is_marked() {
     let mut lent = Buffers::for_table(LOCK, 0);
     assert_eq!(lent.start(LOCK, &[]), closed(Completion::Paused, 0, 7));
     assert_eq!(lent.resume(LOCK, &[]), closed(Completion::Paused, 0, 15));
-    assert_eq!(lent.state, [1, 0, 1, 0, 0, 0, 0, 0]);
+    assert_eq!(lent.state, holding(&[0, 2]));
 }
 
 #[test]

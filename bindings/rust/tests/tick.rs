@@ -7,7 +7,8 @@ use std::fs;
 use std::path::Path;
 use std::thread;
 
-use bavzhrono::{start, table_of, tick, Analysis, Completion, Fault, Tick, SIGNALS, TICK_ANSWERS};
+use bavzhrono::{start, table_of, tick, Analysis, Completion, Fault, State, Tick};
+use bavzhrono::{SIGNALS, TICK_ANSWERS};
 use common::*;
 
 /// Into answers that just suffice and into longer ones, of which only the front changes.
@@ -30,7 +31,7 @@ fn assert_program_ends(table: &[u8], list: &[u8]) {
     let nodes = table.len() / 2 - 1;
     assert_ends(table, nodes, list);
     let body = &table[..2 * nodes];
-    let closed = start(body, list, &mut vec![0; nodes], &mut [0; SIGNALS]).unwrap();
+    let closed = start(body, list, &mut State::default(), &mut [0; SIGNALS]).unwrap();
     assert_eq!(
         (closed.code, closed.taken),
         (Completion::Terminated, list.len())

@@ -2,6 +2,7 @@
 
 use std::hint::black_box;
 
+use compare::held::STATE_BYTES;
 use compare::instant::SIGNALS;
 use compare::support::blocks::{Bytes, PROGRAM};
 use compare::support::calls::{Calls, COMPARE, FIGURES};
@@ -217,7 +218,7 @@ impl Case {
             any_sets: vec![0; nodes],
             contexts: vec![0; nodes],
             marks: vec![0; nodes],
-            state: vec![0; nodes],
+            state: vec![0; STATE_BYTES],
             emissions: vec![0; SIGNALS],
             answer: vec![0; FIGURES],
             ..Case::default()

@@ -7,7 +7,7 @@ use compare::support::cases::Call;
 use compare::support::edges::{exits_through_all_traps, W1, W2, W8};
 use compare::support::random::Random;
 use compare::support::SEED;
-use compare::{sets, table, Sets};
+use compare::{packed, sets, table, Sets, STATE_BYTES};
 use differential::groups::{refusals, texts};
 use differential::tally::{Difference, Tally};
 use differential::trials::{
@@ -19,6 +19,9 @@ fn assert_noticed(wrong: Calls, trial: &impl Trial) {
     assert!(Tally::new(COMPARE).compare(trial).is_ok());
     assert!(Tally::new(wrong).compare(trial).is_err());
 }
+
+/// Old bytes of a state. To resume from they are not admitted.
+const OLD: [u8; STATE_BYTES] = [9; STATE_BYTES];
 
 /// A file of one block, part 0 of edition 1.
 fn stored_w1() -> Vec<u8> {
@@ -48,7 +51,7 @@ fn a_changed_figure() {
         },
         ..COMPARE
     };
-    assert_noticed(wrong, &Instant::new(Call::Resume, W1, &[], &[1, 0, 0, 0]));
+    assert_noticed(wrong, &Instant::new(Call::Resume, W1, &[], &packed(&[0])));
 }
 
 #[test]
@@ -58,7 +61,7 @@ fn another_number() {
         ..COMPARE
     };
     let present = [2, 0, 2, 0, 6, 0];
-    assert_noticed(wrong, &Instant::new(Call::Start, &present, &[], &[0; 3]));
+    assert_noticed(wrong, &Instant::new(Call::Start, &present, &[], &OLD));
 }
 
 #[test]
@@ -203,8 +206,8 @@ fn an_answer_written_on_a_refusal() {
     let wrong = told_by::<Written>();
     assert_noticed(wrong, &Analysis::new(W2));
     assert_noticed(wrong, &Analysis::with_lengths(W1, [4, 4, 4, 3]));
-    assert_noticed(wrong, &Instant::new(Call::Start, W2, &[], &[9; 2]));
-    assert_noticed(wrong, &Instant::new(Call::Resume, W1, &[], &[0; 4]));
+    assert_noticed(wrong, &Instant::new(Call::Start, W2, &[], &OLD));
+    assert_noticed(wrong, &Instant::new(Call::Resume, W1, &[], &OLD));
     assert_noticed(wrong, &Rendering::new(W2, 12));
     assert_noticed(wrong, &Reading::new(b"exit T"));
     assert_noticed(wrong, &Finding::with_answers(W8, 511));
@@ -225,8 +228,8 @@ fn a_node_that_is_lost() {
     }
     let wrong = told_by::<Lost>();
     assert_noticed(wrong, &Analysis::new(W8));
-    assert_noticed(wrong, &Instant::new(Call::Start, W8, &[], &[9; 8]));
-    assert_noticed(wrong, &Instant::new(Call::Resume, W8, &[], &[9; 8]));
+    assert_noticed(wrong, &Instant::new(Call::Start, W8, &[], &OLD));
+    assert_noticed(wrong, &Instant::new(Call::Resume, W8, &[], &OLD));
     assert_noticed(wrong, &narrowing(W8));
     assert_noticed(wrong, &Planning::new(W8));
     assert_noticed(wrong, &Finding::new(W8).of_most_entries());
@@ -274,7 +277,7 @@ fn a_short_answer_refused_before_1_and_2() {
         );
         assert_noticed(
             wrong,
-            &Instant::new(call, &[2, 0, 8], &[], &[1]).with_answer(1),
+            &Instant::new(call, &[2, 0, 8], &[], &[]).with_answer(1),
         );
     }
     assert_noticed_by(refusals::edges, wrong);
@@ -298,7 +301,7 @@ fn a_short_answer_refused_after_all_other_checks() {
     assert_noticed(wrong, &Analysis::new(W2).with_answer(2));
     assert_noticed(
         wrong,
-        &Instant::new(Call::Resume, W1, &[], &[0; 4]).with_answer(2),
+        &Instant::new(Call::Resume, W1, &[], &OLD).with_answer(2),
     );
     assert_noticed(wrong, &Reading::new(b"end").with_answer(2));
     assert_noticed(wrong, &Finding::new(&[12, 0]).with_answer(2));
@@ -324,7 +327,7 @@ fn a_short_answer_that_is_accepted() {
     assert_noticed(wrong, &Analysis::new(W1).with_answer(2));
     assert_noticed(
         wrong,
-        &Instant::new(Call::Start, W1, &[], &[9; 4]).with_answer(0),
+        &Instant::new(Call::Start, W1, &[], &OLD).with_answer(0),
     );
     assert_noticed(wrong, &Rendering::new(W2, 13).with_answer(1));
     assert_noticed(wrong, &Reading::new(b"pause").with_answer(2));

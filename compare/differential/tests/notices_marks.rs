@@ -8,7 +8,7 @@ use compare::support::wrong_marks::{
     before_f5, by_start_sets, second_as_its_parent, without_caught,
 };
 use compare::support::{runs, SEED};
-use compare::Sets;
+use compare::{packed, Sets};
 use differential::groups::runs::{dropped, Program};
 use differential::tally::Tally;
 use differential::trials::Instant;
@@ -109,13 +109,13 @@ fn marks_that_are_not_needed() {
 }
 
 /// The lock program after its start.
-const HELD: [u8; 8] = [1, 0, 1, 0, 0, 0, 0, 0];
+const HELD: [usize; 2] = [0, 2];
 
 /// The resumption of the lock program on both sides, held against this account of it.
 fn compared(calls: Calls, instant: &runs::Instant) -> Result<(), String> {
     let mut tally = Tally::new(calls);
     let program = Program::of(&tally, LOCK);
-    let trial = Instant::new(Call::Resume, LOCK, &[], &HELD);
+    let trial = Instant::new(Call::Resume, LOCK, &[], &packed(&HELD));
     let outcome = program.compare(&mut tally, &trial, instant);
     outcome.map_err(|difference| difference.to_string())
 }
@@ -127,6 +127,6 @@ fn a_trail_or_a_state_that_is_another() {
     shorter.trail.pop();
     assert!(compared(COMPARE, &shorter).is_err());
     let mut dropped = right;
-    dropped.after[0] = 0;
+    dropped.after.remove(0);
     assert!(compared(COMPARE, &dropped).is_err());
 }

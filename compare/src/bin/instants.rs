@@ -31,9 +31,11 @@
 //! ```
 //!
 //! First come the cases of the instant vectors, with the outcomes of that file.
-//! Then, with outcomes of this implementation, come the further cases of older
-//! vector files (whose own outcomes are not looked at), the instants of runs (in which
-//! the nodes that are entered twice must be those of that file), and own ones.
+//! Then, with outcomes of this implementation, come the further cases of vector
+//! files from before F-11 (whose own outcomes are not looked at), the instants of runs
+//! (in which the nodes that are entered twice must be those of that file), and own ones.
+//! The states of files from before F-11 have one byte a node, and are packed: any byte
+//! that is not 0 becomes a bit that is 1.
 
 use std::collections::HashSet;
 use std::path::Path;
@@ -47,7 +49,7 @@ use compare::support::random::Random;
 use compare::support::runs::{run, Instant};
 use compare::support::vectors::{read_instants, read_runs, InstantVector, Lent, RunVector};
 use compare::support::{arguments, families, hex, SEED};
-use compare::Refusal;
+use compare::{packed, Refusal, STATE_BYTES};
 
 /// Longer edge tables are left out, so that the files stay small.
 const LONGEST_EDGE: usize = 600;
@@ -73,7 +75,7 @@ fn write_files() -> Result<(), String> {
         add_runs_of(&mut files, file)?;
     }
     type Family = fn(&mut Random) -> Vec<Case>;
-    let families: [(&str, Family); 9] = [
+    let families: [(&str, Family); 10] = [
         ("edges", |random| families::edges(random, LONGEST_EDGE)),
         ("small programs, all admitted states", |random| {
             families::small(random, 90)
@@ -83,6 +85,7 @@ fn write_files() -> Result<(), String> {
         ("inadmissible states", |random| {
             families::inadmissible(random, 90, 30)
         }),
+        ("stray bits", families::stray_bits),
         ("lengths of buffers", |random| families::lengths(random, 18)),
         ("damaged tables", |random| families::damaged(random, 90)),
         ("the lock program", families::lock),
@@ -135,7 +138,8 @@ fn add_instants_of(
     written: &mut HashSet<Lent>,
 ) {
     let mut further = 0;
-    for vector in read_instants(file) {
+    let packed = read_instants(file).into_iter().map(InstantVector::packed);
+    for vector in packed {
         if written.insert(vector.lent()) {
             let case = case_of(random, &vector);
             add(files, &case, &case.run());
@@ -184,9 +188,9 @@ fn instants_of_run(line: usize, vector: &RunVector) -> Result<Vec<Instant>, Stri
 /// A start is lent any bytes as its state.
 fn case_of_instant(random: &mut Random, table: &[u8], instant: &Instant) -> Case {
     let case = match &instant.before {
-        Some(held) => Case::new(random, Call::Resume, table, held),
+        Some(held) => Case::new(random, Call::Resume, table, &packed(held)),
         None => {
-            let old = random.bytes(table.len() / 2);
+            let old = random.bytes(STATE_BYTES);
             Case::new(random, Call::Start, table, &old)
         }
     };

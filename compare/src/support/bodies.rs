@@ -3,6 +3,7 @@
 use std::collections::VecDeque;
 
 use super::programs::traps_around;
+use crate::held::STATE_BYTES;
 use crate::instant::{start_with_trail, Code, SIGNALS};
 use crate::table;
 
@@ -27,8 +28,8 @@ impl Body {
     /// Starts it: its code and the number of answers taken, or nothing if there are too
     /// few of them.
     pub fn run(&self, answers: &[u8]) -> Option<(Code, usize)> {
-        let mut state = vec![0; self.table.len() / 2];
-        let started = start_with_trail(&self.table, answers, &mut state, &mut [0; SIGNALS]);
+        let (state, emissions) = (&mut [0; STATE_BYTES], &mut [0; SIGNALS]);
+        let started = start_with_trail(&self.table, answers, state, emissions);
         match started {
             Ok((closed, trail)) => {
                 let entry = trail.iter().find(|entry| entry.node == self.node);

@@ -2,7 +2,7 @@
 
 use super::hex;
 use super::random::Random;
-use crate::{resume, start, Closed, Refusal};
+use crate::{held_nodes, resume, start, Closed, Refusal};
 
 /// Enough answers for a first try of any drawn program.
 const PLENTY: usize = 5000;
@@ -80,10 +80,10 @@ impl Case {
     }
 
     /// The pauses that are held before the instant, or none for a start.
-    pub fn before(&self) -> Option<&[u8]> {
+    pub fn before(&self) -> Option<Vec<usize>> {
         match self.call {
             Call::Start => None,
-            Call::Resume => Some(&self.state),
+            Call::Resume => Some(held_nodes(&self.state)),
         }
     }
 

@@ -3,29 +3,27 @@
 use super::cases::{Call, Case};
 use super::damage::damaged as spoilt;
 use super::edges::{edges as edge_tables, exits_through_all_traps, LOCK, W1};
-use super::programs::{accepted, ladder, ladder_answers, ladder_state, SHAPES};
+use super::programs::{accepted, ladder, ladder_answers, LADDER_HELD, SHAPES};
 use super::random::Random;
 use super::states;
+use super::stray;
 use crate::checks::MOST_TRAPS;
+use crate::held::{packed, Held, STATE_BYTES, STATE_NODES};
 use crate::table::{self, Tree};
 
 /// W9, then a start and a resumption of every edge table up to a length.
 pub fn edges(random: &mut Random, longest: usize) -> Vec<Case> {
     let mut cases = vec![
-        Case::new(random, Call::Start, W1, &[9; 4]),
-        Case::new(random, Call::Resume, W1, &[1, 0, 0, 0]),
+        Case::new(random, Call::Start, W1, &[9; STATE_BYTES]),
+        Case::new(random, Call::Resume, W1, &packed(&[0])),
     ];
     for edge in edge_tables() {
         if edge.table.len() > longest {
             continue;
         }
-        let size = edge.table.len() / 2;
-        let old = random.bytes(size);
+        let old = random.bytes(STATE_BYTES);
         cases.push(Case::new(random, Call::Start, &edge.table, &old).answered(&[1]));
-        let mut first_held = vec![0; size];
-        if let Some(byte) = first_held.first_mut() {
-            *byte = 1;
-        }
+        let first_held = packed(&[0]);
         cases.push(Case::new(random, Call::Resume, &edge.table, &first_held).answered(&[0]));
     }
     cases
@@ -34,8 +32,8 @@ pub fn edges(random: &mut Random, longest: usize) -> Vec<Case> {
 /// The lock program, started, and resumed from the state that this leaves.
 pub fn lock(random: &mut Random) -> Vec<Case> {
     vec![
-        Case::new(random, Call::Start, LOCK, &[9; 8]),
-        Case::new(random, Call::Resume, LOCK, &[1, 0, 1, 0, 0, 0, 0, 0]),
+        Case::new(random, Call::Start, LOCK, &[9; STATE_BYTES]),
+        Case::new(random, Call::Resume, LOCK, &packed(&[0, 2])),
     ]
 }
 
@@ -44,10 +42,10 @@ pub fn last_code(random: &mut Random) -> Vec<Case> {
     let mut cases = Vec::new();
     for table in exits_through_all_traps() {
         let tree = table::read(&table).expect("an accepted program");
-        let old = random.bytes(tree.size());
+        let old = random.bytes(STATE_BYTES);
         cases.push(Case::new(random, Call::Start, &table, &old));
-        for state in states::all_admitted(&tree) {
-            cases.push(Case::new(random, Call::Resume, &table, &state));
+        for held in states::all_admitted(&tree) {
+            cases.push(Case::new(random, Call::Resume, &table, &packed(&held)));
         }
     }
     cases
@@ -62,11 +60,11 @@ pub fn small(random: &mut Random, programs: usize) -> Vec<Case> {
         if states::pauses(&tree).len() > 4 {
             continue;
         }
-        let old = random.bytes(tree.size());
+        let old = random.bytes(STATE_BYTES);
         let case = Case::new(random, Call::Start, &table, &old);
         cases.extend(case.with_all_counts(random));
-        for state in states::all_admitted(&tree) {
-            let case = Case::new(random, Call::Resume, &table, &state);
+        for held in states::all_admitted(&tree) {
+            let case = Case::new(random, Call::Resume, &table, &packed(&held));
             cases.extend(case.with_all_counts(random));
         }
     }
@@ -79,15 +77,15 @@ pub fn larger(random: &mut Random, programs: usize) -> Vec<Case> {
     for number in 0..programs {
         let most = if number % 8 == 0 { 1024 } else { 120 };
         let (table, tree) = program(random, number, most / 2, most);
-        let length = tree.size() + random.below(4);
+        let length = STATE_BYTES + random.below(4);
         let old = random.bytes(length);
         let case = Case::new(random, Call::Start, &table, &old).with_exact_answers(random);
         let left = case.run().state;
         cases.push(case);
         cases.extend(larger_resumption(random, &table, &left));
         for _ in 0..2 {
-            if let Some(state) = states::random_admitted(random, &tree) {
-                cases.extend(larger_resumption(random, &table, &state));
+            if let Some(held) = states::random_admitted(random, &tree) {
+                cases.extend(larger_resumption(random, &table, &packed(&held)));
             }
         }
     }
@@ -119,12 +117,12 @@ pub fn runs(random: &mut Random, programs: usize, most_nodes: usize) -> Vec<Case
 /// Some instants of an accepted program: a start, then each from the state the last one left.
 pub fn run(random: &mut Random, table: &[u8]) -> Vec<Case> {
     let mut cases = Vec::new();
-    let old = random.bytes(table.len() / 2);
+    let old = random.bytes(STATE_BYTES);
     let mut case = Case::new(random, Call::Start, table, &old).with_exact_answers(random);
     for _ in 0..8 {
         let left = case.run().state;
         cases.push(case);
-        if !left.contains(&1) {
+        if Held::read(&left).is_empty() {
             break;
         }
         case = Case::new(random, Call::Resume, table, &left).with_exact_answers(random);
@@ -137,11 +135,11 @@ pub fn answer_counts(random: &mut Random, programs: usize, most_nodes: usize) ->
     let mut cases = Vec::new();
     for number in 0..programs {
         let (table, tree) = program(random, number, most_nodes / 2, most_nodes);
-        let old = random.bytes(tree.size());
+        let old = random.bytes(STATE_BYTES);
         let start = Case::new(random, Call::Start, &table, &old);
         cases.extend(counted(random, start));
-        if let Some(state) = states::random_admitted(random, &tree) {
-            let resume = Case::new(random, Call::Resume, &table, &state);
+        if let Some(held) = states::random_admitted(random, &tree) {
+            let resume = Case::new(random, Call::Resume, &table, &packed(&held));
             cases.extend(counted(random, resume));
         }
     }
@@ -168,8 +166,7 @@ pub fn ladders(random: &mut Random) -> Vec<Case> {
     for steps in [1, 2, 3, 5, 12, 32, MOST_TRAPS] {
         let table = ladder(steps);
         let answers = ladder_answers(steps);
-        let state = ladder_state(steps);
-        let case = Case::new(random, Call::Resume, &table, &state);
+        let case = Case::new(random, Call::Resume, &table, &packed(&LADDER_HELD));
         cases.push(case.clone().answered(&answers));
         cases.push(case.clone().answered(&answers[..answers.len() - 1]));
         for _ in 0..3 {
@@ -184,12 +181,13 @@ pub fn inadmissible(random: &mut Random, programs: usize, most_nodes: usize) -> 
     let mut cases = Vec::new();
     for number in 0..programs {
         let (table, tree) = program(random, number, 3, most_nodes);
-        let Some(state) = states::random_admitted(random, &tree) else {
+        let Some(held) = states::random_admitted(random, &tree) else {
             continue;
         };
-        let Some(mut bad) = states::inadmissible(random, &tree, &state) else {
+        let Some(bad) = states::inadmissible(random, &tree, &held) else {
             continue;
         };
+        let mut bad = packed(&bad).to_vec();
         if random.one_in(4) {
             let case = Case::new(random, Call::Start, &table, &bad);
             cases.push(case.with_exact_answers(random));
@@ -204,6 +202,28 @@ pub fn inadmissible(random: &mut Random, programs: usize, most_nodes: usize) -> 
     cases
 }
 
+/// One more bit at positions around the ends of a byte, of the nodes and of the state. There
+/// is one program of each size.
+pub fn stray_bits(random: &mut Random) -> Vec<Case> {
+    let mut cases = Vec::new();
+    let programs = stray::programs(random);
+    for (number, of_size) in programs.chunks(stray::OF_EACH_SIZE).enumerate() {
+        let (table, held) = &of_size[number % of_size.len()];
+        let nodes = table.len() / 2;
+        let last = STATE_NODES - 1;
+        let drawn = random.below(STATE_NODES);
+        for at in [0, 7, 8, nodes - 1, nodes, nodes + 1, last - 7, last, drawn] {
+            let state = packed(&states::with_one_more(held, at.min(last)));
+            let case = Case::new(random, Call::Resume, table, &state);
+            cases.push(case.with_exact_answers(random));
+        }
+    }
+    cases
+}
+
+/// Lengths of a lent state: it takes 128 bytes, however few nodes there are.
+const STATE_LENGTHS: [usize; 6] = [0, 1, 127, 128, 129, 200];
+
 /// Buffers too short, exact, and longer than needed with guard bytes.
 pub fn lengths(random: &mut Random, programs: usize) -> Vec<Case> {
     let mut cases = Vec::new();
@@ -213,13 +233,11 @@ pub fn lengths(random: &mut Random, programs: usize) -> Vec<Case> {
             continue;
         };
         for call in [Call::Start, Call::Resume] {
-            for state_length in [0, tree.size() - 1, tree.size(), tree.size() + 7] {
+            for state_length in STATE_LENGTHS {
                 let emissions_length = *random.pick(&[0, 255, 256, 256, 256, 257, 320]);
-                let mut state = held.clone();
+                let mut state = packed(&held).to_vec();
+                state.extend(random.bytes(100));
                 state.truncate(state_length);
-                while state.len() < state_length {
-                    state.push(random.byte());
-                }
                 let case = Case::new(random, call, &table, &state);
                 let mut case = case.with_exact_answers(random);
                 case.emissions_length = emissions_length;
@@ -238,10 +256,8 @@ pub fn damaged(random: &mut Random, programs: usize) -> Vec<Case> {
         let (table, _) = program(random, number, 3, 24);
         let bad = spoilt(random, &table);
         let call = *random.pick(&[Call::Start, Call::Resume]);
-        let mut state = vec![0; bad.len() / 2];
-        if let Some(node) = bad.chunks_exact(2).position(|node| node[0] == 2) {
-            state[node] = 1;
-        }
+        let pause = bad.chunks_exact(2).position(|node| node[0] == 2);
+        let mut state = packed(pause.as_slice()).to_vec();
         if random.one_in(6) {
             state.pop();
         }

@@ -1,6 +1,8 @@
 //! How the nodes of a table belong together, for what is worked out slowly and apart from
 //! the fast ways.
 
+use std::iter::successors;
+
 pub struct Links {
     pub children: Vec<Vec<usize>>,
     /// The parent of each node; the program has none.
@@ -27,5 +29,15 @@ impl Links {
             unused.push(node);
         }
         Links { children, parents }
+    }
+
+    /// Whether a node is the statement or stands within it.
+    pub fn is_within(&self, node: usize, statement: usize) -> bool {
+        self.path(node).any(|around| around == statement)
+    }
+
+    /// The node, its parent, and so on up to the program.
+    pub fn path(&self, node: usize) -> impl Iterator<Item = usize> + '_ {
+        successors(Some(node), |&node| self.parents[node])
     }
 }

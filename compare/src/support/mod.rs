@@ -9,6 +9,7 @@ pub mod block_edges;
 pub mod block_files;
 pub mod blocks;
 pub mod bodies;
+pub mod byte_states;
 pub mod calls;
 pub mod cases;
 pub mod chart;
@@ -37,6 +38,7 @@ pub mod reentries;
 pub mod runs;
 pub mod starts;
 pub mod states;
+pub mod stray;
 pub mod text_edges;
 pub mod texts;
 pub mod tick_edges;
@@ -48,6 +50,7 @@ pub mod wrong_blocks;
 pub mod wrong_marks;
 pub mod wrong_plans;
 pub mod wrong_readers;
+pub mod wrong_states;
 pub mod wrong_ties;
 
 /// The seed of every generated table and instant.

@@ -305,12 +305,8 @@ pub fn ladder(steps: usize) -> Vec<u8> {
     table
 }
 
-/// The state of a ladder that holds only the innermost pause.
-pub fn ladder_state(steps: usize) -> Vec<u8> {
-    let mut state = vec![0; ladder(steps).len() / 2];
-    state[0] = 1;
-    state
-}
+/// The innermost pause of a ladder: the state from which it is climbed.
+pub const LADDER_HELD: [usize; 1] = [0];
 
 /// Answers that climb the whole ladder: exits to each trap, innermost first,
 /// then the pause.

@@ -31,7 +31,7 @@ pub fn ever_reentered(table: &[u8]) -> BTreeSet<usize> {
 /// An instant of a run in which nodes are entered again without a mark.
 #[derive(Debug, PartialEq, Eq)]
 pub struct Unmarked {
-    pub before: Option<Vec<u8>>,
+    pub before: Option<Vec<usize>>,
     pub answers: Vec<u8>,
     pub nodes: Vec<usize>,
 }

@@ -3,35 +3,36 @@
 use std::collections::{HashSet, VecDeque};
 
 use super::answers::every_list;
+use crate::held::{held_nodes, packed, STATE_BYTES};
 use crate::instant::SIGNALS;
 use crate::{resume_with_trail, start_with_trail, Closed, Entry, Refusal};
 
 /// An instant that has closed.
 #[derive(Clone, Debug)]
 pub struct Instant {
-    /// The pauses held before, or none for a start.
-    pub before: Option<Vec<u8>>,
+    /// The pauses held before, lowest first, or none for a start.
+    pub before: Option<Vec<usize>>,
     pub answers: Vec<u8>,
     pub closed: Closed,
     pub trail: Vec<Entry>,
-    /// The pauses held afterwards.
-    pub after: Vec<u8>,
+    /// The pauses held afterwards, lowest first.
+    pub after: Vec<usize>,
 }
 
 impl Instant {
     /// Resumes the program from the pauses held before or, without them, starts it.
-    pub fn of(table: &[u8], before: Option<&[u8]>, answers: &[u8]) -> Result<Instant, Refusal> {
-        let (call, mut state): (Call, Vec<u8>) = match before {
-            None => (start_with_trail, vec![0; table.len() / 2]),
-            Some(held) => (resume_with_trail, held.to_vec()),
+    pub fn of(table: &[u8], before: Option<&[usize]>, answers: &[u8]) -> Result<Instant, Refusal> {
+        let (call, mut state): (Call, [u8; STATE_BYTES]) = match before {
+            None => (start_with_trail, [0xff; STATE_BYTES]),
+            Some(held) => (resume_with_trail, packed(held)),
         };
         let (closed, trail) = call(table, answers, &mut state, &mut [0; SIGNALS])?;
         Ok(Instant {
-            before: before.map(<[u8]>::to_vec),
+            before: before.map(<[usize]>::to_vec),
             answers: answers.to_vec(),
             closed,
             trail,
-            after: state,
+            after: held_nodes(&state),
         })
     }
 }
@@ -73,7 +74,7 @@ pub fn every_instant<E>(
 /// Visits the instants from one state, or the starts, with all lists of answers.
 pub fn every_instant_from<E>(
     table: &[u8],
-    before: Option<&[u8]>,
+    before: Option<&[usize]>,
     mut visit: impl FnMut(Instant) -> Result<(), E>,
 ) -> Result<(), E> {
     every_list(|answers| match Instant::of(table, before, answers) {

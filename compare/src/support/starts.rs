@@ -5,6 +5,7 @@ use std::collections::VecDeque;
 
 use crate::checks;
 use crate::first_tick::{most_by_code, Most};
+use crate::held::STATE_BYTES;
 use crate::instant::{start_with_trail, Closed, SIGNALS};
 
 /// A start with the list of answers that it takes in full.
@@ -39,8 +40,8 @@ impl Alone {
     /// The code, answers and entries of the statement, or nothing if there are too few
     /// answers.
     pub fn start(&self, answers: &[u8]) -> Option<Closed> {
-        let mut state = vec![0; self.table.len() / 2];
-        match start_with_trail(&self.table, answers, &mut state, &mut [0; SIGNALS]) {
+        let (state, emissions) = (&mut [0; STATE_BYTES], &mut [0; SIGNALS]);
+        match start_with_trail(&self.table, answers, state, emissions) {
             Ok((closed, trail)) => {
                 // The traps are entered first, and they add no other entry.
                 let own = trail[self.traps];

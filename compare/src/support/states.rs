@@ -1,6 +1,7 @@
-//! States to resume from.
+//! States to resume from, as lists of the nodes that are held, lowest first.
 
 use super::random::Random;
+use crate::held::{held_nodes, Held, STATE_BYTES, STATE_NODES};
 use crate::instant::admitted;
 use crate::table::{Statement, Tree};
 
@@ -12,29 +13,30 @@ pub fn pauses(tree: &Tree) -> Vec<usize> {
 }
 
 /// Every admitted state, for programs of few pauses.
-pub fn all_admitted(tree: &Tree) -> Vec<Vec<u8>> {
+pub fn all_admitted(tree: &Tree) -> Vec<Vec<usize>> {
     let pauses = pauses(tree);
-    let mut states = Vec::new();
-    for subset in 1u64..1 << pauses.len() {
-        let mut state = vec![0; tree.size()];
-        for (place, &pause) in pauses.iter().enumerate() {
-            state[pause] = u8::from(subset >> place & 1 == 1);
-        }
-        if admitted(tree, &state) {
-            states.push(state);
-        }
-    }
+    let subset = |number: u64| {
+        let places = (0..pauses.len()).filter(move |place| number >> place & 1 == 1);
+        places.map(|place| pauses[place]).collect()
+    };
+    let states = (1..1 << pauses.len()).map(subset);
     states
+        .filter(|held: &Vec<usize>| is_admitted(tree, held))
+        .collect()
+}
+
+pub fn is_admitted(tree: &Tree, held: &[usize]) -> bool {
+    admitted(tree, &Held::of(held))
 }
 
 /// A random admitted state, or none for a program without a pause.
-pub fn random_admitted(random: &mut Random, tree: &Tree) -> Option<Vec<u8>> {
-    let mut state = vec![0; tree.size()];
+pub fn random_admitted(random: &mut Random, tree: &Tree) -> Option<Vec<usize>> {
     if !has_pause(tree, tree.root()) {
         return None;
     }
-    hold(random, tree, tree.root(), &mut state);
-    Some(state)
+    let mut held = Vec::new();
+    hold(random, tree, tree.root(), &mut held);
+    Some(held)
 }
 
 fn has_pause(tree: &Tree, node: usize) -> bool {
@@ -42,14 +44,14 @@ fn has_pause(tree: &Tree, node: usize) -> bool {
 }
 
 /// Holds at least one pause within a statement that has one.
-fn hold(random: &mut Random, tree: &Tree, node: usize, state: &mut [u8]) {
+fn hold(random: &mut Random, tree: &Tree, node: usize, held: &mut Vec<usize>) {
     match tree.statements[node] {
         Statement::Nothing | Statement::Emit { .. } | Statement::Exit { .. } => {}
-        Statement::Pause => state[node] = 1,
+        Statement::Pause => held.push(node),
         Statement::Signal { body }
         | Statement::Suspend { body }
         | Statement::Loop { body }
-        | Statement::Trap { body } => hold(random, tree, body, state),
+        | Statement::Trap { body } => hold(random, tree, body, held),
         Statement::Present {
             then: one,
             otherwise: other,
@@ -61,9 +63,9 @@ fn hold(random: &mut Random, tree: &Tree, node: usize, state: &mut [u8]) {
             let one_is_free = has_pause(tree, one);
             let other_is_free = has_pause(tree, other);
             if one_is_free && (!other_is_free || random.one_in(2)) {
-                hold(random, tree, one, state);
+                hold(random, tree, one, held);
             } else {
-                hold(random, tree, other, state);
+                hold(random, tree, other, held);
             }
         }
         Statement::Parallel { left, right } => {
@@ -73,10 +75,10 @@ fn hold(random: &mut Random, tree: &Tree, node: usize, state: &mut [u8]) {
                 .collect();
             if branches.len() == 2 && random.one_in(3) {
                 let chosen = random.below(2);
-                hold(random, tree, branches[chosen], state);
+                hold(random, tree, branches[chosen], held);
             } else {
                 for branch in branches {
-                    hold(random, tree, branch, state);
+                    hold(random, tree, branch, held);
                 }
             }
         }
@@ -84,24 +86,21 @@ fn hold(random: &mut Random, tree: &Tree, node: usize, state: &mut [u8]) {
 }
 
 /// Spoils an admitted state, or none if that doesn't succeed.
-pub fn inadmissible(random: &mut Random, tree: &Tree, state: &[u8]) -> Option<Vec<u8>> {
-    let mut bad = state.to_vec();
-    match random.below(5) {
-        0 => bad.fill(0),
-        1 => {
-            let held: Vec<usize> = (0..state.len()).filter(|&at| state[at] == 1).collect();
-            bad[*random.pick(&held)] = *random.pick(&[2, 3, 128, 255]);
-        }
-        2 => {
-            let node = random.below(tree.size());
-            bad[node] = random.between(1, 255) as u8;
-        }
-        3 => {
-            for pause in pauses(tree) {
-                bad[pause] = 1;
-            }
-        }
-        _ => bad.fill(1),
-    }
-    (!admitted(tree, &bad)).then_some(bad)
+pub fn inadmissible(random: &mut Random, tree: &Tree, held: &[usize]) -> Option<Vec<usize>> {
+    let bad = match random.below(6) {
+        0 => Vec::new(),
+        1 => with_one_more(held, random.below(tree.size())),
+        2 => with_one_more(held, random.between(tree.size() - 1, STATE_NODES - 1)),
+        3 => pauses(tree),
+        4 => (0..*random.pick(&[tree.size(), STATE_NODES])).collect(),
+        _ => held_nodes(&random.bytes(STATE_BYTES)),
+    };
+    (!is_admitted(tree, &bad)).then_some(bad)
+}
+
+/// The state with one more node held, if it is not held already.
+pub fn with_one_more(held: &[usize], node: usize) -> Vec<usize> {
+    let mut more = Held::of(held);
+    more.hold(node);
+    more.nodes().collect()
 }

@@ -4,6 +4,7 @@ use std::collections::HashMap;
 use std::fs;
 use std::path::{Path, PathBuf};
 
+use super::byte_states::packed;
 use super::cases::Call;
 use super::hex;
 use crate::{Closed, Refusal};
@@ -28,6 +29,32 @@ impl InstantVector {
     pub fn lent(&self) -> Lent {
         let (table, answers) = (self.table.clone(), self.answers.clone());
         (self.call, table, answers, self.state.clone())
+    }
+
+    /// A case from before F-11 as one of today: its states packed.
+    pub fn packed(self) -> InstantVector {
+        let nodes = self.nodes();
+        let outcome = self.outcome.map(|closed| VectorClosed {
+            after: packed(nodes, &closed.after),
+            ..closed
+        });
+        InstantVector {
+            state: packed(nodes, &self.state),
+            outcome,
+            ..self
+        }
+    }
+
+    /// Whether a case from before F-11 was refused by 12 and has a byte above 1 at a pause,
+    /// so that the packed state may be admitted.
+    pub fn loses_its_refusal(&self) -> bool {
+        let mut nodes = self.table.chunks_exact(2).zip(&self.state);
+        let by_12 = matches!(self.outcome, Err(Refusal { number: 12, .. }));
+        by_12 && nodes.any(|(node, &byte)| node[0] == 2 && byte > 1)
+    }
+
+    pub fn nodes(&self) -> usize {
+        self.table.len() / 2
     }
 }
 
@@ -102,6 +129,7 @@ pub fn read_listings(file: &Path) -> Vec<ListingVector> {
         .collect()
 }
 
+/// Without `packed`, the states are as the file has them.
 pub fn read_instants(file: &Path) -> Vec<InstantVector> {
     read_objects(file)
         .iter()

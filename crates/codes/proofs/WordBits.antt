@@ -2,7 +2,7 @@
 use mathlib.Core.Path.{_≡_, refl, sym, _∙_}
 use mathlib.Core.Bool.{Bool, true, false, false≢true}
 use mathlib.Core.Logic.{_⊎_, inl, inr}
-use Prim.Native.Nat.{ℕ, zero, suc, _/_, _%_, _^_, _≤_, _<_}
+use Prim.Native.Nat.{ℕ, zero, suc, _+_, _*_, _/_, _%_, _^_, _≤_, _<_}
 use native.Mathlib.Nat.{le-refl, zero-lt-suc, mod-lt, mod-eq-of-lt, eq-or-lt-of-le, div-lt-iff-lt-mul}
 use native.Mathlib.Decide.{decLe, decLt}
 use native.Mathlib.Omega.{arith}
@@ -25,12 +25,12 @@ bit-has : (b : Bool) → eqb (bit b % 2) 1 ≡ b
 bit-has true = refl
 bit-has false = refl
 
-below-lt : (n : ℕ) (a : Codes) → wordBelow n a < 2 ^ n
+pub below-lt : (n : ℕ) (a : Codes) → wordBelow n a < 2 ^ n
 unfolding wordBelow
 below-lt zero a = le-refl 1
 below-lt (suc n) a = omega (arith, digits-lt (bit-lt (a n)) (below-lt n a))
 
-∋-below : (n : ℕ) (a : Codes) (k : ℕ) → k < n → (wordBelow n a ∋ k) ≡ a k
+pub ∋-below : (n : ℕ) (a : Codes) (k : ℕ) → k < n → (wordBelow n a ∋ k) ≡ a k
 unfolding wordBelow _∋_
 ∋-below zero a k h = absurd (omega arith)
 ∋-below (suc n) a k h = go (eq-or-lt-of-le (omega arith)) (∋-below n a k)
@@ -39,18 +39,31 @@ unfolding wordBelow _∋_
     go (inl e) ih = rw (e, high (bit (a n)) n (below-lt n a)) (bit-has (a n))
     go (inr l) ih = sym (∋-mod (wordBelow (suc n) a) n k l) ∙ rw (low (bit (a n)) n (below-lt n a)) (ih l)
 
-below-same : (n : ℕ) (a b : Codes) → ((k : ℕ) → k < n → a k ≡ b k) → wordBelow n a ≡ wordBelow n b
+pub below-same : (n : ℕ) (a b : Codes) → ((k : ℕ) → k < n → a k ≡ b k) → wordBelow n a ≡ wordBelow n b
 unfolding wordBelow
 below-same zero a b h = refl
 below-same (suc n) a b h = rw (h n (le-refl (suc n)), below-same n a b (λ k l. h k (omega arith)))
 
-below-set : (n w : ℕ) → w < 2 ^ n → wordBelow n (setOf w) ≡ w
+pub below-set : (n w : ℕ) → w < 2 ^ n → wordBelow n (setOf w) ≡ w
 unfolding wordBelow _∋_
 below-set zero w h = omega arith
 below-set (suc n) w h =
     let top : w / 2 ^ n < 2 = div-lt-iff-lt-mul (pow-pos n) .1 (omega arith) in
     let rest : wordBelow n (setOf w) ≡ w % 2 ^ n = below-same n (setOf w) (setOf (w % 2 ^ n)) (λ k l. sym (∋-mod w n k l)) ∙ below-set n (w % 2 ^ n) (mod-lt w (pow-pos n)) in
     rw (mod-eq-of-lt top, bit-test (w / 2 ^ n) top, rest) (split w n)
+
+pub below-none : (n : ℕ) (a : Codes) → ((k : ℕ) → k < n → a k ≡ false) → wordBelow n a ≡ 0
+below-none n a none = below-same n a (setOf 0) (λ k h. none k h ∙ sym (∋-none k)) ∙ below-set n 0 (pow-pos n)
+
+-- the lowest bit, and those above it
+pub below-first : (n : ℕ) (a : Codes) → wordBelow (suc n) a ≡ bit (a 0) + 2 * wordBelow n (λ k. a (suc k))
+unfolding wordBelow
+below-first zero a = omega arith
+below-first (suc n) a = go (a (suc n)) (below-first n a)
+  where
+    go : (b : Bool) → wordBelow (suc n) a ≡ bit (a 0) + 2 * wordBelow n (λ k. a (suc k)) → bit b * 2 ^ suc n + wordBelow (suc n) a ≡ bit (a 0) + 2 * (bit b * 2 ^ n + wordBelow n (λ k. a (suc k)))
+    go true e = omega arith
+    go false e = omega arith
 
 -- ---- at 64 bits
 

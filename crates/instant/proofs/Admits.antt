@@ -17,6 +17,7 @@ use Rattle.esterel.proofs.Parts.{part-at}
 use Rattle.esterel.proofs.Nodes.{Sits, sits-own}
 use Rattle.esterel.proofs.Ranges.{Over, over-join, over-last}
 use Rattle.esterel.proofs.Sizes.{length-nodes}
+use Rattle.packing.specs.Packing.{unpack, isClearFrom, admits}
 use Rattle.instant.specs.Admission.{countHeld, Counted, byteFits, childrenApart, nodeFits}
 
 -- counts and holds
@@ -146,3 +147,14 @@ module _ (p : Stmt) (state : List ℕ) (room : size p ≤ length state) where
         sym (both (own-holds ∙ lt-ltb 0 (getD counts n 0) (omega (arith, some)))
         (both (all-bytes (nodes p) own own-length (λ j k. let l : j < size p = omega (arith, length-nodes p) in rw (own-byte j l) (left (byteFits (statementAt (nodes p) j) (getD state j 0)) _ (o .fits j (omega arith)))))
         (apart-each (nodes p) state p 0 (sits-own p) (λ j k l. right (byteFits (statementAt (nodes p) j) (getD state j 0)) (o .fits j (omega arith))))))
+
+-- the bits from the program's end on
+module _ (p : Stmt) (state : List ℕ) {b : Bool} {n : ℕ} (e : b ≡ isClearFrom n state) (en : n ≡ size p) where
+  clear-is : isClearFrom (size p) state ≡ b
+  clear-is = ap (λ i. isClearFrom i state) (sym en) ∙ sym e
+
+  pub strays : b ≡ false → false ≡ admits p state
+  strays z = sym (ap (λ x. x && admitted p (unpack (size p) state)) (clear-is ∙ z))
+
+  pub none-strays : b ≡ true → (held : List ℕ) → take (size p) held ≡ unpack (size p) state → admitted p (take (size p) held) ≡ admits p state
+  none-strays z held own = ap (admitted p) own ∙ sym (ap (λ x. x && admitted p (unpack (size p) state)) (clear-is ∙ z))

@@ -17,7 +17,8 @@ use Rattle.instant.specs.Run.{stmtAt, RanIs, ran, starves}
 use Rattle.instant.specs.declared.Ran.{Ran}
 use Rattle.instant.specs.declared.Ran.the-variants.{Closed, Starved}
 use Rattle.table.proofs.Buffers.{sets-append}
-use Rattle.instant.proofs.Sets.{sets-at, part-behind, none-at, sets-over, sets-behind, sets-zeros, Zero, zeros-after, zeros-before}
+use Rattle.packing.proofs.Zeros.{none-at}
+use Rattle.instant.proofs.Sets.{sets-at, part-behind, sets-over, sets-behind, sets-zeros, Zero, zeros-after, zeros-before}
 
 -- the emissions of a trail after another
 marked-append : (a b e : List ℕ) → marked (a ++ b) e ≡ marked b (marked a e)

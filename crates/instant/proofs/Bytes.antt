@@ -11,7 +11,8 @@ use borrow.Author.Tests.{lt-ltb, le-ltb}
 use Rattle.esterel.specs.Statement.{Unary, Binary, Stmt, one, two, size}
 use Rattle.esterel.specs.Instant.{holds}
 use Rattle.esterel.proofs.Held.{Fits, fits-one, fits-two, fits-length}
-use Rattle.instant.proofs.Sets.{Zero, none-at}
+use Rattle.packing.proofs.Zeros.{none-at}
+use Rattle.instant.proofs.Sets.{Zero}
 
 -- the elements that stand there already
 pub sets-same : (l : List ℕ) (f n : ℕ) → f + n ≤ length l → sets l f (take n (drop f l)) ≡ l

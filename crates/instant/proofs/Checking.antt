@@ -2,21 +2,19 @@
 use mathlib.Core.Path.{_≡_, subst}
 use mathlib.Core.Bool.{Bool}
 use mathlib.Core.List.{List}
-use Prim.Native.Nat.{ℕ, _/_}
-use native.Mathlib.Omega.{arith}
+use Prim.Native.Nat.{ℕ}
 use borrow.Author.Tests.{leb-true}
 use lib.Dec.{leb}
-use lib.ListN.{length}
 use Rattle.codes.proofs.Bools.{left, right}
 use Rattle.esterel.specs.Limits.{signals}
 use Rattle.table.specs.declared.Check.{Check}
 use Rattle.analysis.specs.Analysis.{SizesChecked}
-use Rattle.analysis.proofs.Analyses.{nodes-are}
+use Rattle.packing.specs.Packing.{stateBytes}
 use Rattle.instant.specs.Calls.{roomFor, CallChecked}
 
-pub call-checked : {t : List ℕ} (state emissions : ℕ) {sizes : List ℕ} {room : Bool} {r : Check} → room ≡ roomFor (length t / 2) state emissions → SizesChecked room t sizes r → CallChecked t state emissions sizes r
+pub call-checked : {t : List ℕ} (state emissions : ℕ) {sizes : List ℕ} {room : Bool} {r : Check} → room ≡ roomFor state emissions → SizesChecked room t sizes r → CallChecked t state emissions sizes r
 call-checked {t} state emissions {sizes} {r = r} e c =
-    let o : SizesChecked (roomFor (length t / 2) state emissions) t sizes r = subst (λ b. SizesChecked b t sizes r) e c in
+    let o : SizesChecked (roomFor state emissions) t sizes r = subst (λ b. SizesChecked b t sizes r) e c in
     record {
       answer = o .answer;
       ready = λ z.
@@ -25,7 +23,7 @@ call-checked {t} state emissions {sizes} {r = r} e c =
             verdict = s .verdict;
             runnable = record { measured = s .measured; verdict = s .ready .verdict };
             few = s .few;
-            places = omega (arith, nodes-are (s .ready), leb-true (length t / 2) state (left (leb (length t / 2) state) (leb signals emissions) (s .suffices)));
-            marks = leb-true signals emissions (right (leb (length t / 2) state) (s .suffices));
+            places = leb-true stateBytes state (left (leb stateBytes state) (leb signals emissions) (s .suffices));
+            marks = leb-true signals emissions (right (leb stateBytes state) (s .suffices));
           };
     }

@@ -5,7 +5,7 @@ use mathlib.Core.Bool.{true}
 use mathlib.Core.List.{List, _++_}
 use Prim.Native.Nat.{ℕ, zero, suc, _+_, _-_, _/_, _≤_, _<_}
 use native.Mathlib.Omega.{arith}
-use lib.ListN.{length, take, drop, length-drop, length-replicate, length-append}
+use lib.ListN.{length, getD, take, drop, length-drop, length-replicate, length-append}
 use lib.Seq.{sets, sets-eq, take-all, take-at, length-take-le}
 use Rattle.esterel.specs.Limits.{signals}
 use Rattle.esterel.specs.Statement.{Stmt, size, nodes}
@@ -18,6 +18,9 @@ use Rattle.esterel.proofs.Held.{fits-length, holds-zeros}
 use Rattle.esterel.proofs.Nodes.{root, sits-own}
 use Rattle.esterel.proofs.Sizes.{size-pos}
 use Rattle.esterel.proofs.Theorems.{demand3}
+use Rattle.packing.specs.Packing.{stateBytes, pack, unpack, isClearFrom, admits}
+use Rattle.packing.proofs.Zeros.{none-at}
+use Rattle.packing.proofs.Bits.{length-pack, length-unpack}
 use Rattle.instant.proofs.Algebra.{length-marked}
 use Rattle.table.specs.Program.{programOf}
 use Rattle.table.specs.Check.{passIf}
@@ -33,11 +36,10 @@ use Rattle.instant.specs.declared.Ran.{Ran}
 use Rattle.instant.specs.declared.Ran.the-variants.{Closed as ClosedRan}
 use Rattle.instant.specs.declared.Reaction.{Reaction}
 use Rattle.instant.specs.declared.Reaction.the-variants.{Closed as ClosedReaction}
-use Rattle.instant.specs.Admission.{Counted}
+use Rattle.instant.specs.Admission.{Counted, Unpacks}
 use Rattle.instant.specs.Calls.{Call, closing, handed, Reacts, Ready, startCall, resumeCall, verdictFor, refusalOf}
 use Rattle.instant.proofs.Emissions.{marks-are}
-use Rattle.instant.proofs.Sets.{none-at}
-use Rattle.instant.proofs.Entering.{counts-rise}
+use Rattle.instant.proofs.Entering.{counts-rise, admitted-small}
 use Rattle.instant.proofs.Nodes.{accepted}
 
 -- the last node is the program's, and its first node is 0
@@ -66,18 +68,28 @@ held-length {p} {h = h} {k = suc zero} o =
     fits-length (fits-of p h (left (atPauses (nodes p) h) (oneBranch p h) rest) (right (atPauses (nodes p) h) rest))
 held-length {k = suc (suc k)} o = absurd (omega (arith, o .code))
 
+-- each of them 0 or 1
+pub held-small : {p : Stmt} {answers h rest : List ℕ} {k : ℕ} {u : List Entry} → Closed p answers k u h rest → (i : ℕ) → getD h i 0 ≤ 1
+held-small {p} {k = zero} o i = let e = ap (λ l. getD l i 0) (o .ended refl) ∙ none-at (zeros (size p)) (holds-zeros (size p)) i in omega arith
+held-small {p} {h = h} {k = suc zero} o i = admitted-small p h (o .paused refl) i
+held-small {k = suc (suc k)} o i = absurd (omega (arith, o .code))
+
 -- what a closed run hands over
-pub handed-over : (held marks state emissions : List ℕ) {r : Ran} {state′ emissions′ : List ℕ} {code k entries n : ℕ} → r ≡ ClosedRan code k entries → n ≤ length held → signals ≤ length marks → state′ ≡ take n held ++ drop n state → emissions′ ≡ take signals marks ++ drop signals emissions → Reacts (handed r (take n held) (take signals marks)) state emissions state′ emissions′ (ClosedReaction code k entries)
-handed-over held marks state emissions {n = n} e long wide s m =
+pub handed-over : (held marks state emissions : List ℕ) (n : ℕ) {r : Ran} {state′ emissions′ : List ℕ} {code k entries : ℕ} → r ≡ ClosedRan code k entries → signals ≤ length marks → state′ ≡ pack (take n held) ++ drop stateBytes state → emissions′ ≡ take signals marks ++ drop signals emissions → Reacts (handed r (take n held) (take signals marks)) state emissions state′ emissions′ (ClosedReaction code k entries)
+handed-over held marks state emissions n e wide s m =
     rw e
     (record {
       answer = refl;
-      stateIs = s ∙ ap (λ i. take n held ++ drop i state) (sym (length-take-le n held long));
+      stateIs = s ∙ ap (λ i. pack (take n held) ++ drop i state) (sym (length-pack (take n held)));
       emissionsAre = m ∙ ap (λ i. take signals marks ++ drop i emissions) (sym (length-take-le signals marks wide));
     })
 
 pub reacts-as : {call call′ : Call} {state emissions state′ emissions′ : List ℕ} {r : Reaction} → call ≡ call′ → Reacts call state emissions state′ emissions′ r → Reacts call′ state emissions state′ emissions′ r
 reacts-as {state = state} {emissions = emissions} {state′ = state′} {emissions′ = emissions′} {r = r} e = subst (λ c. Reacts c state emissions state′ emissions′ r) e
+
+-- the front of what is unpacked
+pub front-unpacked : (state old : List ℕ) {held : List ℕ} (n : ℕ) → held ≡ unpack n state ++ drop n old → take n held ≡ unpack n state
+front-unpacked state old n e = ap (take n) e ∙ take-at (unpack n state) (drop n old) n (length-unpack n state)
 
 -- a run over the last node hands over the rules' outcome
 module _ (t answers held held′ marks′ : List ℕ) {n : ℕ} (long : size (programOf t) ≤ length held) (en : n ≡ size (programOf t)) where
@@ -111,14 +123,24 @@ module _ {t sizes : List ℕ} {a b : ℕ} (o : Ready t a b sizes) where
   unfolding Clear
   root-clear n en m j lo hi = none-at (zeros m) (holds-zeros m) j
 
+  -- the bytes of its nodes, unpacked over others
+  pub unpacks : (state old : List ℕ) {held : List ℕ} {n : ℕ} → a ≡ length state → n ≡ size (programOf t) → n ≤ length old → held ≡ unpack n state ++ drop n old → Unpacks (programOf t) held state
+  unpacks state old {held} {n} ea en le e =
+      record {
+        few = o .few;
+        room = omega (arith, o .places);
+        places = (let x = ap length e ∙ length-append (unpack n state) (drop n old) in let y = length-unpack n state in omega arith);
+        front = rw en at (front-unpacked state old n e);
+      }
+
   module _ (answers state emissions : List ℕ) (ea : a ≡ length state) (eb : b ≡ length emissions) where
     is-passed : verdictFor t (length state) (length emissions) ≡ passed (programOf t)
     is-passed = ap₂ (verdictFor t) (sym ea) (sym eb) ∙ o .verdict
 
-    pub not-admitted : {x : Check} {r : Reaction} → x ≡ passIf 12 (admitted (programOf t) (take (size (programOf t)) state)) → (number node : ℕ) → x ≡ RefusedCheck number node → r ≡ refusalOf x → Reacts (resumeCall (verdictFor t (length state) (length emissions)) state answers) state emissions state emissions r
+    pub not-admitted : {x : Check} {r : Reaction} → x ≡ passIf 12 (admits (programOf t) state) → (number node : ℕ) → x ≡ RefusedCheck number node → r ≡ refusalOf x → Reacts (resumeCall (verdictFor t (length state) (length emissions)) state answers) state emissions state emissions r
     unfolding resumeCall
     not-admitted {x} ex number node e y =
-        let fails = pass-false 12 (admitted (programOf t) (take (size (programOf t)) state)) number node (sym ex ∙ e) in
+        let fails = pass-false 12 (admits (programOf t) state) number node (sym ex ∙ e) in
         rw (is-passed, fails) (record { answer = y ∙ ap refusalOf (ex ∙ ap (passIf 12) fails); stateIs = refl; emissionsAre = refl })
 
     module _ {n : ℕ} (en : n ≡ size (programOf t)) (held : List ℕ) (room : size (programOf t) ≤ length held) where
@@ -136,32 +158,28 @@ module _ {t sizes : List ℕ} {a b : ℕ} (o : Ready t a b sizes) where
           (hands t answers held held′ marks′ room en (demand3 .starts (programOf t) (accepted (o .runnable)) answers)
           (at-root (λ i q. RanIs t answers i held held′ (zeros signals) marks′ (start i q answers) r) w))
 
-      -- an admitted state, whose bytes are those that are resumed
-      module _ {x : Check} (ex : x ≡ passIf 12 (admitted (programOf t) (take (size (programOf t)) state))) (e : x ≡ Passed) (same : take n held ≡ take n state) where
-        fits : admitted (programOf t) (take (size (programOf t)) state) ≡ true
-        fits = pass-true 12 _ (sym ex ∙ e)
+      -- an admitted state, whose bits are the bytes that are resumed
+      module _ {x : Check} (ex : x ≡ passIf 12 (admits (programOf t) state)) (e : x ≡ Passed) (own : take (size (programOf t)) held ≡ unpack (size (programOf t)) state) where
+        passes : admits (programOf t) state ≡ true
+        passes = pass-true 12 _ (sym ex ∙ e)
 
-        own : take (size (programOf t)) held ≡ take (size (programOf t)) state
-        own = rw en at same
+        fits : admitted (programOf t) (take (size (programOf t)) held) ≡ true
+        fits = rw own (right (isClearFrom (size (programOf t)) state) passes)
 
         root-admitted : admitted (stmtAt t (n - 1)) (bytesAt t held (n - 1)) ≡ true
-        root-admitted = rw (first-is t n en, last-is t n en, own) fits
+        root-admitted = rw (first-is t n en, last-is t n en) fits
 
-        pub root-holding : (counts : List ℕ) → Counted state counts (size (programOf t)) → Holding t counts held (n - 1)
+        pub root-holding : (counts : List ℕ) → Counted held counts (size (programOf t)) → Holding t counts held (n - 1)
         root-holding counts c =
             record {
               state = root-admitted;
               listed = c .long;
-              counted = λ j lo hi. counts-rise (programOf t) state counts held (omega (arith, o .places)) c fits own j (omega (arith, size-pos (programOf t)));
+              counted = λ j lo hi. counts-rise (programOf t) held counts room c fits j (omega (arith, size-pos (programOf t)));
             }
 
         pub resume-hands : {held′ marks′ : List ℕ} {r : Ran} → Resumed t answers held held′ (zeros signals) marks′ (n - 1) 0 r → handed r (take n held′) (take signals marks′) ≡ resumeCall (verdictFor t (length state) (length emissions)) state answers
         unfolding resumeCall
         resume-hands {held′} {marks′} {r} w =
-            rw (is-passed, fits, ← own)
-            (hands t answers held held′ marks′ room en (demand3 .resumes (programOf t) (accepted (o .runnable)) (take (size (programOf t)) held) answers (ap (admitted (programOf t)) own ∙ fits))
+            rw (is-passed, passes, ← own)
+            (hands t answers held held′ marks′ room en (demand3 .resumes (programOf t) (accepted (o .runnable)) (take (size (programOf t)) held) answers fits)
             (at-root (λ i q. RanIs t answers i held held′ (zeros signals) marks′ (resume i q (take (size q) (drop i held)) answers) r) w))
-
--- the front of a copy
-pub front-same : (from old : List ℕ) {to : List ℕ} (n : ℕ) → n ≤ length from → to ≡ take n from ++ drop n old → take n to ≡ take n from
-front-same from old n long e = ap (take n) e ∙ take-at (take n from) (drop n old) n (length-take-le n from long)

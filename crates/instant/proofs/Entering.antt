@@ -1,5 +1,5 @@
 -- The state that a resumption begins with: its bytes are 0 or 1, so the prefix counts grow by each of them.
-use mathlib.Core.Path.{_≡_, refl, sym, ap, _∙_}
+use mathlib.Core.Path.{_≡_, refl, ap, _∙_}
 use mathlib.Core.Bool.{true}
 use mathlib.Core.List.{List, [], _∷_}
 use Prim.Native.Nat.{ℕ, zero, suc, _+_, _≤_, _<_}
@@ -10,25 +10,36 @@ use lib.Seq.{take-suc, getD-take}
 use Rattle.codes.proofs.Bools.{left, right}
 use Rattle.esterel.specs.Statement.{Stmt, size, nodes}
 use Rattle.esterel.specs.Instant.{holds, atPauses, oneBranch, admitted}
-use Rattle.esterel.specs.Outcome.{statementAt}
-use Rattle.esterel.proofs.Sizes.{length-nodes}
 use Rattle.instant.specs.Admission.{countHeld, Counted, byteFits}
-use Rattle.instant.proofs.Admits.{count-append, byte-of}
+use Rattle.instant.proofs.Admits.{count-append}
 
--- a byte that fits counts as itself
-count-byte : (w : Stmt) (b : ℕ) → byteFits w b ≡ true → countHeld (b ∷ []) ≡ b
-count-byte w zero e = refl
-count-byte w (suc zero) e = refl
-count-byte w (suc (suc b)) e = let f = rw (eqb·suc-zero, eqb·suc-suc, eqb·suc-zero) at e in cc
+-- a byte that fits is 0 or 1, and counts as itself
+byte-small : (w : Stmt) (b : ℕ) → byteFits w b ≡ true → b ≤ 1
+byte-small w zero e = omega arith
+byte-small w (suc zero) e = omega arith
+byte-small w (suc (suc b)) e = let f = rw (eqb·suc-zero, eqb·suc-suc, eqb·suc-zero) at e in let z : _≡_ {A = ℕ} 0 1 = cc in absurd (omega arith)
 
-module _ (p : Stmt) (state counts held : List ℕ) (long : size p ≤ length state) (c : Counted state counts (size p)) where
-  pub counts-rise : admitted p (take (size p) state) ≡ true → take (size p) held ≡ take (size p) state → (j : ℕ) → j < size p → getD counts (suc j) 0 ≡ getD counts j 0 + getD held j 0
-  counts-rise e same j h =
-      let own = take (size p) state in
-      let byte : getD held j 0 ≡ getD own j 0 = sym (getD-take (size p) held j 0 h) ∙ ap (λ l. getD l j 0) same in
-      let fits = byte-of (nodes p) own (left (atPauses (nodes p) own) (oneBranch p own) (right (holds own) e)) j (omega (arith, length-nodes p)) in
-      let one = count-byte (statementAt (nodes p) j) (getD own j 0) fits in
+count-byte : (b : ℕ) → b ≤ 1 → countHeld (b ∷ []) ≡ b
+count-byte zero e = refl
+count-byte (suc zero) e = refl
+count-byte (suc (suc b)) e = absurd (omega arith)
+
+pub small-bytes : (ps : List Stmt) (h : List ℕ) → atPauses ps h ≡ true → (i : ℕ) → getD h i 0 ≤ 1
+small-bytes [] [] e i = omega arith
+small-bytes [] (b ∷ h) e i = let z : _≡_ {A = ℕ} 0 1 = cc in absurd (omega arith)
+small-bytes (p ∷ ps) [] e i = let z : _≡_ {A = ℕ} 0 1 = cc in absurd (omega arith)
+small-bytes (p ∷ ps) (b ∷ h) e zero = byte-small p b (left (byteFits p b) (atPauses ps h) e)
+small-bytes (p ∷ ps) (b ∷ h) e (suc i) = small-bytes ps h (right (byteFits p b) e) i
+
+pub admitted-small : (p : Stmt) (h : List ℕ) → admitted p h ≡ true → (i : ℕ) → getD h i 0 ≤ 1
+admitted-small p h e = small-bytes (nodes p) h (left (atPauses (nodes p) h) (oneBranch p h) (right (holds h) e))
+
+module _ (p : Stmt) (held counts : List ℕ) (long : size p ≤ length held) (c : Counted held counts (size p)) where
+  pub counts-rise : admitted p (take (size p) held) ≡ true → (j : ℕ) → j < size p → getD counts (suc j) 0 ≡ getD counts j 0 + getD held j 0
+  counts-rise e j h =
+      let byte = getD-take (size p) held j 0 h in
+      let one = count-byte (getD held j 0) (omega (arith, byte, admitted-small p (take (size p) held) e j)) in
       c .entry (suc j) (omega arith)
-      ∙ ap countHeld (take-suc state j 0 (omega arith))
-      ∙ count-append (take j state) (getD state j 0 ∷ [])
-      ∙ (let left = c .entry j (omega arith) in let here = getD-take (size p) state j 0 h in rw (← left, ← here, one, byte))
+      ∙ ap countHeld (take-suc held j 0 (omega arith))
+      ∙ count-append (take j held) (getD held j 0 ∷ [])
+      ∙ (let left = c .entry j (omega arith) in rw (← left, one))

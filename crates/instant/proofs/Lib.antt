@@ -15,3 +15,4 @@ pub mod Emissions
 pub mod Entering
 pub mod Closing
 pub mod Theorems
+pub mod Packed

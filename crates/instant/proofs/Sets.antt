@@ -10,17 +10,6 @@ use lib.Seq.{sets, set-comm, set-set, set-getD, getD-set-same, getD-set-other, d
 use Rattle.esterel.specs.Instant.{zeros, holds}
 use Rattle.table.proofs.Buffers.{sets-append}
 
--- one zero more
-zeros-snoc : (l : List ℕ) (f n : ℕ) → set (sets l f (zeros n)) (f + n) 0 ≡ sets l f (zeros (n + 1))
-zeros-snoc l f n =
-    sym (ap (λ v. sets l f v) (sym (replicate-append-replicate n 1 0)) ∙ sets-append l f (zeros n) (0 ∷ []) ∙ ap (λ k. set (sets l f (zeros n)) (f + k) 0) (length-replicate {A = ℕ} n 0))
-
-pub zeros-more : (l : List ℕ) (f i : ℕ) → f ≤ i → set (sets l f (zeros (i - f))) i 0 ≡ sets l f (zeros (i + 1 - f))
-zeros-more l f i le =
-    let at : f + (i - f) ≡ i = omega arith in
-    let more : i - f + 1 ≡ i + 1 - f = omega arith in
-    ap (λ k. set (sets l f (zeros (i - f))) k 0) (sym at) ∙ zeros-snoc l f (i - f) ∙ ap (λ k. sets l f (zeros k)) more
-
 set-before : (l : List ℕ) (i j y : ℕ) (a : List ℕ) → j < i → set (sets l i a) j y ≡ sets (set l j y) i a
 set-before l i j y [] lt = refl
 set-before l i j y (x ∷ a) lt =
@@ -62,13 +51,6 @@ sets-at l i (x ∷ a) j lo hi le = go (decLt i j) (λ h. sets-at (set l i x) (su
         let e : i ≡ j = omega arith in
         let z : j - i ≡ 0 = omega arith in
         set-kept (set l i x) (suc i) a j (omega arith) ∙ ap (λ k. getD (set l i x) k 0) (sym e) ∙ getD-set-same l i x 0 (omega arith) ∙ sym (ap (λ k. getD (x ∷ a) k 0) z)
-
--- what holds nothing is zeros
-pub none-at : (h : List ℕ) → holds h ≡ false → (j : ℕ) → getD h j 0 ≡ 0
-none-at [] e j = refl
-none-at (zero ∷ h) e zero = refl
-none-at (zero ∷ h) e (suc j) = none-at h e j
-none-at (suc b ∷ h) e j = cc
 
 -- n bytes from i on are 0
 abbrev pub Zero : List ℕ → (i n : ℕ) → Type 0

@@ -3,7 +3,7 @@ use mathlib.Core.Path.{_≡_, refl, sym, ap, subst, _∙_}
 use mathlib.Core.Logic.{_↔_}
 use mathlib.Core.Bool.{Bool, true, false, cond}
 use mathlib.Core.List.{List}
-use Prim.Native.Nat.{ℕ, _/_, _≤_, _<_}
+use Prim.Native.Nat.{ℕ, _≤_, _<_}
 use native.Mathlib.Omega.{arith}
 use borrow.Author.Tests.{le-leb, leb-true}
 use lib.Dec.{leb}
@@ -14,31 +14,37 @@ use Rattle.esterel.specs.Limits.{maxNodes, signals}
 use Rattle.esterel.specs.Statement.{Stmt, size, nodes}
 use Rattle.esterel.specs.Table.{Verdict, passed, refused}
 use Rattle.esterel.specs.Instant.{Result, closed, starved, stuck, start, resume, admitted}
-use Rattle.esterel.specs.Outcome.{emitted, emissionBytes, outcome}
+use Rattle.esterel.specs.Outcome.{Outcome, done, needsAnswer, noRule, emitted, emissionBytes, outcome}
 use Rattle.esterel.specs.Theorems.{Accepted, Closes, NeedsMore}
 use Rattle.esterel.proofs.Accepted.{acceptance}
-use Rattle.esterel.proofs.Run.{closed-held}
 use Rattle.esterel.proofs.Refusals.{Numbered, Told, told-numbered}
 use Rattle.esterel.proofs.Theorems.{demand3, starving}
+use Rattle.packing.specs.Packing.{stateBytes, pack, unpack, isClearFrom, admits}
+use Rattle.packing.proofs.Bits.{length-pack}
+use Rattle.packing.proofs.Theorems.{unpack-of, clear-of, pack-zeros}
+use Rattle.table.proofs.Surveying.{few-accepted}
 use Rattle.analysis.specs.Analysis.{checked}
 use Rattle.analysis.proofs.Analyses.{checked-program}
-use Rattle.analysis.proofs.Theorems.{verdict-nodes, checked-room, checked-passed, checked-told}
+use Rattle.analysis.proofs.Theorems.{checked-room, checked-passed, checked-told}
 use Rattle.instant.specs.declared.Reaction.{Reaction}
 use Rattle.instant.specs.declared.Reaction.the-variants.{Closed, Refused}
 use Rattle.instant.specs.Calls.{roomFor, verdictFor, Call, closing, refuses, answerOf, stateAfter, emissionsAfter, startCall, resumeCall, Reacts, Starting, Resuming}
 use Rattle.instant.specs.Calls.{closes as closesCall}
 use Rattle.instant.specs.Theorems.{Lent, Ends, closes, starves, Instant, Unchanged, Demand3OfCalls}
 use Rattle.instant.proofs.Emissions.{length-emissions}
-use Rattle.instant.proofs.Closing.{held-length, reacts-as}
+use Rattle.instant.proofs.Closing.{held-length, held-small, reacts-as}
 
 module _ {t state emissions : List ℕ} {p : Stmt} (l : Lent t p state emissions) where
   passes : verdictFor t (length state) (length emissions) ≡ passed p
   passes =
-      let enough : roomFor (length t / 2) (length state) (length emissions) ≡ true = both (le-leb (length t / 2) (length state) (omega (arith, verdict-nodes t p (l .accepted), l .places))) (le-leb signals (length emissions) (l .marks)) in
+      let enough : roomFor (length state) (length emissions) ≡ true = both (le-leb stateBytes (length state) (l .places)) (le-leb signals (length emissions) (l .marks)) in
       ap (λ b. checked b t) enough ∙ checked-room t ∙ l .accepted
 
   sound : Accepted p
   sound = acceptance t p (l .accepted) .1
+
+  few-of : size p ≤ maxNodes
+  few-of = few-accepted t p (l .accepted)
 
 -- a call that passes checks 1 to 11
 lent-of : (t state emissions : List ℕ) (p : Stmt) → verdictFor t (length state) (length emissions) ≡ passed p → Lent t p state emissions
@@ -47,8 +53,8 @@ lent-of t state emissions p e =
     let (room, program) = checked-program _ t p e in
     record {
       accepted = accepted;
-      places = omega (arith, verdict-nodes t p accepted, leb-true (length t / 2) (length state) (left (leb (length t / 2) (length state)) (leb signals (length emissions)) room));
-      marks = leb-true signals (length emissions) (right (leb (length t / 2) (length state)) room);
+      places = leb-true stateBytes (length state) (left (leb stateBytes (length state)) (leb signals (length emissions)) room);
+      marks = leb-true signals (length emissions) (right (leb stateBytes (length state)) room);
     }
 
 -- a call that closes passes them, where a refused table refuses it
@@ -70,18 +76,33 @@ resume-by : (state answers : List ℕ) (a b : ℕ) → resumeCall (refused a b) 
 unfolding resumeCall
 resume-by state answers a b = refl
 
+-- what a closed instant leaves in the 128 bytes does not depend on what was there
+closing-front : (x : Outcome) (old other : List ℕ) (code k entries : ℕ) → Closed code k entries ≡ answerOf (closing x) → take stateBytes (stateAfter (closing x) old) ≡ take stateBytes (stateAfter (closing x) other)
+closing-front (done c a e h m) old other code k entries z =
+    take-at (pack h) (drop (length (pack h)) old) stateBytes (length-pack h) ∙ sym (take-at (pack h) (drop (length (pack h)) other) stateBytes (length-pack h))
+closing-front needsAnswer old other code k entries z = let y : _≡_ {A = ℕ} 0 1 = cc in absurd (omega arith)
+closing-front noRule old other code k entries z = let y : _≡_ {A = ℕ} 0 1 = cc in absurd (omega arith)
+
+start-front : (v : Verdict) (answers old other : List ℕ) (code k entries : ℕ) → Closed code k entries ≡ answerOf (startCall v answers) → take stateBytes (stateAfter (startCall v answers) old) ≡ take stateBytes (stateAfter (startCall v answers) other)
+unfolding startCall
+start-front (passed p) answers old other code k entries z = closing-front (outcome p (start 0 p answers)) old other code k entries z
+start-front (refused a b) answers old other code k entries z = let y : _≡_ {A = ℕ} 0 1 = cc in absurd (omega arith)
+
 -- a call that comes to the rules' outcome of x
-module _ (p : Stmt) (run : List ℕ → Result) (answers state emissions state′ emissions′ : List ℕ) (room : size p ≤ length state) where
+module _ (p : Stmt) (few : size p ≤ maxNodes) (run : List ℕ → Result) (answers state emissions state′ emissions′ : List ℕ) (room : stateBytes ≤ length state) where
   instant-of : (x : Result) {r : Reaction} → run answers ≡ x → Closes p answers x → ((run answers ≡ starved) ↔ NeedsMore p run answers) → Reacts (closing (outcome p x)) state emissions state′ emissions′ r → Instant p run answers state emissions state′ emissions′ r
   instant-of (closed c u h rest) {r} e sure st o =
       let long = held-length sure in
-      let own : take (size p) state′ ≡ h = ap (take (size p)) (o .stateIs) ∙ take-at h (drop (length h) state) (size p) long in
+      let small = held-small sure in
+      let wide-state = length-pack h in
+      let front : take stateBytes state′ ≡ pack h = ap (take stateBytes) (o .stateIs) ∙ take-at (pack h) (drop (length (pack h)) state) stateBytes wide-state in
+      let own : unpack (size p) state′ ≡ h = unpack-of state′ (size p) few h long front small in
       let bytes = emissionBytes (emitted (nodes p) u) 0 signals in
       let wide : length bytes ≡ signals = length-emissions (emitted (nodes p) u) 0 signals in
       record {
-        pastState = ap (drop (size p)) (o .stateIs) ∙ drop-at h (drop (length h) state) (size p) long ∙ ap (λ i. drop i state) long;
+        pastState = ap (drop stateBytes) (o .stateIs) ∙ drop-at (pack h) (drop (length (pack h)) state) stateBytes wide-state ∙ ap (λ i. drop i state) wide-state;
         pastEmissions = ap (drop signals) (o .emissionsAre) ∙ drop-at bytes (drop (length bytes) emissions) signals wide ∙ ap (λ i. drop i emissions) wide;
-        sameLength = ap length (o .stateIs) ∙ length-append h (drop (length h) state) ∙ (let z = length-drop (length h) state in omega arith);
+        sameLength = ap length (o .stateIs) ∙ length-append (pack h) (drop (length (pack h)) state) ∙ (let z = length-drop (length (pack h)) state in omega arith);
         ends = subst Ends (sym (o .answer)) (closes c _ _ (sure .code));
         needs = (λ z. absurd (let a = o .answer in let x : _≡_ {A = ℕ} 0 1 = cc in omega arith), λ z. absurd (let a = st .1 z in let x : _≡_ {A = ℕ} 0 1 = cc in omega arith));
         enough = λ z y. (let a = o .answer in let x : _≡_ {A = ℕ} 0 1 = cc in omega arith);
@@ -89,6 +110,7 @@ module _ (p : Stmt) (run : List ℕ → Result) (answers state emissions state�
           trail = u;
           rest = rest;
           rules = e ∙ (let a = o .answer in cc);
+          packed = front ∙ ap pack (sym own);
           answersTaken = let a = o .answer in cc;
           entriesAre = let a = o .answer in cc;
           fewEntries = let a = o .answer in let b : entries ≡ length u = cc in omega (arith, sure .entries);
@@ -96,13 +118,13 @@ module _ (p : Stmt) (run : List ℕ → Result) (answers state emissions state�
           inK = sure .inK;
           bodies = sure .bodies;
         };
-        ended = λ k entries z. own ∙ sure .ended (let a = o .answer in cc);
-        paused = λ k entries z. ap (admitted p) own ∙ sure .paused (let a = o .answer in cc);
+        ended = λ k entries z. front ∙ ap pack (sure .ended (let a = o .answer in cc)) ∙ pack-zeros (size p);
+        paused = λ k entries z. both (clear-of state′ (size p) few h long front) (ap (admitted p) own ∙ sure .paused (let a = o .answer in cc));
       }
   instant-of starved {r} e sure st o =
       record {
         sameLength = ap length (o .stateIs);
-        pastState = ap (drop (size p)) (o .stateIs);
+        pastState = ap (drop stateBytes) (o .stateIs);
         pastEmissions = ap (drop signals) (o .emissionsAre);
         ends = subst Ends (sym (o .answer)) starves;
         needs = (λ z. st .0 e, λ z. o .answer);
@@ -120,18 +142,19 @@ module _ (t answers state emissions state′ emissions′ : List ℕ) (p : Stmt)
 
   starts-instant : Starting t answers state emissions state′ emissions′ r → Instant p (start 0 p) answers state emissions state′ emissions′ r
   starts-instant o =
-      instant-of p (start 0 p) answers state emissions state′ emissions′ (l .places) (start 0 p answers) refl (demand3 .starts p (sound l) answers) (starving .starts p (sound l) answers) (reacts-as starts-as o)
+      instant-of p (few-of l) (start 0 p) answers state emissions state′ emissions′ (l .places) (start 0 p answers) refl (demand3 .starts p (sound l) answers) (starving .starts p (sound l) answers) (reacts-as starts-as o)
 
-  module _ {b : Bool} (a : admitted p (take (size p) state) ≡ b) where
-    pub resumes-as : resumeCall (verdictFor t (length state) (length emissions)) state answers ≡ cond b (closing (outcome p (resume 0 p (take (size p) state) answers))) (refuses 12 0)
+  module _ {b : Bool} (a : admits p state ≡ b) where
+    pub resumes-as : resumeCall (verdictFor t (length state) (length emissions)) state answers ≡ cond b (closing (outcome p (resume 0 p (unpack (size p) state) answers))) (refuses 12 0)
     unfolding resumeCall
-    resumes-as = ap (λ v. resumeCall v state answers) (passes l) ∙ ap (λ x. cond x (closing (outcome p (resume 0 p (take (size p) state) answers))) (refuses 12 0)) a
+    resumes-as = ap (λ v. resumeCall v state answers) (passes l) ∙ ap (λ x. cond x (closing (outcome p (resume 0 p (unpack (size p) state) answers))) (refuses 12 0)) a
 
-  resumes-instant : admitted p (take (size p) state) ≡ true → Resuming t answers state emissions state′ emissions′ r → Instant p (resume 0 p (take (size p) state)) answers state emissions state′ emissions′ r
+  resumes-instant : admits p state ≡ true → Resuming t answers state emissions state′ emissions′ r → Instant p (resume 0 p (unpack (size p) state)) answers state emissions state′ emissions′ r
   resumes-instant a o =
-      instant-of p (resume 0 p (take (size p) state)) answers state emissions state′ emissions′ (l .places) (resume 0 p (take (size p) state) answers) refl (demand3 .resumes p (sound l) (take (size p) state) answers a) (starving .resumes p (sound l) (take (size p) state) answers a) (reacts-as (resumes-as a) o)
+      let fits = right (isClearFrom (size p) state) a in
+      instant-of p (few-of l) (resume 0 p (unpack (size p) state)) answers state emissions state′ emissions′ (l .places) (resume 0 p (unpack (size p) state) answers) refl (demand3 .resumes p (sound l) (unpack (size p) state) answers fits) (starving .resumes p (sound l) (unpack (size p) state) answers fits) (reacts-as (resumes-as a) o)
 
-  resumes-refused : admitted p (take (size p) state) ≡ false → Resuming t answers state emissions state′ emissions′ r → r ≡ Refused 12 0
+  resumes-refused : admits p state ≡ false → Resuming t answers state emissions state′ emissions′ r → r ≡ Refused 12 0
   resumes-refused a o = reacts-as (resumes-as a) o .answer
 
 -- ---- refusals
@@ -172,15 +195,15 @@ module _ (t answers state emissions : List ℕ) (number node : ℕ) where
   unfolding resumeCall
   resume-told = go (verdictFor t (length state) (length emissions)) refl (checked-told _ t)
     where
-      by : (p : Stmt) → Accepted p → (b : Bool) → admitted p (take (size p) state) ≡ b → cond b (closing (outcome p (resume 0 p (take (size p) state) answers))) (refuses 12 0) ≡ refuses number node → Numbers number node
-      by p a true z e = closing-told number node p answers (resume 0 p (take (size p) state) answers) (demand3 .resumes p a (take (size p) state) answers z) e
+      by : (p : Stmt) → Accepted p → (b : Bool) → admits p state ≡ b → cond b (closing (outcome p (resume 0 p (unpack (size p) state) answers))) (refuses 12 0) ≡ refuses number node → Numbers number node
+      by p a true z e = closing-told number node p answers (resume 0 p (unpack (size p) state) answers) (demand3 .resumes p a (unpack (size p) state) answers (right (isClearFrom (size p) state) z)) e
       by p a false z e =
           let x : 12 ≡ number = cc in
           let y : 0 ≡ node = cc in
           (omega arith, omega arith, omega arith)
 
       go : (v : Verdict) → verdictFor t (length state) (length emissions) ≡ v → Told 11 v → resumeCall v state answers ≡ refuses number node → Numbers number node
-      go (passed p) ev o e = by p (sound-of ev) (admitted p (take (size p) state)) refl e
+      go (passed p) ev o e = by p (sound-of ev) (admits p state) refl e
       go (refused a b) ev o e = refused-told number node (told-numbered o) e
 
 -- an answer is of one call
@@ -217,11 +240,10 @@ demand3OfCalls =
           let alike : r ≡ s = o .answer ∙ ap answerOf same ∙ sym (w .answer) in (
             alike,
             o .emissionsAre ∙ ap (λ c. emissionsAfter c emissions) same ∙ sym (w .emissionsAre),
-            λ p code k entries l z.
-                (let l′ : Lent t p other emissions = record { accepted = l .accepted; places = omega (arith, l .places); marks = l .marks } in
-                let x = starts-instant t answers state emissions state′ emissions′ p r l o .exact code k entries z in
-                let y = starts-instant t answers other emissions other′ emissions″ p s l′ w .exact code k entries (sym alike ∙ z) in
-                closed-held (sym (x .rules) ∙ y .rules)),
+            λ code k entries z.
+                (let v = verdictFor t (length state) (length emissions) in
+                let first : take stateBytes state′ ≡ take stateBytes (stateAfter (startCall v answers) state) = ap (take stateBytes) (o .stateIs) in
+                first ∙ start-front v answers state other code k entries (sym z ∙ o .answer) ∙ sym (ap (take stateBytes) (w .stateIs ∙ ap (λ c. stateAfter c other) (sym same)))),
           ));
       onward = λ t answers state emissions state′ emissions′ more next state″ next′ p run k entries r l i m o.
           resumes-instant t more state′ next state″ next′ p r (record { accepted = l .accepted; places = omega (arith, l .places, i .sameLength); marks = m }) (i .paused k entries refl) o;

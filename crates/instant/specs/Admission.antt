@@ -5,9 +5,11 @@ use mathlib.Core.Bool.{Bool, true, _&&_, _||_}
 use mathlib.Core.List.{List, [], _∷_}
 use lib.Dec.{eqb}
 use lib.ListN.{length, getD, take, drop}
+use Rattle.esterel.specs.Limits.{maxNodes}
 use Rattle.esterel.specs.Statement.{Stmt, leaf, one, two, kind, size}
 use Rattle.esterel.specs.Instant.{holds, apart}
 use Rattle.esterel.specs.Outcome.{statementAt}
+use Rattle.packing.specs.Packing.{stateBytes, unpack}
 use Rattle.table.specs.declared.Kind.{Kind}
 use Rattle.table.specs.Kinds.{isPause, isSequence, isPresent}
 
@@ -42,3 +44,10 @@ byteFitsKind k b = eqb b 0 || eqb b 1 && isPause k
 
 abbrev pub isExclusive : Kind → Bool
 isExclusive k = isSequence k || isPresent k
+
+-- the bytes of p's nodes, as the bits of a packed state say
+pub record Unpacks (p : Stmt) (held state : List ℕ) : Type 0 where
+  pub few : size p ≤ maxNodes
+  pub room : stateBytes ≤ length state
+  pub places : size p ≤ length held
+  pub front : take (size p) held ≡ unpack (size p) state

@@ -1,20 +1,21 @@
 -- What `start` and `resume` answer and leave in the lent buffers.
-use Prim.Native.Nat.{ℕ, _/_, _≤_}
+use Prim.Native.Nat.{ℕ, _≤_}
 use mathlib.Core.Path.{_≡_}
 use mathlib.Core.Bool.{Bool, cond, _&&_}
 use mathlib.Core.List.{List}
 use lib.Dec.{leb}
-use lib.ListN.{length, take}
+use lib.ListN.{length}
 use Rattle.esterel.specs.Limits.{maxNodes, signals}
 use Rattle.esterel.specs.Statement.{size}
 use Rattle.esterel.specs.Table.{Verdict, passed, refused}
-use Rattle.esterel.specs.Instant.{start, resume, admitted}
+use Rattle.esterel.specs.Instant.{start, resume}
 use Rattle.esterel.specs.Outcome.{Outcome, done, needsAnswer, noRule, outcome}
 use Rattle.table.specs.Check.{answerOf as checkOf}
 use Rattle.table.specs.declared.Check.{Check}
 use Rattle.table.specs.declared.Check.the-variants.{Passed}
 use Rattle.table.specs.declared.Check.the-variants.{Refused as RefusedCheck}
 use Rattle.table.specs.Program.{programOf}
+use Rattle.packing.specs.Packing.{stateBytes, pack, unpack, admits}
 use Rattle.analysis.specs.Passes.{onto}
 use Rattle.analysis.specs.Analysis.{checked}
 use Rattle.instant.specs.Run.{Runnable}
@@ -24,21 +25,22 @@ use Rattle.instant.specs.declared.Ran.the-variants.{Closed as ClosedRan}
 use Rattle.instant.specs.declared.Reaction.{Reaction}
 use Rattle.instant.specs.declared.Reaction.the-variants.{Closed, Refused}
 
--- check 3: a byte of state for each node, and one for each signal
-abbrev pub roomFor : (n state emissions : ℕ) → Bool
-roomFor n state emissions = leb n state && leb signals emissions
+-- check 3: 128 bytes of state (F-11), and one for each signal
+abbrev pub roomFor : (state emissions : ℕ) → Bool
+roomFor state emissions = leb stateBytes state && leb signals emissions
 
 -- checks 1, 2, 3, 4 to 11, in this order
 abbrev pub verdictFor : List ℕ → (state emissions : ℕ) → Verdict
-verdictFor t state emissions = checked (roomFor (length t / 2) state emissions) t
+verdictFor t state emissions = checked (roomFor state emissions) t
 
 -- what a call comes to: refused by number and node, or closed with what the instant hands back
 pub data Call : Type 0 where
   refuses : (number node : ℕ) → Call
   closes : (code taken entries : ℕ) (state emissions : List ℕ) → Call
 
+-- the pauses that an instant leaves are handed back as bits (F-11)
 abbrev pub closing : Outcome → Call
-closing (done code taken entries state emissions) = closes code taken entries state emissions
+closing (done code taken entries held emissions) = closes code taken entries (pack held) emissions
 closing needsAnswer = refuses 13 0
 closing noRule = refuses 0 0  -- never of an accepted program from an admitted state
 
@@ -47,16 +49,16 @@ unfoldable pub startCall : Verdict → (answers : List ℕ) → Call
 startCall (passed p) answers = closing (outcome p (start 0 p answers))
 startCall (refused number node) answers = refuses number node
 
--- check 12, then the instant
+-- check 12, then the instant from the pauses whose bits are 1 (F-11)
 unfoldable pub resumeCall : Verdict → (state answers : List ℕ) → Call
 resumeCall (passed p) state answers =
-    cond (admitted p (take (size p) state)) (closing (outcome p (resume 0 p (take (size p) state) answers))) (refuses 12 0)
+    cond (admits p state) (closing (outcome p (resume 0 p (unpack (size p) state) answers))) (refuses 12 0)
 resumeCall (refused number node) state answers = refuses number node
 
 -- what a run comes to that left these bytes; after a starved one nothing is handed over
-abbrev pub handed : Ran → (state emissions : List ℕ) → Call
-handed (ClosedRan code taken entries) state emissions = closes code taken entries state emissions
-handed Starved state emissions = refuses 13 0
+abbrev pub handed : Ran → (held emissions : List ℕ) → Call
+handed (ClosedRan code taken entries) held emissions = closes code taken entries (pack held) emissions
+handed Starved held emissions = refuses 13 0
 
 abbrev pub answerOf : Call → Reaction
 answerOf (refuses number node) = Refused number node
@@ -92,7 +94,7 @@ pub record Ready (t : List ℕ) (state emissions : ℕ) (sizes : List ℕ) : Typ
   pub verdict : verdictFor t state emissions ≡ passed (programOf t)
   pub runnable : Runnable t sizes
   pub few : size (programOf t) ≤ maxNodes
-  pub places : size (programOf t) ≤ state
+  pub places : stateBytes ≤ state
   pub marks : signals ≤ emissions
 
 -- what checks 1 to 11 answer, and leave in the list of sizes

@@ -3,3 +3,4 @@ pub mod Steps
 pub mod Run
 pub mod Calls
 pub mod Theorems
+pub mod Packed

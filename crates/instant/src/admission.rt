@@ -1,4 +1,4 @@
-// Check 12: whether a state is admitted, from the counts of its held pauses.
+// Check 12: whether a state is admitted, from the counts of its held pauses. The functions up to `check_state` have a byte for each node.
 ghost use mathlib.Core.Path.{_≡_};
 ghost use mathlib.Core.List.{[], _∷_};
 ghost use Prim.Native.Nat.{_<_, _≤_};
@@ -9,7 +9,8 @@ ghost use Rattle.esterel.specs.Statement.{size, nodes};
 ghost use Rattle.table.specs.Check.{passIf};
 ghost use Rattle.table.specs.Program.{programOf};
 ghost use Rattle.table.specs.Columns.{Measured};
-ghost use Rattle.instant.specs.Admission.{countHeld, Counted, isExclusive, byteFitsKind, nodeFits};
+ghost use Rattle.packing.specs.Packing.{admits};
+ghost use Rattle.instant.specs.Admission.{countHeld, Counted, isExclusive, byteFitsKind, nodeFits, Unpacks};
 use table::Check;
 use table::Kind;
 
@@ -98,4 +99,18 @@ pub fn check_state(table: &[u8], sizes: &[u16], counts: &[u16], state: &[u8]) ->
         i += 1;
     }
     Check::Passed
+}
+
+// Check 12 of a packed state, whose bits the bytes of the nodes are.
+pub fn check_packed(table: &[u8], sizes: &[u16], counts: &[u16], held: &[u8], state: &[u8]) -> Check
+    requires { ⌜ Measured (now table) (now sizes) × Counted (now held) (now counts) (size (programOf (now table))) × Unpacks (programOf (now table)) (now held) (now state) ⌝ }
+    ensures { λ r. ⌜ r ≡ passIf 12 (admits (programOf (now (table .entry))) (now (state .entry))) ⌝ }
+{
+    if !packing::is_clear_from(state, table.len() / 2) {
+        return Check::Refused {
+            number: 12,
+            node: 0,
+        };
+    }
+    check_state(table, sizes, counts, held)
 }

@@ -8,6 +8,7 @@ ghost use mathlib.Core.List.{_++_};
 ghost use Prim.Native.Nat.{_≤_};
 ghost use lib.ListN.{drop, length, take};
 ghost use Rattle.esterel.specs.Limits.{maxNodes, signals};
+ghost use Rattle.packing.specs.Packing.{stateBytes};
 ghost use Rattle.instant.specs.Calls.{roomFor, CallChecked, refusalOf, handed, Reacts, Starting, Resuming};
 use table::Check;
 
@@ -46,11 +47,11 @@ fn refused(check: Check) -> Reaction
     }
 }
 
-// Whether there is a byte of state for each of n nodes, and one for each signal.
-fn has_room(n: usize, state: usize, emissions: usize) -> bool
-    ensures { λ r. ⌜ r ≡ roomFor n state emissions ⌝ }
+// Whether there are 128 bytes of state, and one for each signal.
+fn has_room(state: usize, emissions: usize) -> bool
+    ensures { λ r. ⌜ r ≡ roomFor state emissions ⌝ }
 {
-    (n <= state) & (esterel::SIGNALS <= emissions)
+    (packing::STATE_BYTES <= state) & (esterel::SIGNALS <= emissions)
 }
 
 // Checks 1, 2, 3 and 4 to 11, and where they pass the sizes of all subtrees.
@@ -58,7 +59,7 @@ fn check_call(table: &[u8], state: usize, emissions: usize, sizes: &mut [u16]) -
     requires { ⌜ maxNodes ≤ length (now sizes) ⌝ }
     ensures { λ r. ⌜ CallChecked (now (table .entry)) state emissions (now (sizes .exit)) r ⌝ }
 {
-    let room = has_room(table.len() / 2, state, emissions);
+    let room = has_room(state, emissions);
     analysis::check_sized(table, room, sizes)
 }
 
@@ -74,7 +75,8 @@ fn copy(from: &[u8], to: &mut [u8], n: usize)
     }
 }
 
-// The end of a call. A closed run hands its bytes over; after a starved one the lent buffers are as they were.
+// The end of a call. A closed run hands its pauses over, packed, and its emissions; after a starved one the lent buffers are as they
+// were.
 fn hand_over(
     ran: Ran,
     held: &[u8; esterel::MAX_NODES],
@@ -83,7 +85,7 @@ fn hand_over(
     state: &mut [u8],
     emissions: &mut [u8],
 ) -> Reaction
-    requires { ⌜ (n ≤ maxNodes) × (n ≤ length (now state)) × (signals ≤ length (now emissions)) ⌝ }
+    requires { ⌜ (n ≤ maxNodes) × (stateBytes ≤ length (now state)) × (signals ≤ length (now emissions)) ⌝ }
     ensures { λ r. ⌜ Reacts (handed ran (take n (now (held .entry))) (take signals (now (marks .entry)))) (now (state .entry)) (now (emissions .entry)) (now (state .exit)) (now (emissions .exit)) r ⌝ }
 {
     let Ran::Closed {
@@ -97,7 +99,7 @@ fn hand_over(
             node: 0,
         };
     };
-    copy(held, state, n);
+    packing::pack(held, n, state);
     copy(marks, emissions, esterel::SIGNALS);
     Reaction::Closed {
         code,
@@ -122,7 +124,7 @@ pub fn start(table: &[u8], answers: &[u8], state: &mut [u8], emissions: &mut [u8
     hand_over(ran, &held, &marks, n, state, emissions)
 }
 
-// A later instant of a program, from the pauses that the state holds.
+// A later instant of a program, from the pauses whose bits are 1 in the state.
 pub fn resume(table: &[u8], answers: &[u8], state: &mut [u8], emissions: &mut [u8]) -> Reaction
     ensures { λ r. ⌜ Resuming (now (table .entry)) (now (answers .entry)) (now (state .entry)) (now (emissions .entry)) (now (state .exit)) (now (emissions .exit)) r ⌝ }
 {
@@ -132,14 +134,14 @@ pub fn resume(table: &[u8], answers: &[u8], state: &mut [u8], emissions: &mut [u
         return refused(check);
     };
     let n = table.len() / 2;
+    let mut held = [0u8; esterel::MAX_NODES];
+    packing::unpack(state, &mut held, n);
     let mut counts = [0u16; esterel::MAX_NODES + 1];
-    admission::count_held(state, &mut counts, n);
-    let admitted = admission::check_state(table, &sizes, &counts, state);
+    admission::count_held(&held, &mut counts, n);
+    let admitted = admission::check_packed(table, &sizes, &counts, &held, state);
     let Check::Passed = admitted else {
         return refused(admitted);
     };
-    let mut held = [0u8; esterel::MAX_NODES];
-    copy(state, &mut held, n);
     let mut marks = [0u8; esterel::SIGNALS];
     let ran = run::resume_at(
         table,

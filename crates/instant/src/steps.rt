@@ -18,18 +18,6 @@ pub fn branch(answer: u8, first: usize, last: usize) -> usize
     if answer == 0 { last } else { first }
 }
 
-// The bytes of the nodes from `from` up to `to` become 0.
-fn clear(held: &mut [u8], from: usize, to: usize)
-    requires { ⌜ (from ≤ to) × (to ≤ length (now held)) ⌝ }
-    ensures { λ _. ⌜ now (held .exit) ≡ sets (now (held .entry)) from (zeros (to - from)) ⌝ }
-{
-    let mut i = from;
-    while i < to {
-        held[i] = 0;
-        i += 1;
-    }
-}
-
 // A node's own entry, beside those beneath it.
 pub fn one_more(inner: Ran) -> Ran
     requires { ⌜ entriesOf inner < 4294967296 ⌝ }
@@ -105,7 +93,7 @@ pub fn leave(kind: Kind, inner: Ran, held: &mut [u8], first: usize, node: usize)
         return Ran::Starved;
     };
     if code == 2 {
-        clear(held, first, node);
+        packing::clear(held, first, node);
         return Ran::Closed {
             code: 0,
             taken,

@@ -24,6 +24,7 @@ use Rattle.table.proofs.Surveying.{few-accepted}
 use Rattle.analysis.specs.Analysis.{checked}
 use Rattle.analysis.proofs.Analyses.{checked-program}
 use Rattle.analysis.proofs.Theorems.{enough-room, checked-passed, checked-told}
+use Rattle.packing.specs.Packing.{unpack}
 use Rattle.instant.specs.Calls.{Starting}
 use Rattle.instant.specs.Theorems.{Lent, Ends, Exact, Instant}
 use Rattle.instant.specs.declared.Reaction.{Reaction}
@@ -159,7 +160,7 @@ exceeded t answers state emissions state′ emissions′ code k entries n o s =
     let (q, lent) = demand3OfCalls .startLent t answers state emissions state′ emissions′ code k entries s in
     let x = demand3OfCalls .starts t answers state emissions state′ emissions′ q (Closed code k entries) lent s .exact code k entries refl in
     let same : q ≡ p = one-program (lent .accepted) e in
-    g .exceeded answers (x .rest) entries (code, x .trail, take (size q) state′, subst (λ b. start 0 b answers ≡ closed code (x .trail) (take (size q) state′) (x .rest)) same (x .rules), sym (x .entriesAre))
+    g .exceeded answers (x .rest) entries (code, x .trail, unpack (size q) state′, subst (λ b. start 0 b answers ≡ closed code (x .trail) (unpack (size q) state′) (x .rest)) same (x .rules), sym (x .entriesAre))
 
 -- a start that closes by the rules closes as a call, with their entries and the answers that they take
 closes : (p : Stmt) (u rest state emissions state′ emissions′ : List ℕ) (r : Reaction) → Accepted p → Instant p (start 0 p) (u ++ rest) state emissions state′ emissions′ r → (k : ℕ) (trail : List Entry) (held : List ℕ) → start 0 p (u ++ rest) ≡ closed k trail held rest → (code : ℕ) × (r ≡ Closed code (length u) (length trail))
@@ -174,7 +175,7 @@ closes p u rest state emissions state′ emissions′ r a o k trail held e = go 
     go : (x : Reaction) → Ends x → (x ≡ RefusedStart 13 0 → NeedsMore p (start 0 p) (u ++ rest)) → ((code l entries : ℕ) → x ≡ Closed code l entries → Exact p (start 0 p (u ++ rest)) state′ emissions′ code l entries) → (code : ℕ) × (x ≡ Closed code (length u) (length trail))
     go x (Ends.closes code l entries le) needs exact =
         let w = exact code l entries refl in
-        let same : closed code (w .trail) (take (size p) state′) (w .rest) ≡ closed k trail held rest = sym (w .rules) ∙ e in
+        let same : closed code (w .trail) (unpack (size p) state′) (w .rest) ≡ closed k trail held rest = sym (w .rules) ∙ e in
         let trails : w .trail ≡ trail = cc in
         (code, ap₂ (Closed code) (w .answersTaken ∙ ap (taken (nodes p)) trails ∙ used) (w .entriesAre ∙ ap length trails))
     go x Ends.starves needs exact =

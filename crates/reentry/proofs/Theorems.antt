@@ -1,5 +1,5 @@
 -- No unmarked reentry of the calls: each contract joined with the theory's theorem.
-use Prim.Native.Nat.{ℕ, _<_}
+use Prim.Native.Nat.{ℕ, _<_, _≤_}
 use native.Mathlib.Decide.{decLt}
 use native.Mathlib.Omega.{arith}
 use mathlib.Core.Path.{_≡_, refl, sym, ap, subst, _∙_}
@@ -8,13 +8,14 @@ use mathlib.Core.List.{List}
 use native.Mathlib.Nat.{le-refl}
 use lib.ListN.{length, take, getD, length-replicate, List·getD-eq-default}
 use lib.Seq.{take-all}
-use Rattle.esterel.specs.Limits.{signals}
+use Rattle.codes.proofs.Bools.{both}
+use Rattle.esterel.specs.Limits.{maxNodes, signals}
 use Rattle.esterel.specs.Statement.{Stmt, size, nodes}
 use Rattle.esterel.specs.Codes.{empty}
 use Rattle.esterel.specs.Sets.{placesOf, outside, placeAt, mark}
 use Rattle.esterel.specs.Table.{passed}
 use Rattle.esterel.specs.Checks.{verdict}
-use Rattle.esterel.specs.Instant.{Entry, Result, closed, zeros, start, resume}
+use Rattle.esterel.specs.Instant.{Entry, Result, closed, zeros, start, resume, admitted}
 use Rattle.esterel.specs.Outcome.{taken, outcome}
 use Rattle.esterel.specs.Reentry.{Reached, Happens, markAt}
 use Rattle.esterel.specs.Theorems.{Accepted}
@@ -23,10 +24,15 @@ use Rattle.esterel.proofs.Held.{fits-length}
 use Rattle.esterel.proofs.Run.{closed-held}
 use Rattle.esterel.proofs.Admitted.{admitted-fits}
 use Rattle.esterel.proofs.Reentry.Theorem.{runs, noUnmarkedReentry}
+use Rattle.table.proofs.Surveying.{few-accepted}
+use Rattle.packing.specs.Packing.{stateBytes, pack, unpack, admits}
+use Rattle.packing.proofs.Bits.{length-pack, length-unpack}
+use Rattle.packing.proofs.Theorems.{pack-clear, unpack-of, clear-of}
 use Rattle.analysis.proofs.Theorems.{demand2OfCall}
 use Rattle.instant.specs.Calls.{verdictFor, closing, startCall, resumeCall, answerOf, stateAfter, emissionsAfter, Starting, Resuming}
 use Rattle.instant.specs.Theorems.{Lent, Exact}
 use Rattle.instant.specs.declared.Reaction.the-variants.{Closed, Refused}
+use Rattle.instant.proofs.Entering.{admitted-small}
 use Rattle.instant.proofs.Theorems.{starts-as, resumes-as, demand3OfCalls}
 use Rattle.reentry.specs.Theorems.{MarksOf, Left, fresh, onward, Marked, NoUnmarkedReentryOfCalls}
 
@@ -54,6 +60,9 @@ module _ (t : List ℕ) (p : Stmt) where
     sound : Accepted p
     sound = acceptance t p program .1
 
+    few : size p ≤ maxNodes
+    few = few-accepted t p program
+
     lent-as : {state emissions : List ℕ} → ((q : Stmt) × Lent t q state emissions) → Lent t p state emissions
     lent-as {state} {emissions} (q, l) = let same : q ≡ p = cc (l .accepted, program) in subst (λ w. Lent t w state emissions) same l
 
@@ -63,49 +72,72 @@ module _ (t : List ℕ) (p : Stmt) where
           let l = lent-as (demand3OfCalls .startLent t answers state emissions state′ emissions′ code taken entries o) in
           demand3OfCalls .starts t answers state emissions state′ emissions′ p (Closed code taken entries) l o .exact code taken entries refl
 
-      resume-exact : Reached p (take (size p) state) → Resuming t answers state emissions state′ emissions′ (Closed code taken entries) → Exact p (resume 0 p (take (size p) state) answers) state′ emissions′ code taken entries
-      resume-exact w o =
+      resume-exact : Reached p (unpack (size p) state) → take stateBytes state ≡ pack (unpack (size p) state) → Resuming t answers state emissions state′ emissions′ (Closed code taken entries) → Exact p (resume 0 p (unpack (size p) state) answers) state′ emissions′ code taken entries
+      resume-exact w front o =
           let l = lent-as (demand3OfCalls .resumeLent t answers state emissions state′ emissions′ code taken entries o) in
-          demand3OfCalls .resumes t answers state emissions state′ emissions′ p (Closed code taken entries) l (runs .admits p sound (take (size p) state) w) o .exact code taken entries refl
+          let fits = runs .admits p sound (unpack (size p) state) w in
+          let clear = clear-of state (size p) few (unpack (size p) state) (length-unpack (size p) state) front in
+          demand3OfCalls .resumes t answers state emissions state′ emissions′ p (Closed code taken entries) l (both clear fits) o .exact code taken entries refl
 
-    -- what calls leave is reached
-    left-reached : {held : List ℕ} → Left t p held → Reached p held
+    -- what is reached has a byte for each node, 0 or 1
+    module _ {held : List ℕ} (w : Reached p held) where
+      reached-admitted : admitted p held ≡ true
+      reached-admitted = runs .admits p sound held w
+
+      reached-long : length held ≡ size p
+      reached-long = fits-length (admitted-fits p held reached-admitted)
+
+      reached-unpacked : (state : List ℕ) → take stateBytes state ≡ pack held → unpack (size p) state ≡ held
+      reached-unpacked state front = unpack-of state (size p) few held reached-long front (admitted-small p held reached-admitted)
+
+    unpacked-of : (state : List ℕ) → ((held : List ℕ) × Reached p held × (take stateBytes state ≡ pack held)) → Reached p (unpack (size p) state) × (take stateBytes state ≡ pack (unpack (size p) state))
+    unpacked-of state (held, z, front) =
+        let own = reached-unpacked z state front in
+        (subst (Reached p) (sym own) z, front ∙ ap pack (sym own))
+
+    -- what calls leave is reached, packed
+    left-reached : {s : List ℕ} → Left t s → (held : List ℕ) × Reached p held × (s ≡ pack held)
     left-reached (fresh answers state emissions state′ emissions′ taken entries o) =
         let x = start-exact answers o in
-        Reached.fresh answers (x .trail) (take (size p) state′) (x .rest) (x .rules)
+        (unpack (size p) state′, Reached.fresh answers (x .trail) (unpack (size p) state′) (x .rest) (x .rules), x .packed)
     left-reached (onward answers state emissions state′ emissions′ taken entries w o) =
-        let z = left-reached w in
-        let x = resume-exact answers z o in
-        Reached.onward (take (size p) state) answers (x .trail) (take (size p) state′) (x .rest) z (x .rules)
+        let (z, front) = unpacked-of state (left-reached w) in
+        let x = resume-exact answers z front o in
+        (unpack (size p) state′, Reached.onward (unpack (size p) state) answers (x .trail) (unpack (size p) state′) (x .rest) z (x .rules), x .packed)
 
-    -- and what is reached, calls leave: a start with buffers of zeros, and a resumption from the bytes themselves
+    -- and what is reached, calls leave: a start with buffers of zeros, and a resumption from the packed bytes themselves
     module _ (answers : List ℕ) {trail : List Entry} {held rest : List ℕ} where
-      started-left : start 0 p answers ≡ closed 1 trail held rest → Left t p held
+      left-as : {x : Result} {state′ emissions′ : List ℕ} {k entries : ℕ} → x ≡ closed 1 trail held rest → Exact p x state′ emissions′ 1 k entries → take stateBytes state′ ≡ pack held
+      left-as e x = x .packed ∙ ap pack (closed-held (sym (x .rules) ∙ e))
+
+      started-left : start 0 p answers ≡ closed 1 trail held rest → Left t (pack held)
       started-left e =
-          let state = zeros (size p) in
+          let state = zeros stateBytes in
           let emissions = zeros signals in
-          let l : Lent t p state emissions = record { accepted = program; places = rw length-replicate (le-refl (size p)); marks = rw length-replicate (le-refl signals) } in
+          let l : Lent t p state emissions = record { accepted = program; places = rw length-replicate (le-refl stateBytes); marks = rw length-replicate (le-refl signals) } in
           let call = startCall (verdictFor t (length state) (length emissions)) answers in
           let is : call ≡ closing (outcome p (closed 1 trail held rest)) = starts-as t answers state emissions state emissions p (Refused 0 0) l ∙ ap (λ x. closing (outcome p x)) e in
           let o : Starting t answers state emissions (stateAfter call state) (emissionsAfter call emissions) (Closed 1 (taken (nodes p) trail) (length trail)) =
           record { answer = sym (ap answerOf is); stateIs = refl; emissionsAre = refl } in
-          subst (Left t p) (closed-held (sym (start-exact answers o .rules) ∙ e)) (fresh answers state emissions _ _ _ _ o)
+          subst (Left t) (left-as e (start-exact answers o)) (fresh answers state emissions _ _ _ _ o)
 
-      resumed-left : {before : List ℕ} → Reached p before → Left t p before → resume 0 p before answers ≡ closed 1 trail held rest → Left t p held
+      resumed-left : {before : List ℕ} → Reached p before → Left t (pack before) → resume 0 p before answers ≡ closed 1 trail held rest → Left t (pack held)
       resumed-left {before} w y e =
-          let admits = runs .admits p sound before w in
-          let long : length before ≡ size p = fits-length (admitted-fits p before admits) in
-          let whole : take (size p) before ≡ before = take-all (size p) before (omega arith) in
+          let state = pack before in
+          let whole : take stateBytes state ≡ state = take-all stateBytes state (omega (arith, length-pack before)) in
+          let own : unpack (size p) state ≡ before = reached-unpacked w state whole in
           let emissions = zeros signals in
-          let l : Lent t p before emissions = record { accepted = program; places = omega arith; marks = rw length-replicate (le-refl signals) } in
-          let call = resumeCall (verdictFor t (length before) (length emissions)) before answers in
-          let is : call ≡ closing (outcome p (closed 1 trail held rest)) =
-          resumes-as t answers before emissions before emissions p (Refused 0 0) l {b = true} (rw whole admits) ∙ ap (λ x. closing (outcome p x)) (ap (λ s. resume 0 p s answers) whole ∙ e) in
-          let o : Resuming t answers before emissions (stateAfter call before) (emissionsAfter call emissions) (Closed 1 (taken (nodes p) trail) (length trail)) =
+          let l : Lent t p state emissions = record { accepted = program; places = omega (arith, length-pack before); marks = rw length-replicate (le-refl signals) } in
+          let admits′ : admits p state ≡ true = both (pack-clear (size p) before (omega (arith, reached-long w))) (ap (admitted p) own ∙ reached-admitted w) in
+          let ran : resume 0 p (unpack (size p) state) answers ≡ closed 1 trail held rest = ap (λ s. resume 0 p s answers) own ∙ e in
+          let call = resumeCall (verdictFor t (length state) (length emissions)) state answers in
+          let is : call ≡ closing (outcome p (closed 1 trail held rest)) = resumes-as t answers state emissions state emissions p (Refused 0 0) l {b = true} admits′ ∙ ap (λ x. closing (outcome p x)) ran in
+          let o : Resuming t answers state emissions (stateAfter call state) (emissionsAfter call emissions) (Closed 1 (taken (nodes p) trail) (length trail)) =
           record { answer = sym (ap answerOf is); stateIs = refl; emissionsAre = refl } in
-          subst (Left t p) (closed-held (sym (resume-exact answers (rw whole w) o .rules) ∙ ap (λ s. resume 0 p s answers) whole ∙ e)) (onward answers before emissions _ _ _ _ (rw whole y) o)
+          let x = resume-exact answers (subst (Reached p) (sym own) w) (whole ∙ ap pack (sym own)) o in
+          subst (Left t) (left-as ran x) (onward answers state emissions _ _ _ _ (subst (Left t) (sym whole) y) o)
 
-    reached-left : {held : List ℕ} → Reached p held → Left t p held
+    reached-left : {held : List ℕ} → Reached p held → Left t (pack held)
     reached-left (Reached.fresh answers trail held rest e) = started-left answers e
     reached-left (Reached.onward before answers trail held rest w e) = resumed-left answers w (reached-left w) e
 
@@ -124,10 +156,10 @@ noUnmarkedReentryOfCalls =
     record {
       starts = λ t answers state emissions state′ emissions′ marks p code taken entries d o.
           (let x = start-exact t p (d .program) answers o in
-          marked-of d x (Happens.starts answers code (x .trail) (take (size p) state′) (x .rest) (x .rules)));
+          marked-of d x (Happens.starts answers code (x .trail) (unpack (size p) state′) (x .rest) (x .rules)));
       resumes = λ t answers state emissions state′ emissions′ marks p code taken entries d w o.
-          (let z = left-reached t p (d .program) w in
-          let x = resume-exact t p (d .program) answers z o in
-          marked-of d x (Happens.resumes (take (size p) state) answers code (x .trail) (take (size p) state′) (x .rest) z (x .rules)));
-      same = λ t p e held. (left-reached t p e, reached-left t p e);
+          (let (z, front) = unpacked-of t p (d .program) state (left-reached t p (d .program) w) in
+          let x = resume-exact t p (d .program) answers z front o in
+          marked-of d x (Happens.resumes (unpack (size p) state) answers code (x .trail) (unpack (size p) state′) (x .rest) z (x .rules)));
+      same = λ t p e state. (left-reached t p e, λ w. subst (Left t) (sym (w .2)) (reached-left t p e (w .1)));
     }

@@ -10,6 +10,7 @@ use Rattle.esterel.specs.Table.{passed}
 use Rattle.esterel.specs.Checks.{verdict}
 use Rattle.esterel.specs.Instant.{Result, zeros, start, resume}
 use Rattle.esterel.specs.Reentry.{Reached, Happens, Twice, Holding, Started}
+use Rattle.packing.specs.Packing.{stateBytes, pack, unpack}
 use Rattle.analysis.specs.Analysis.{Analysis}
 use Rattle.analysis.specs.declared.Analysed.the-variants.{Done}
 use Rattle.instant.specs.Calls.{Starting, Resuming}
@@ -30,16 +31,16 @@ pub record MarksOf (t : List ℕ) (p : Stmt) (marks′ : List ℕ) : Type 0 wher
   pub program : verdict t ≡ passed p
   pub analysed : Analysis t starts anys contexts marks starts′ anys′ contexts′ marks′ (Done nodes depth)
 
--- What a sequence of calls over t leaves in the bytes of p's nodes: a `start`, then any number of `resume`s, each from what the call before
--- left, and each answers code 1. The answers and the buffers may be others each time.
-pub data Left (t : List ℕ) (p : Stmt) : List ℕ → Type 0 where
+-- What a sequence of calls over t leaves in the 128 bytes of state (F-11): a `start`, then any number of `resume`s, each from what the
+-- call before left, and each answers code 1. The answers and the buffers may be others each time.
+pub data Left (t : List ℕ) : List ℕ → Type 0 where
   fresh :
       (answers state emissions state′ emissions′ : List ℕ) (taken entries : ℕ) →
-      Starting t answers state emissions state′ emissions′ (Closed 1 taken entries) → Left t p (take (size p) state′)
+      Starting t answers state emissions state′ emissions′ (Closed 1 taken entries) → Left t (take stateBytes state′)
   onward :
       (answers state emissions state′ emissions′ : List ℕ) (taken entries : ℕ) →
-      Left t p (take (size p) state) →
-      Resuming t answers state emissions state′ emissions′ (Closed 1 taken entries) → Left t p (take (size p) state′)
+      Left t (take stateBytes state) →
+      Resuming t answers state emissions state′ emissions′ (Closed 1 taken entries) → Left t (take stateBytes state′)
 
 -- A closed call is the rules' instant x and an instant of a run, in which `held` is held when it begins; so what `NoUnmarkedReentry` says of
 -- such an instant is said of the call. Whichever node stands at two places of its trail has entry 1 in `marks`, and so has one that is held
@@ -59,8 +60,10 @@ pub record NoUnmarkedReentryOfCalls : Type 0 where
   pub resumes :
       (t answers state emissions state′ emissions′ marks : List ℕ) (p : Stmt) (code taken entries : ℕ) →
       MarksOf t p marks →
-      Left t p (take (size p) state) →
+      Left t (take stateBytes state) →
       Resuming t answers state emissions state′ emissions′ (Closed code taken entries) →
-      Marked p marks (take (size p) state) (resume 0 p (take (size p) state) answers) state′ emissions′ code taken entries
-  -- what calls can leave is what a run can reach
-  pub same : (t : List ℕ) (p : Stmt) → verdict t ≡ passed p → (held : List ℕ) → Left t p held ↔ Reached p held
+      Marked p marks (unpack (size p) state) (resume 0 p (unpack (size p) state) answers) state′ emissions′ code taken entries
+  -- what calls can leave is what a run can reach, packed
+  pub same :
+      (t : List ℕ) (p : Stmt) → verdict t ≡ passed p → (state : List ℕ) →
+      Left t state ↔ ((held : List ℕ) × Reached p held × (state ≡ pack held))

@@ -28,7 +28,7 @@ fn is_closed(reaction: Reaction, code: usize, taken: usize, entries: usize) -> b
     }
 }
 
-// The pauses held are these, and the bytes of signals 7 and 9.
+// The state's bytes are these, and those of signals 7 and 9.
 fn expect_left(state: &[u8], held: &[u8], emissions: &[u8], seven: u8, nine: u8)
     requires { ⌜ (now state ≡ now held) × (9 < length (now emissions)) × (getD (now emissions) 7 0 ≡ seven) × (getD (now emissions) 9 0 ≡ nine) ⌝ }
 {
@@ -70,8 +70,11 @@ fn main() {
         11,
         0,
     ];
-    let both = [1u8, 0, 0, 0, 0, 0, 0, 0, 0, 1, 0, 0, 0, 0, 0];
-    let mut state = [9u8; 15];
+    // Pauses 0 and 9, each at its bit.
+    let mut both = [0u8; packing::STATE_BYTES];
+    both[0] = 1;
+    both[1] = 2;
+    let mut state = [9u8; packing::STATE_BYTES];
     let mut emissions = [9u8; 256];
     // The first instant reaches both pauses; a suspend asks nothing when it is started.
     let first = instant::start(&table, &[], &mut state, &mut emissions);
@@ -88,5 +91,5 @@ fn main() {
     // 3 is present: the first branch exits, the second still emits 9, and the trap that catches drops its new pause.
     let fourth = instant::resume(&table, &[0, 1], &mut state, &mut emissions);
     check::expect(is_closed(fourth, 0, 2, 16));
-    expect_left(&state, &[0; 15], &emissions, 1, 1);
+    expect_left(&state, &[0; packing::STATE_BYTES], &emissions, 1, 1);
 }

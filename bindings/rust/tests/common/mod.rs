@@ -5,8 +5,8 @@
 use bavzhrono::{analyse, narrow, read, read_place, render, resume, start, table_of, tick};
 use bavzhrono::{first_tick, first_tick_answers};
 use bavzhrono::{
-    Analysis, Closed, CodeSet, Completion, FirstTick, Mark, Placed, Reading, Refusal, Tick, BLOCK,
-    MAX_NODES, MAX_TEXT, SIGNALS, TICK_ANSWERS,
+    Analysis, Closed, CodeSet, Completion, FirstTick, Mark, Placed, Reading, Refusal, State, Tick,
+    BLOCK, MAX_NODES, MAX_TEXT, SIGNALS, STATE_BYTES, TICK_ANSWERS,
 };
 
 pub const W1: &[u8] = &[2, 0, 3, 7, 9, 0, 8, 0];
@@ -52,14 +52,15 @@ pub struct Buffers {
     pub any_sets: Vec<CodeSet>,
     pub contexts: Vec<CodeSet>,
     pub marks: Vec<Mark>,
-    pub state: Vec<u8>,
+    pub state: State,
     pub emissions: Vec<u8>,
     pub text: Vec<u8>,
     pub answers: Vec<u8>,
 }
 
 impl Buffers {
-    /// Filled buffers of the lengths that a table needs, and so many entries more in each.
+    /// Filled buffers of the lengths that a table needs, and so many entries more in each but the
+    /// state.
     pub fn for_table(table: &[u8], more: usize) -> Buffers {
         let nodes = table.len() / 2 + more;
         Buffers {
@@ -67,7 +68,7 @@ impl Buffers {
             any_sets: vec![FILL_SET; nodes],
             contexts: vec![FILL_SET; nodes],
             marks: vec![Mark(FILL); nodes],
-            state: vec![FILL; nodes],
+            state: State::from_bytes([FILL; STATE_BYTES]),
             emissions: vec![FILL; SIGNALS + more],
             text: vec![FILL; MAX_TEXT + more],
             answers: vec![FILL; TICK_ANSWERS + more],
@@ -120,6 +121,22 @@ pub fn closed(code: Completion, taken: usize, entries: usize) -> Result<Closed, 
         taken,
         entries,
     })
+}
+
+/// The state that holds these nodes, by bits that are set here.
+pub fn holding(nodes: &[usize]) -> State {
+    let mut bytes = [0; STATE_BYTES];
+    for node in nodes {
+        bytes[node / 8] |= 1 << (node % 8);
+    }
+    State::from_bytes(bytes)
+}
+
+/// The nodes of the table that are pauses.
+pub fn pauses_of(table: &[u8]) -> Vec<usize> {
+    let nodes = table.chunks(2).enumerate();
+    let pauses = nodes.filter(|(_, bytes)| bytes[0] == 2);
+    pauses.map(|(node, _)| node).collect()
 }
 
 /// All calls that check the table refuse it at the node and change nothing, and its listing says so.
@@ -263,4 +280,42 @@ pub fn put_check_bytes(block: &mut [u8]) {
     }
     block[510] = (sum % 255) as u8;
     block[511] = (running % 255) as u8;
+}
+
+/// Numbers that look random, the same in every run.
+pub struct Drawn(pub u64);
+
+impl Drawn {
+    pub fn below(&mut self, end: usize) -> usize {
+        self.0 = self
+            .0
+            .wrapping_mul(6364136223846793005)
+            .wrapping_add(1442695040888963407);
+        (self.0 >> 33) as usize % end
+    }
+
+    /// A statement of about so many nodes within so many traps.
+    pub fn statement(&mut self, nodes: usize, traps: usize) -> Vec<u8> {
+        if nodes < 3 {
+            return match self.below(6) {
+                0 | 1 => vec![1, 0],
+                2 | 3 if traps > 0 => vec![4, self.below(traps.min(3)) as u8],
+                _ => vec![2, 0],
+            };
+        }
+        let one = |drawn: &mut Drawn, traps| drawn.statement(nodes - 1, traps);
+        match self.below(12) {
+            0 => [one(self, traps), vec![5, 0]].concat(),
+            1 => [one(self, traps), vec![7, 0]].concat(),
+            // A pause at the end, so that most bodies do not end at once.
+            2 => [self.statement(nodes - 3, traps), vec![2, 0, 9, 0, 8, 0]].concat(),
+            3 if traps < 62 => [one(self, traps + 1), vec![11, 0]].concat(),
+            drawn => {
+                let first = self.below(nodes - 2) + 1;
+                let kind = [6, 9, 10][drawn % 3];
+                let children = [first, nodes - 1 - first].map(|part| self.statement(part, traps));
+                [children.concat(), vec![kind, 0]].concat()
+            }
+        }
+    }
 }

@@ -1,11 +1,12 @@
 //! Every table of few nodes over a small alphabet; for an accepted one every
-//! state of bytes 0 and 1, and every list of answers that it can take.
+//! state of bits of its nodes, and every list of answers that it can take.
 
 use compare::support::answers::every_list;
 use compare::support::cases::Call;
 use compare::support::every::{every_table, Letter};
 use compare::support::random::Random;
 use compare::support::ties::{tied, ABSENT};
+use compare::STATE_BYTES;
 
 use super::{first_difference, plans};
 use crate::tally::{Difference, Tally};
@@ -89,11 +90,13 @@ fn every_call(tally: &mut Tally, table: &[u8]) -> Result<(), Difference> {
     }
     tally.compare(&Narrowing::new(table, &tied(&[(3, ABSENT)])))?;
     plans::both_calls(tally, table)?;
-    every_answer_list(tally, Call::Start, table, &vec![9; size])?;
+    every_answer_list(tally, Call::Start, table, &[9; STATE_BYTES])?;
     // A refused table is refused from any state.
     let states = if is_accepted { 1 << size } else { 1 };
     for subset in 0..states {
-        let state: Vec<u8> = (0..size).map(|node| subset >> node & 1).collect();
+        // So few nodes are bits of the first byte.
+        let mut state = [0; STATE_BYTES];
+        state[0] = subset;
         every_answer_list(tally, Call::Resume, table, &state)?;
     }
     Ok(())

@@ -1,10 +1,13 @@
 //! Buffers too short, exact, and longer than needed.
 
 use compare::listing;
+use compare::support::cases::Call;
 use compare::support::damage::damaged;
 use compare::support::families;
 use compare::support::programs::{accepted, SHAPES};
 use compare::support::random::Random;
+use compare::support::stray;
+use compare::{packed, STATE_BYTES};
 
 use crate::tally::{Difference, Tally};
 use crate::trials::{Analysis, Finding, Instant, Rendering, Trial};
@@ -29,6 +32,23 @@ pub fn run(tally: &mut Tally, random: &mut Random) -> Result<(), Difference> {
         let trial = Instant::of(case);
         tally.compare(&trial)?;
         tally.compare(&trial.with_answer(at % 8))?;
+    }
+    Ok(())
+}
+
+/// However few or many nodes there are, check 3 wants 128 bytes, and past them none changes.
+pub fn states(tally: &mut Tally, random: &mut Random) -> Result<(), Difference> {
+    for (table, held) in stray::programs(random) {
+        let spoilt = damaged(random, &table);
+        let answers = random.bytes(40);
+        let old = [&packed(&held)[..], &random.bytes(200 - STATE_BYTES)].concat();
+        for table in [&table, &spoilt] {
+            for length in [0, 1, 64, 126, 127, 128, 129, 130, 136, 200] {
+                let state = &old[..length];
+                tally.compare(&Instant::new(Call::Start, table, &answers, state))?;
+                tally.compare(&Instant::new(Call::Resume, table, &answers, state))?;
+            }
+        }
     }
     Ok(())
 }

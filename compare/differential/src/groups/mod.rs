@@ -8,8 +8,8 @@ use crate::trials::Instant;
 
 pub mod blocks;
 mod exhaustive;
-mod instants;
-mod lengths;
+pub mod instants;
+pub mod lengths;
 pub mod narrowings;
 pub mod plans;
 pub mod refusals;
@@ -26,7 +26,7 @@ pub struct Group {
     pub random: bool,
 }
 
-pub const GROUPS: [Group; 56] = [
+pub const GROUPS: [Group; 58] = [
     Group {
         name: "Table W and the edges",
         run: tables::edges,
@@ -98,6 +98,11 @@ pub const GROUPS: [Group; 56] = [
         random: true,
     },
     Group {
+        name: "stray bits at every position",
+        run: instants::stray_bits,
+        random: true,
+    },
+    Group {
         name: "starved, exact and overlong answers",
         run: instants::answer_counts,
         random: true,
@@ -105,6 +110,11 @@ pub const GROUPS: [Group; 56] = [
     Group {
         name: "lengths of buffers",
         run: lengths::run,
+        random: true,
+    },
+    Group {
+        name: "states of 0 to 200 bytes",
+        run: lengths::states,
         random: true,
     },
     Group {

@@ -9,7 +9,7 @@ use compare::support::families;
 use compare::support::programs::{accepted, balanced, SHAPES};
 use compare::support::random::Random;
 use compare::support::ties::ABSENT;
-use compare::{checks, listing, Refusal};
+use compare::{checks, listing, Refusal, STATE_BYTES};
 
 use crate::tally::{Difference, Tally};
 use crate::trials::{Analysis, Finding, Instant, Narrowing, Planning, Rendering, Trial};
@@ -74,7 +74,7 @@ fn every_call(tally: &mut Tally, table: &[u8]) -> Result<(), Difference> {
     every_answer(tally, &Analysis::new(table))?;
     every_answer(tally, &Analysis::with_lengths(table, [size + 5; 4]))?;
     for call in [Call::Start, Call::Resume] {
-        every_answer(tally, &Instant::new(call, table, &[], &vec![9; size]))?;
+        every_answer(tally, &Instant::new(call, table, &[], &[9; STATE_BYTES]))?;
     }
     every_answer(tally, &Finding::new(table))?;
     every_answer(tally, &Finding::with_answers(table, 511))?;

@@ -10,7 +10,7 @@ use compare::support::random::Random;
 use compare::support::reentries::check_marks_of;
 use compare::support::runs::{self, every_instant};
 use compare::table::{self, Tree};
-use compare::Sets;
+use compare::{packed, Sets, STATE_BYTES};
 
 use super::first_difference;
 use crate::tally::{Difference, Tally};
@@ -80,13 +80,8 @@ fn every_run(tally: &mut Tally, table: &[u8]) -> Result<(), Difference> {
     let program = Program::of(tally, table);
     every_instant(table, |instant| {
         let trial = match &instant.before {
-            None => Instant::new(
-                Call::Start,
-                table,
-                &instant.answers,
-                &vec![9; table.len() / 2],
-            ),
-            Some(held) => Instant::new(Call::Resume, table, &instant.answers, held),
+            None => Instant::new(Call::Start, table, &instant.answers, &[9; STATE_BYTES]),
+            Some(held) => Instant::new(Call::Resume, table, &instant.answers, &packed(held)),
         };
         program.compare(tally, &trial, instant)
     })
@@ -95,7 +90,7 @@ fn every_run(tally: &mut Tally, table: &[u8]) -> Result<(), Difference> {
 fn one_run(tally: &mut Tally, random: &mut Random, table: &[u8]) -> Result<(), Difference> {
     let program = Program::of(tally, table);
     for case in families::run(random, table) {
-        let instant = runs::Instant::of(table, case.before(), &case.answers);
+        let instant = runs::Instant::of(table, case.before().as_deref(), &case.answers);
         let instant = instant.expect("an instant that closes");
         program.compare(tally, &Instant::of(&case), &instant)?;
     }
@@ -133,7 +128,7 @@ impl Program<'_> {
     ) -> Result<(), Difference> {
         let (_, mut ours) = tally.compare_and_keep(trial)?;
         let entries = ours.answer.lent()[2];
-        if ours.state.lent() != instant.after || entries != instant.trail.len() as u64 {
+        if ours.state.lent() != packed(&instant.after) || entries != instant.trail.len() as u64 {
             return Err(self.difference(format!("state or entries of {instant:?}")));
         }
         check_marks_of(&self.tree, &self.marks, instant)

@@ -15,11 +15,11 @@ enum-told c = search needs
 returns : tie.Need-returns
 returns c = search needs
 
+pack-requires : tie.Need-pack-requires
+pack-requires c κs = (omega (arith, c .before .before .before .before .before .before .before .pre .0, c .before .pack-arg .given .0), c .before .before .before .before .before .before .before .pre .0, c .before .before .before .before .before .before .before .pre .1)
+
 copy-requires : tie.Need-copy-requires
 copy-requires c κs = search needs
-
-copy-requires-2 : tie.Need-copy-requires-2
-copy-requires-2 c κs = search needs
 
 same-length : tie.Need-same-length
 same-length c = search needs
@@ -28,7 +28,7 @@ same-length-2 : tie.Need-same-length-2
 same-length-2 c = search needs
 
 returns-2 : tie.Need-returns-2
-returns-2 c = handed-over (now (c .before .before .before .before .before .before .before .before .before .before .before .before .before .before .before .args .held)) (now (c .before .before .before .before .before .before .before .before .before .before .before .before .before .before .before .args .marks)) (now (c .before .before .before .before .before .before .before .before .before .before .before .before .before .before .before .args .state)) (now (c .before .before .before .before .before .before .before .before .before .before .before .before .before .before .before .args .emissions)) {n = c .before .before .before .before .before .before .before .before .before .before .before .before .before .before .before .args .n} (c .before .before .before .before .before .before .before .before .before .before .before .ran .given .1) (omega (arith, c .before .before .before .before .before .before .before .before .before .before .before .before .before .before .before .pre .0, c .before .before .before .before .before .before .before .before .before .copy-arg .given .0)) (omega (arith, c .before .before .before .before .copy-arg3 .given .0)) (c .before .before .before .before .before .before .before .copy .ensures) (c .before .before .copy2 .ensures)
+returns-2 c = handed-over (now (c .before .before .before .before .before .before .before .before .before .before .before .before .before .before .before .args .held)) (now (c .before .before .before .before .before .before .before .before .before .before .before .before .before .before .before .args .marks)) (now (c .before .before .before .before .before .before .before .before .before .before .before .before .before .before .before .args .state)) (now (c .before .before .before .before .before .before .before .before .before .before .before .before .before .before .before .args .emissions)) (c .before .before .before .before .before .before .before .before .before .before .before .before .before .before .before .args .n) (c .before .before .before .before .before .before .before .before .before .before .before .ran .given .1) (omega (arith, c .before .before .before .before .copy-arg .given .0)) (c .before .before .before .before .before .before .before .pack .ensures) (c .before .before .copy .ensures)
 
 pub hand-over-spec : {M : Type 1} → statement M
 hand-over-spec =
@@ -37,8 +37,8 @@ hand-over-spec =
     enum-known-ran
     enum-told
     returns
+    pack-requires
     copy-requires
-    copy-requires-2
     same-length
     same-length-2
     returns-2)

@@ -7,6 +7,12 @@ use Rattle.sequencer.proofs.Sequence.{atPauses, start-left, resume-left
 use Rattle.sequencer.proofs.main.Statement.{statement}
 use Rattle.sequencer.proofs.main.Tie as tie
 
+array-write-both : tie.Need-array-write-both
+array-write-both c = search needs
+
+array-write-both-2 : tie.Need-array-write-both-2
+array-write-both-2 c = search needs
+
 slice-aggregate-start : tie.Need-slice-aggregate-start
 slice-aggregate-start c = search needs
 
@@ -125,7 +131,7 @@ is-closed-requires-4 : tie.Need-is-closed-requires-4
 is-closed-requires-4 c κs = search needs
 
 expect-requires-4 : tie.Need-expect-requires-4
-expect-requires-4 c κs = c .is-closed4 .ensures ((resume-left (0 ∷ 1 ∷ []) 0 2 16 (zeros 15) (7 ∷ 9 ∷ []) (resume-left (0 ∷ 0 ∷ []) 1 2 19 atPauses (7 ∷ 9 ∷ []) (resume-left (1 ∷ []) 1 1 9 atPauses (9 ∷ []) (start-left _ _ refl refl (c .before .before .before .before .before .before .before .before .before .before .before .before .before .before .before .before .before .before .before .before .before .before .before .before .before .before .before .before .before .before .before .before .before .before .before .before .before .before .before .before .before .before .start .ensures)) refl suspended (c .before .before .before .before .before .before .before .before .before .before .before .before .before .before .before .before .before .before .before .before .before .before .before .before .before .before .before .before .before .resume .ensures)) refl again (c .before .before .before .before .before .before .before .before .before .before .before .before .before .before .before .before .resume2 .ensures)) refl caught (c .before .before .before .resume3 .ensures)) .answer)
+expect-requires-4 c κs = c .is-closed4 .ensures ((resume-left (0 ∷ 1 ∷ []) 0 2 16 (zeros 128) (7 ∷ 9 ∷ []) (resume-left (0 ∷ 0 ∷ []) 1 2 19 atPauses (7 ∷ 9 ∷ []) (resume-left (1 ∷ []) 1 1 9 atPauses (9 ∷ []) (start-left _ _ refl refl (c .before .before .before .before .before .before .before .before .before .before .before .before .before .before .before .before .before .before .before .before .before .before .before .before .before .before .before .before .before .before .before .before .before .before .before .before .before .before .before .before .before .before .start .ensures)) refl suspended (c .before .before .before .before .before .before .before .before .before .before .before .before .before .before .before .before .before .before .before .before .before .before .before .before .before .before .before .before .before .resume .ensures)) refl again (c .before .before .before .before .before .before .before .before .before .before .before .before .before .before .before .before .resume2 .ensures)) refl caught (c .before .before .before .resume3 .ensures)) .answer)
 
 slice-aggregate-expect-left-10 : tie.Need-slice-aggregate-expect-left-10
 slice-aggregate-expect-left-10 c = search needs
@@ -137,7 +143,7 @@ slice-aggregate-expect-left-12 : tie.Need-slice-aggregate-expect-left-12
 slice-aggregate-expect-left-12 c = search needs
 
 expect-left-requires-4 : tie.Need-expect-left-requires-4
-expect-left-requires-4 c κs = ((resume-left (0 ∷ 1 ∷ []) 0 2 16 (zeros 15) (7 ∷ 9 ∷ []) (resume-left (0 ∷ 0 ∷ []) 1 2 19 atPauses (7 ∷ 9 ∷ []) (resume-left (1 ∷ []) 1 1 9 atPauses (9 ∷ []) (start-left _ _ refl refl (c .before .before .before .before .before .before .before .before .before .before .before .before .before .before .before .before .before .before .before .before .before .before .before .before .before .before .before .before .before .before .before .before .before .before .before .before .before .before .before .before .before .before .before .before .before .before .start .ensures)) refl suspended (c .before .before .before .before .before .before .before .before .before .before .before .before .before .before .before .before .before .before .before .before .before .before .before .before .before .before .before .before .before .before .before .before .before .resume .ensures)) refl again (c .before .before .before .before .before .before .before .before .before .before .before .before .before .before .before .before .before .before .before .before .resume2 .ensures)) refl caught (c .before .before .before .before .before .before .before .resume3 .ensures)) .stateIs, marks-at (resume-left (0 ∷ 1 ∷ []) 0 2 16 (zeros 15) (7 ∷ 9 ∷ []) (resume-left (0 ∷ 0 ∷ []) 1 2 19 atPauses (7 ∷ 9 ∷ []) (resume-left (1 ∷ []) 1 1 9 atPauses (9 ∷ []) (start-left _ _ refl refl (c .before .before .before .before .before .before .before .before .before .before .before .before .before .before .before .before .before .before .before .before .before .before .before .before .before .before .before .before .before .before .before .before .before .before .before .before .before .before .before .before .before .before .before .before .before .before .start .ensures)) refl suspended (c .before .before .before .before .before .before .before .before .before .before .before .before .before .before .before .before .before .before .before .before .before .before .before .before .before .before .before .before .before .before .before .before .before .resume .ensures)) refl again (c .before .before .before .before .before .before .before .before .before .before .before .before .before .before .before .before .before .before .before .before .resume2 .ensures)) refl caught (c .before .before .before .before .before .before .before .resume3 .ensures)) .0, marks-at (resume-left (0 ∷ 1 ∷ []) 0 2 16 (zeros 15) (7 ∷ 9 ∷ []) (resume-left (0 ∷ 0 ∷ []) 1 2 19 atPauses (7 ∷ 9 ∷ []) (resume-left (1 ∷ []) 1 1 9 atPauses (9 ∷ []) (start-left _ _ refl refl (c .before .before .before .before .before .before .before .before .before .before .before .before .before .before .before .before .before .before .before .before .before .before .before .before .before .before .before .before .before .before .before .before .before .before .before .before .before .before .before .before .before .before .before .before .before .before .start .ensures)) refl suspended (c .before .before .before .before .before .before .before .before .before .before .before .before .before .before .before .before .before .before .before .before .before .before .before .before .before .before .before .before .before .before .before .before .before .resume .ensures)) refl again (c .before .before .before .before .before .before .before .before .before .before .before .before .before .before .before .before .before .before .before .before .resume2 .ensures)) refl caught (c .before .before .before .before .before .before .before .resume3 .ensures)) .1, marks-at (resume-left (0 ∷ 1 ∷ []) 0 2 16 (zeros 15) (7 ∷ 9 ∷ []) (resume-left (0 ∷ 0 ∷ []) 1 2 19 atPauses (7 ∷ 9 ∷ []) (resume-left (1 ∷ []) 1 1 9 atPauses (9 ∷ []) (start-left _ _ refl refl (c .before .before .before .before .before .before .before .before .before .before .before .before .before .before .before .before .before .before .before .before .before .before .before .before .before .before .before .before .before .before .before .before .before .before .before .before .before .before .before .before .before .before .before .before .before .before .start .ensures)) refl suspended (c .before .before .before .before .before .before .before .before .before .before .before .before .before .before .before .before .before .before .before .before .before .before .before .before .before .before .before .before .before .before .before .before .before .resume .ensures)) refl again (c .before .before .before .before .before .before .before .before .before .before .before .before .before .before .before .before .before .before .before .before .resume2 .ensures)) refl caught (c .before .before .before .before .before .before .before .resume3 .ensures)) .2)
+expect-left-requires-4 c κs = ((resume-left (0 ∷ 1 ∷ []) 0 2 16 (zeros 128) (7 ∷ 9 ∷ []) (resume-left (0 ∷ 0 ∷ []) 1 2 19 atPauses (7 ∷ 9 ∷ []) (resume-left (1 ∷ []) 1 1 9 atPauses (9 ∷ []) (start-left _ _ refl refl (c .before .before .before .before .before .before .before .before .before .before .before .before .before .before .before .before .before .before .before .before .before .before .before .before .before .before .before .before .before .before .before .before .before .before .before .before .before .before .before .before .before .before .before .before .before .before .start .ensures)) refl suspended (c .before .before .before .before .before .before .before .before .before .before .before .before .before .before .before .before .before .before .before .before .before .before .before .before .before .before .before .before .before .before .before .before .before .resume .ensures)) refl again (c .before .before .before .before .before .before .before .before .before .before .before .before .before .before .before .before .before .before .before .before .resume2 .ensures)) refl caught (c .before .before .before .before .before .before .before .resume3 .ensures)) .stateIs, marks-at (resume-left (0 ∷ 1 ∷ []) 0 2 16 (zeros 128) (7 ∷ 9 ∷ []) (resume-left (0 ∷ 0 ∷ []) 1 2 19 atPauses (7 ∷ 9 ∷ []) (resume-left (1 ∷ []) 1 1 9 atPauses (9 ∷ []) (start-left _ _ refl refl (c .before .before .before .before .before .before .before .before .before .before .before .before .before .before .before .before .before .before .before .before .before .before .before .before .before .before .before .before .before .before .before .before .before .before .before .before .before .before .before .before .before .before .before .before .before .before .start .ensures)) refl suspended (c .before .before .before .before .before .before .before .before .before .before .before .before .before .before .before .before .before .before .before .before .before .before .before .before .before .before .before .before .before .before .before .before .before .resume .ensures)) refl again (c .before .before .before .before .before .before .before .before .before .before .before .before .before .before .before .before .before .before .before .before .resume2 .ensures)) refl caught (c .before .before .before .before .before .before .before .resume3 .ensures)) .0, marks-at (resume-left (0 ∷ 1 ∷ []) 0 2 16 (zeros 128) (7 ∷ 9 ∷ []) (resume-left (0 ∷ 0 ∷ []) 1 2 19 atPauses (7 ∷ 9 ∷ []) (resume-left (1 ∷ []) 1 1 9 atPauses (9 ∷ []) (start-left _ _ refl refl (c .before .before .before .before .before .before .before .before .before .before .before .before .before .before .before .before .before .before .before .before .before .before .before .before .before .before .before .before .before .before .before .before .before .before .before .before .before .before .before .before .before .before .before .before .before .before .start .ensures)) refl suspended (c .before .before .before .before .before .before .before .before .before .before .before .before .before .before .before .before .before .before .before .before .before .before .before .before .before .before .before .before .before .before .before .before .before .resume .ensures)) refl again (c .before .before .before .before .before .before .before .before .before .before .before .before .before .before .before .before .before .before .before .before .resume2 .ensures)) refl caught (c .before .before .before .before .before .before .before .resume3 .ensures)) .1, marks-at (resume-left (0 ∷ 1 ∷ []) 0 2 16 (zeros 128) (7 ∷ 9 ∷ []) (resume-left (0 ∷ 0 ∷ []) 1 2 19 atPauses (7 ∷ 9 ∷ []) (resume-left (1 ∷ []) 1 1 9 atPauses (9 ∷ []) (start-left _ _ refl refl (c .before .before .before .before .before .before .before .before .before .before .before .before .before .before .before .before .before .before .before .before .before .before .before .before .before .before .before .before .before .before .before .before .before .before .before .before .before .before .before .before .before .before .before .before .before .before .start .ensures)) refl suspended (c .before .before .before .before .before .before .before .before .before .before .before .before .before .before .before .before .before .before .before .before .before .before .before .before .before .before .before .before .before .before .before .before .before .resume .ensures)) refl again (c .before .before .before .before .before .before .before .before .before .before .before .before .before .before .before .before .before .before .before .before .resume2 .ensures)) refl caught (c .before .before .before .before .before .before .before .resume3 .ensures)) .2)
 
 returns : tie.Need-returns
 returns c = search needs
@@ -146,6 +152,8 @@ pub main-spec : {M : Type 1} → statement M
 main-spec =
     tie.close
     (tie.spec
+    array-write-both
+    array-write-both-2
     slice-aggregate-start
     slice-aggregate-start-2
     slice-aggregate-start-3

@@ -1,0 +1,2 @@
+pub mod Packing
+pub mod Theorems
