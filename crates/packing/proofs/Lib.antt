@@ -5,3 +5,4 @@ pub mod Clearing
 pub mod Bytes
 pub mod Spreading
 pub mod Theorems
+pub mod Examples

@@ -27,18 +27,19 @@ unfoldable pub column : (ℕ → ℕ) → (i n : ℕ) → List ℕ
 column f i zero = []
 column f i (suc n) = f i ∷ column f (suc i) n
 
--- the bytes of the first n nodes
+-- the bytes of the first n nodes: 1 at each held one
 unfoldable pub unpack : ℕ → List ℕ → List ℕ
 unpack n s = column (heldBit s) 0 n
 
--- eight bytes from i on, as the bits of one, lowest first: 1 where a byte is not 0; and past the end of h it is 0
+-- n bytes of h from i on as bits, lowest first: 1 where a byte is not 0. Past the end of h there are zeros.
 unfoldable pub bitsFrom : List ℕ → (i n : ℕ) → ℕ
 bitsFrom h i n = wordBelow n (λ k. not (eqb (getD h (i + k) 0) 0))
 
+-- byte j has the bits of nodes 8 j to 8 j + 7
 unfoldable pub byteOf : List ℕ → ℕ → ℕ
 byteOf h j = bitsFrom h (8 * j) 8
 
--- all 128 bytes
+-- the packed state that holds what h holds: all 128 bytes
 unfoldable pub pack : List ℕ → List ℕ
 pack h = column (byteOf h) 0 stateBytes
 
@@ -46,10 +47,11 @@ pack h = column (byteOf h) 0 stateBytes
 unfoldable pub isClearFrom : ℕ → List ℕ → Bool
 isClearFrom n s = not (holds (column (heldBit s) n (maxNodes - n)))
 
--- check 12: as document 01 has it for the bytes of the nodes, and bits from n on must be 0
+-- check 12: the bits from n on are 0, and those of the n nodes are admitted as document 01 has it, so those of other nodes than pauses
+-- are 0 too
 abbrev pub admits : Stmt → List ℕ → Bool
 admits p s = isClearFrom (size p) s && admitted p (unpack (size p) s)
 
--- the bits from n on in the byte where node n stands, none where n is the first there
+-- for the code: the bits from n on in the byte where node n stands, none where n is the first there
 abbrev pub tailOf : ℕ → List ℕ → ℕ
 tailOf n s = cond (eqb (n % 8) 0) 0 (getD s (n / 8) 0 / 2 ^ (n % 8))
