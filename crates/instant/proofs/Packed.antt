@@ -1,7 +1,7 @@
 -- F-11 of the calls.
-use mathlib.Core.Path.{_≡_, refl, sym, ap, ap₂, subst, _∙_}
+use mathlib.Core.Path.{_≡_, refl, sym, ap, ap₂, _∙_}
 use mathlib.Core.Bool.{Bool, true, false, cond, _&&_}
-use mathlib.Core.List.{List, _++_}
+use mathlib.Core.List.{List}
 use Prim.Native.Nat.{ℕ, zero, suc, _/_, _≤_, _<_}
 use native.Mathlib.Decide.{decLt}
 use native.Mathlib.Omega.{arith}
@@ -13,27 +13,25 @@ use Rattle.codes.proofs.Bools.{left, right, toT, cannot-pass}
 use Rattle.esterel.specs.Limits.{maxNodes, signals}
 use Rattle.esterel.specs.Statement.{Stmt, kind, size, nodes}
 use Rattle.esterel.specs.Table.{Verdict, passed, refused}
-use Rattle.esterel.specs.Instant.{Result, closed, starved, stuck, zeros, holds, atPauses, oneBranch, start, resume, admitted}
+use Rattle.esterel.specs.Instant.{Result, closed, starved, stuck, holds, atPauses, oneBranch, start, resume, admitted}
 use Rattle.esterel.specs.Outcome.{Outcome, done, needsAnswer, noRule, outcome, statementAt}
 use Rattle.esterel.specs.Theorems.{Accepted, Closes}
 use Rattle.esterel.proofs.Accepted.{acceptance}
-use Rattle.esterel.proofs.Held.{holds-zeros}
 use Rattle.esterel.proofs.Sizes.{length-nodes}
 use Rattle.esterel.proofs.Theorems.{demand3}
 use Rattle.table.proofs.Surveying.{few-accepted}
 use Rattle.packing.specs.Packing.{stateBytes, heldBit, pack, unpack, isClearFrom, admits}
-use Rattle.packing.proofs.Zeros.{none-at}
 use Rattle.packing.proofs.Bits.{length-pack, unpack-at}
 use Rattle.packing.proofs.Clearing.{clear-at}
 use Rattle.packing.proofs.Theorems.{unpack-of, clear-of, zero-held, same-unpacked, same-admits}
 use Rattle.analysis.specs.Analysis.{checked}
 use Rattle.analysis.proofs.Theorems.{verdict-nodes, checked-passed}
 use Rattle.instant.specs.declared.Reaction.{Reaction}
-use Rattle.instant.specs.declared.Reaction.the-variants.{Closed, Refused}
+use Rattle.instant.specs.declared.Reaction.the-variants.{Closed}
 use Rattle.instant.specs.Admission.{byteFits}
-use Rattle.instant.specs.Calls.{roomFor, verdictFor, Call, refuses, closes, closing, answerOf, stateAfter, emissionsAfter, startCall, resumeCall, Reacts, Starting, Resuming}
-use Rattle.instant.specs.Theorems.{Lent, Ends, Instant}
-use Rattle.instant.specs.Packed.{verdictBefore, closingBefore, startBefore, resumeBefore, StartingBefore, ResumingBefore, Rooms, IsPacked, PackedCalls}
+use Rattle.instant.specs.Calls.{verdictFor, Call, refuses, closes, closing, answerOf, stateAfter, emissionsAfter, startCall, resumeCall, Reacts}
+use Rattle.instant.specs.Theorems.{Ends, Instant}
+use Rattle.instant.specs.Packed.{verdictBefore, closingBefore, startBefore, resumeBefore, Rooms, IsPacked, PackedCalls}
 use Rattle.instant.proofs.Admits.{byte-of}
 use Rattle.instant.proofs.Closing.{held-length, reacts-as}
 use Rattle.instant.proofs.Theorems.{demand3OfCalls}

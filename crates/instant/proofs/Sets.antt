@@ -1,13 +1,12 @@
 -- Laws of `sets`, the stores of a list's elements one after the other.
 use mathlib.Core.Path.{_≡_, refl, sym, ap, _∙_}
-use mathlib.Core.Bool.{false}
 use mathlib.Core.List.{List, [], _∷_, _++_}
 use Prim.Native.Nat.{ℕ, zero, suc, _+_, _-_, _<_, _≤_}
 use native.Mathlib.Decide.{decLt}
 use native.Mathlib.Omega.{arith}
-use lib.ListN.{length, getD, set, drop, length-set, replicate-append-replicate, length-replicate}
+use lib.ListN.{length, getD, set, drop, length-set, length-replicate}
 use lib.Seq.{sets, set-comm, set-set, set-getD, getD-set-same, getD-set-other, drop-set-lt}
-use Rattle.esterel.specs.Instant.{zeros, holds}
+use Rattle.esterel.specs.Instant.{zeros}
 use Rattle.table.proofs.Buffers.{sets-append}
 
 set-before : (l : List ℕ) (i j y : ℕ) (a : List ℕ) → j < i → set (sets l i a) j y ≡ sets (set l j y) i a

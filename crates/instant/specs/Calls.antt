@@ -25,7 +25,7 @@ use Rattle.instant.specs.declared.Ran.the-variants.{Closed as ClosedRan}
 use Rattle.instant.specs.declared.Reaction.{Reaction}
 use Rattle.instant.specs.declared.Reaction.the-variants.{Closed, Refused}
 
--- check 3: 128 bytes of state (F-11), and one for each signal
+-- check 3: 128 bytes of state (F-11), and a byte for each signal
 abbrev pub roomFor : (state emissions : ℕ) → Bool
 roomFor state emissions = leb stateBytes state && leb signals emissions
 

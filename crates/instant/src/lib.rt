@@ -47,7 +47,7 @@ fn refused(check: Check) -> Reaction
     }
 }
 
-// Whether there are 128 bytes of state, and one for each signal.
+// Whether there are 128 bytes of state, and a byte for each signal.
 fn has_room(state: usize, emissions: usize) -> bool
     ensures { λ r. ⌜ r ≡ roomFor state emissions ⌝ }
 {

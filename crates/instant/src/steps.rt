@@ -4,8 +4,6 @@ ghost use mathlib.Core.Bool.{cond};
 ghost use Prim.Native.Nat.{_+_, _-_, _*_, _<_, _≤_};
 ghost use lib.Dec.{eqb};
 ghost use lib.ListN.{length, getD};
-ghost use lib.Seq.{sets};
-ghost use Rattle.esterel.specs.Instant.{zeros};
 ghost use Rattle.table.specs.Kinds.{isSuspend, leafOf};
 ghost use Rattle.instant.specs.Steps.{alone, entriesOf, hasEnded, takenAfter, oneMore, Left, both, asked, holdsBeneath, doneAfter, LeafRan};
 use crate::Ran;

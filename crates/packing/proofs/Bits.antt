@@ -2,16 +2,16 @@
 use mathlib.Core.Path.{_≡_, refl, sym, ap, ap₂, _∙_}
 use mathlib.Core.Bool.{Bool, true, false, not}
 use mathlib.Core.List.{List, _++_}
-use Prim.Native.Nat.{ℕ, zero, suc, _+_, _*_, _/_, _%_, _^_, _≤_, _<_}
+use Prim.Native.Nat.{ℕ, zero, suc, _+_, _*_, _/_, _%_, _≤_, _<_}
 use native.Mathlib.Omega.{arith}
 use lib.Dec.{eqb}
 use lib.ListN.{length, getD, List·getD-append}
 use lib.Seq.{ext-getD}
-use Rattle.codes.specs.Codes.{bit, wordBelow}
+use Rattle.codes.specs.Codes.{bit}
 use Rattle.codes.specs.Words.{_∋_, setOf}
 use Rattle.codes.proofs.WordBits.{below-lt, ∋-below, below-same, below-set}
 use Rattle.esterel.specs.Limits.{maxNodes}
-use Rattle.packing.specs.Packing.{stateBytes, heldBit, column, unpack, bitsFrom, byteOf, pack}
+use Rattle.packing.specs.Packing.{stateBytes, heldBit, unpack, bitsFrom, byteOf, pack}
 use Rattle.packing.proofs.Columns.{length-column, column-at, column-past}
 
 -- a bit is 0 or 1, and is 1 where it is not 0

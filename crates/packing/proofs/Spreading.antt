@@ -1,7 +1,7 @@
 -- The bytes of the nodes as they are made: those of one byte of the state from its lowest bit on, and all from the first on.
 use mathlib.Core.Path.{_≡_, refl, sym, ap, _∙_}
 use mathlib.Core.List.{List, _++_}
-use Prim.Native.Nat.{ℕ, zero, suc, _+_, _-_, _*_, _/_, _%_, _^_, _≤_, _<_}
+use Prim.Native.Nat.{ℕ, suc, _+_, _-_, _*_, _/_, _%_, _^_, _≤_, _<_}
 use native.Mathlib.Nat.{div-one}
 use native.Mathlib.Omega.{arith}
 use lib.ListN.{length, getD, set, take, drop}
@@ -9,9 +9,8 @@ use lib.Pow.{shr-shr}
 use lib.Seq.{sets, length-sets, take-all}
 use Rattle.codes.specs.Words.{_∋_}
 use Rattle.codes.proofs.Bits.{bit-test}
-use Rattle.esterel.specs.Limits.{maxNodes}
 use Rattle.table.proofs.Buffers.{length-front}
-use Rattle.packing.specs.Packing.{bitOf, heldBit, column, unpack}
+use Rattle.packing.specs.Packing.{bitOf, column, unpack}
 use Rattle.packing.proofs.Columns.{length-column, column-at, column-stored, front-more}
 use Rattle.packing.proofs.Bits.{held-at, length-unpack, unpack-at}
 

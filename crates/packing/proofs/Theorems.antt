@@ -1,5 +1,5 @@
 -- Packing and unpacking undo each other.
-use mathlib.Core.Path.{_≡_, refl, sym, ap, ap₂, _∙_}
+use mathlib.Core.Path.{_≡_, sym, ap, ap₂, _∙_}
 use mathlib.Core.Bool.{true, not, _&&_}
 use mathlib.Core.List.{List}
 use Prim.Native.Nat.{ℕ, _+_, _*_, _/_, _%_, _≤_, _<_}
@@ -16,8 +16,8 @@ use Rattle.esterel.specs.Limits.{maxNodes}
 use Rattle.esterel.specs.Statement.{Stmt, size}
 use Rattle.esterel.specs.Instant.{zeros, admitted}
 use Rattle.esterel.proofs.Held.{holds-zeros}
-use Rattle.packing.specs.Packing.{stateBytes, heldBit, unpack, byteOf, pack, isClearFrom, admits}
-use Rattle.packing.specs.Theorems.{Unpacked, Packed, Packs}
+use Rattle.packing.specs.Packing.{stateBytes, heldBit, unpack, pack, isClearFrom, admits}
+use Rattle.packing.specs.Theorems.{Packed, Packs}
 use Rattle.packing.proofs.Zeros.{none-at}
 use Rattle.packing.proofs.Bits.{bit-not-zero, not-zero-bit, bit-zero, byte-lt, is-byte, held-is, held-at, held-le, length-pack, pack-at, length-unpack, unpack-at, unpack-past, unpack-same, packed-bit}
 use Rattle.packing.proofs.Clearing.{clear-at, is-clear}

@@ -1,9 +1,8 @@
 -- `packing::pack` meets its contract: the bytes before `j` are packed, then the last, and `clear` makes the others 0.
-use mathlib.Core.Path.{_≡_, refl}
-use mathlib.Core.List.{List}
-use mathlib.Core.Logic.{_⊎_, inl, inr, ⊎-elim}
+use mathlib.Core.Path.{refl}
+use mathlib.Core.Logic.{inl, inr, ⊎-elim}
 use native.Mathlib.Omega.{arith}
-use Prim.Native.Nat.{ℕ, _-_, _/_}
+use Prim.Native.Nat.{_-_, _/_}
 use denote.Ref.{now}
 use lib.ListN.{take}
 use Rattle.table.proofs.Filling.{Filling}
