@@ -443,7 +443,7 @@ def vectors(file, wanted, chance, theorem, taken=lambda line: True):
         numbered = sorted(chance.sample(numbered, wanted))
     return [theorem(at, json.loads(line)) for at, line in numbered]
 
-# ---- the edges; what is expected was worked out by hand from document 01, and from F-5 (S under a parallel) and F-7 (62 traps) of document 02
+# ---- the edges; what is expected was worked out by hand from document 01, and from F-5 (S under a parallel), F-7 (62 traps) and F-11 (packed states) of document 02
 
 PAUSE, W1 = [2, 0], [2, 0, 3, 7, 9, 0, 8, 0]
 

@@ -120,8 +120,10 @@
  * that is, and have no check bytes: a state of another table, or one that was damaged, is refused
  * only where it is not admitted.
  *
- * Before, a state had n bytes, one for each node. One that was stored in that form must be turned
- * into bits before it is lent: it can be mistaken for another state.
+ * In archives from before F-11, whose header has no BAVZHRONO_STATE_BYTES, a state had n bytes, one
+ * for each node. The functions have the same names and parameters, so programs of that time link and
+ * must be changed; a state that was stored in that form must be turned into bits before it is lent:
+ * it can be mistaken for another state.
  *
  * What comes back
  *

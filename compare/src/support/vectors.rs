@@ -7,7 +7,9 @@ use std::path::{Path, PathBuf};
 use super::byte_states::packed;
 use super::cases::Call;
 use super::hex;
-use crate::{Closed, Refusal};
+use crate::held::Held;
+use crate::instant::admitted;
+use crate::{table, Closed, Refusal};
 
 pub struct ListingVector {
     pub table: Vec<u8>,
@@ -45,12 +47,12 @@ impl InstantVector {
         }
     }
 
-    /// Whether a case from before F-11 was refused by 12 and has a byte above 1 at a pause,
-    /// so that the packed state may be admitted.
+    /// Whether a case from before F-11 was refused by 12 for a byte above 1 at a pause alone:
+    /// packed, its state is admitted.
     pub fn loses_its_refusal(&self) -> bool {
-        let mut nodes = self.table.chunks_exact(2).zip(&self.state);
         let by_12 = matches!(self.outcome, Err(Refusal { number: 12, .. }));
-        by_12 && nodes.any(|(node, &byte)| node[0] == 2 && byte > 1)
+        let held = || Held::read(&packed(self.nodes(), &self.state));
+        by_12 && table::read(&self.table).is_ok_and(|tree| admitted(&tree, &held()))
     }
 
     pub fn nodes(&self) -> usize {

@@ -1,5 +1,5 @@
 -- A state is admitted exactly if it holds something and each node's part of it fits.
-use mathlib.Core.Path.{_≡_, refl, sym, ap, _∙_}
+use mathlib.Core.Path.{_≡_, refl, sym, ap, subst, _∙_}
 use mathlib.Core.Bool.{Bool, true, false, _&&_}
 use mathlib.Core.List.{List, [], _∷_, _++_}
 use Prim.Native.Nat.{ℕ, zero, suc, _+_, _-_, _≤_, _<_}
@@ -7,8 +7,8 @@ use native.Mathlib.Decide.{decLt}
 use native.Mathlib.Omega.{arith}
 use borrow.Author.Tests.{lt-ltb, le-ltb}
 use lib.Dec.{ltb}
-use lib.ListN.{length, getD, take, drop}
-use lib.Seq.{take-take, take-add, getD-take, length-take-le}
+use lib.ListN.{length, getD, take, drop, length-append}
+use lib.Seq.{take-take, take-add, take-at, getD-take, length-take-le}
 use Rattle.codes.proofs.Bools.{both, left, right}
 use Rattle.esterel.specs.Statement.{Binary, Stmt, leaf, one, two, size, nodes}
 use Rattle.esterel.specs.Instant.{holds, first, second, apart, atPauses, oneBranch, admitted}
@@ -17,8 +17,12 @@ use Rattle.esterel.proofs.Parts.{part-at}
 use Rattle.esterel.proofs.Nodes.{Sits, sits-own}
 use Rattle.esterel.proofs.Ranges.{Over, over-join, over-last}
 use Rattle.esterel.proofs.Sizes.{length-nodes}
-use Rattle.packing.specs.Packing.{unpack, isClearFrom, admits}
-use Rattle.instant.specs.Admission.{countHeld, Counted, byteFits, childrenApart, nodeFits}
+use Rattle.packing.specs.Packing.{unpack, isClearFrom}
+use Rattle.packing.proofs.Bits.{length-unpack}
+use Rattle.table.specs.Check.{passIf}
+use Rattle.table.specs.declared.Check.{Check}
+use Rattle.table.specs.declared.Check.the-variants.{Refused}
+use Rattle.instant.specs.Admission.{Admitting, countHeld, Counted, byteFits, childrenApart, nodeFits}
 
 -- counts and holds
 pub count-append : (a b : List ℕ) → countHeld (a ++ b) ≡ countHeld a + countHeld b
@@ -148,13 +152,34 @@ module _ (p : Stmt) (state : List ℕ) (room : size p ≤ length state) where
         (both (all-bytes (nodes p) own own-length (λ j k. let l : j < size p = omega (arith, length-nodes p) in rw (own-byte j l) (left (byteFits (statementAt (nodes p) j) (getD state j 0)) _ (o .fits j (omega arith)))))
         (apart-each (nodes p) state p 0 (sits-own p) (λ j k l. right (byteFits (statementAt (nodes p) j) (getD state j 0)) (o .fits j (omega arith))))))
 
--- the bits from the program's end on
-module _ (p : Stmt) (state : List ℕ) {b : Bool} {n : ℕ} (e : b ≡ isClearFrom n state) (en : n ≡ size p) where
-  clear-is : isClearFrom (size p) state ≡ b
-  clear-is = ap (λ i. isClearFrom i state) (sym en) ∙ sym e
+-- the front of what is unpacked
+pub front-unpacked : (state old : List ℕ) {held : List ℕ} (n : ℕ) → held ≡ unpack n state ++ drop n old → take n held ≡ unpack n state
+front-unpacked state old n e = ap (take n) e ∙ take-at (unpack n state) (drop n old) n (length-unpack n state)
 
-  pub strays : b ≡ false → false ≡ admits p state
-  strays z = sym (ap (λ x. x && admitted p (unpack (size p) state)) (clear-is ∙ z))
+pub unpacked-long : (state old : List ℕ) {held : List ℕ} (n : ℕ) → held ≡ unpack n state ++ drop n old → n ≤ length held
+unpacked-long state old n e = let x = ap length e ∙ length-append (unpack n state) (drop n old) in let y = length-unpack n state in omega arith
 
-  pub none-strays : b ≡ true → (held : List ℕ) → take (size p) held ≡ unpack (size p) state → admitted p (take (size p) held) ≡ admits p state
-  none-strays z held own = ap (admitted p) own ∙ sym (ap (λ x. x && admitted p (unpack (size p) state)) (clear-is ∙ z))
+-- check 12 of a packed state: the bits from the program's end on, then the bytes that are unpacked
+module _ (p : Stmt) (state held : List ℕ) {held′ counts′ : List ℕ} {n : ℕ} (en : n ≡ size p) (u : held′ ≡ unpack n state ++ drop n held) (c : Counted held′ counts′ n) where
+  unpacked-is : held′ ≡ unpack (size p) state ++ drop (size p) held
+  unpacked-is = u ∙ ap (λ k. unpack k state ++ drop k held) en
+
+  module _ {b : Bool} (e : b ≡ isClearFrom n state) where
+    clear-is : isClearFrom (size p) state ≡ b
+    clear-is = ap (λ i. isClearFrom i state) (sym en) ∙ sym e
+
+    pub admitting-strays : b ≡ false → Admitting p state held held′ counts′ (Refused 12 0)
+    admitting-strays z =
+        record {
+          answer = ap (passIf 12) (sym (ap (λ x. x && admitted p (unpack (size p) state)) (clear-is ∙ z)));
+          unpacked = unpacked-is;
+          counted = subst (Counted held′ counts′) en c;
+        }
+
+    pub admitting-by : b ≡ true → {r : Check} → r ≡ passIf 12 (admitted p (take (size p) held′)) → Admitting p state held held′ counts′ r
+    admitting-by z a =
+        record {
+          answer = a ∙ ap (passIf 12) (ap (admitted p) (front-unpacked state held (size p) unpacked-is) ∙ sym (ap (λ x. x && admitted p (unpack (size p) state)) (clear-is ∙ z)));
+          unpacked = unpacked-is;
+          counted = subst (Counted held′ counts′) en c;
+        }

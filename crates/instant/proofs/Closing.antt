@@ -20,7 +20,7 @@ use Rattle.esterel.proofs.Sizes.{size-pos}
 use Rattle.esterel.proofs.Theorems.{demand3}
 use Rattle.packing.specs.Packing.{stateBytes, pack, unpack, isClearFrom, admits}
 use Rattle.packing.proofs.Zeros.{none-at}
-use Rattle.packing.proofs.Bits.{length-pack, length-unpack}
+use Rattle.packing.proofs.Bits.{length-pack}
 use Rattle.instant.proofs.Algebra.{length-marked}
 use Rattle.table.specs.Program.{programOf}
 use Rattle.table.specs.Check.{passIf}
@@ -36,7 +36,7 @@ use Rattle.instant.specs.declared.Ran.{Ran}
 use Rattle.instant.specs.declared.Ran.the-variants.{Closed as ClosedRan}
 use Rattle.instant.specs.declared.Reaction.{Reaction}
 use Rattle.instant.specs.declared.Reaction.the-variants.{Closed as ClosedReaction}
-use Rattle.instant.specs.Admission.{Counted, Unpacks}
+use Rattle.instant.specs.Admission.{Counted}
 use Rattle.instant.specs.Calls.{Call, closing, handed, Reacts, Ready, startCall, resumeCall, verdictFor, refusalOf}
 use Rattle.instant.proofs.Emissions.{marks-are}
 use Rattle.instant.proofs.Entering.{counts-rise, admitted-small}
@@ -87,10 +87,6 @@ handed-over held marks state emissions n e wide s m =
 pub reacts-as : {call call′ : Call} {state emissions state′ emissions′ : List ℕ} {r : Reaction} → call ≡ call′ → Reacts call state emissions state′ emissions′ r → Reacts call′ state emissions state′ emissions′ r
 reacts-as {state = state} {emissions = emissions} {state′ = state′} {emissions′ = emissions′} {r = r} e = subst (λ c. Reacts c state emissions state′ emissions′ r) e
 
--- the front of what is unpacked
-pub front-unpacked : (state old : List ℕ) {held : List ℕ} (n : ℕ) → held ≡ unpack n state ++ drop n old → take n held ≡ unpack n state
-front-unpacked state old n e = ap (take n) e ∙ take-at (unpack n state) (drop n old) n (length-unpack n state)
-
 -- a run over the last node hands over the rules' outcome
 module _ (t answers held held′ marks′ : List ℕ) {n : ℕ} (long : size (programOf t) ≤ length held) (en : n ≡ size (programOf t)) where
   pub hands : {x : Result} {r : Ran} → Closes (programOf t) answers x → RanIs t answers 0 held held′ (zeros signals) marks′ x r → handed r (take n held′) (take signals marks′) ≡ closing (outcome (programOf t) x)
@@ -122,16 +118,6 @@ module _ {t sizes : List ℕ} {a b : ℕ} (o : Ready t a b sizes) where
   pub root-clear : (n : ℕ) → n ≡ size (programOf t) → (m : ℕ) → Clear t (zeros m) (n - 1)
   unfolding Clear
   root-clear n en m j lo hi = none-at (zeros m) (holds-zeros m) j
-
-  -- the bytes of its nodes, unpacked over others
-  pub unpacks : (state old : List ℕ) {held : List ℕ} {n : ℕ} → a ≡ length state → n ≡ size (programOf t) → n ≤ length old → held ≡ unpack n state ++ drop n old → Unpacks (programOf t) held state
-  unpacks state old {held} {n} ea en le e =
-      record {
-        few = o .few;
-        room = omega (arith, o .places);
-        places = (let x = ap length e ∙ length-append (unpack n state) (drop n old) in let y = length-unpack n state in omega arith);
-        front = rw en at (front-unpacked state old n e);
-      }
 
   module _ (answers state emissions : List ℕ) (ea : a ≡ length state) (eb : b ≡ length emissions) where
     is-passed : verdictFor t (length state) (length emissions) ≡ passed (programOf t)

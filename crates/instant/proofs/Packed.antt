@@ -9,10 +9,11 @@ use borrow.Author.Tests.{le-leb}
 use lib.Dec.{leb, eqb, eqb→eq}
 use lib.ListN.{length, getD, take, drop, length-take, List·getD-eq-default}
 use lib.Seq.{take-at, getD-take, length-take-le}
-use Rattle.codes.proofs.Bools.{left, right, toT, cannot-pass}
+use Rattle.codes.proofs.Bools.{both as bothPass, left, right, toT, cannot-pass}
 use Rattle.esterel.specs.Limits.{maxNodes, signals}
 use Rattle.esterel.specs.Statement.{Stmt, kind, size, nodes}
 use Rattle.esterel.specs.Table.{Verdict, passed, refused}
+use Rattle.esterel.specs.Checks.{verdict}
 use Rattle.esterel.specs.Instant.{Result, closed, starved, stuck, holds, atPauses, oneBranch, start, resume, admitted}
 use Rattle.esterel.specs.Outcome.{Outcome, done, needsAnswer, noRule, outcome, statementAt}
 use Rattle.esterel.specs.Theorems.{Accepted, Closes}
@@ -25,14 +26,15 @@ use Rattle.packing.proofs.Bits.{length-pack, unpack-at}
 use Rattle.packing.proofs.Clearing.{clear-at}
 use Rattle.packing.proofs.Theorems.{unpack-of, clear-of, zero-held, same-unpacked, same-admits}
 use Rattle.analysis.specs.Analysis.{checked}
-use Rattle.analysis.proofs.Theorems.{verdict-nodes, checked-passed}
+use Rattle.analysis.proofs.Theorems.{verdict-nodes, checked-room, checked-passed}
 use Rattle.instant.specs.declared.Reaction.{Reaction}
-use Rattle.instant.specs.declared.Reaction.the-variants.{Closed}
+use Rattle.instant.specs.declared.Reaction.the-variants.{Closed, Refused}
 use Rattle.instant.specs.Admission.{byteFits}
 use Rattle.instant.specs.Calls.{verdictFor, Call, refuses, closes, closing, answerOf, stateAfter, emissionsAfter, startCall, resumeCall, Reacts}
 use Rattle.instant.specs.Theorems.{Ends, Instant}
-use Rattle.instant.specs.Packed.{verdictBefore, closingBefore, startBefore, resumeBefore, Rooms, IsPacked, PackedCalls}
+use Rattle.instant.specs.Packed.{verdictBefore, closingBefore, startBefore, resumeBefore, ResumingBefore, Rooms, IsPacked, PackedCalls}
 use Rattle.instant.proofs.Admits.{byte-of}
+use Rattle.instant.proofs.Entering.{admitted-small}
 use Rattle.instant.proofs.Closing.{held-length, reacts-as}
 use Rattle.instant.proofs.Theorems.{demand3OfCalls}
 
@@ -150,7 +152,7 @@ module _ {t bytes state : List ℕ} (o : Rooms t bytes state) (emissions : List 
       let accepted = checked-passed _ t p e in
       (acceptance t p accepted .1, sym (verdict-nodes t p accepted))
 
-  module _ (answers : List ℕ) (small : (i : ℕ) → getD bytes i 0 ≤ 1) (is : IsPacked t bytes state) where
+  module _ (answers : List ℕ) (small : (i : ℕ) → i < length t / 2 → getD bytes i 0 ≤ 1) (is : IsPacked t bytes state) where
     both-resume : (v : Verdict) → verdictBefore t (length bytes) (length emissions) ≡ v → resumeCall v state answers ≡ packed (resumeBefore v bytes answers)
     both-resume (passed p) e =
         let accepted = checked-passed _ t p e in
@@ -158,13 +160,13 @@ module _ {t bytes state : List ℕ} (o : Rooms t bytes state) (emissions : List 
         let few = few-accepted t p accepted in
         let front : take stateBytes state ≡ pack (take (size p) bytes) = is ∙ ap (λ k. pack (take k bytes)) nodes in
         let long : length (take (size p) bytes) ≡ size p = length-take-le (size p) bytes (omega (arith, o .byBytes)) in
-        resume-packed p bytes state answers (unpack-of state (size p) few (take (size p) bytes) long front (small-front (size p))) (clear-of state (size p) few (take (size p) bytes) long front)
+        resume-packed p bytes state answers (unpack-of state (size p) few (take (size p) bytes) long front (small-front (size p) nodes)) (clear-of state (size p) few (take (size p) bytes) long front)
       where
-        small-front : (n i : ℕ) → getD (take n bytes) i 0 ≤ 1
-        small-front n i = go (decLt i n)
+        small-front : (n : ℕ) → length t / 2 ≡ n → (i : ℕ) → getD (take n bytes) i 0 ≤ 1
+        small-front n en i = go (decLt i n)
           where
             go : Dec (i < n) → getD (take n bytes) i 0 ≤ 1
-            go (yes h) = omega (arith, getD-take n bytes i 0 h, small i)
+            go (yes h) = omega (arith, getD-take n bytes i 0 h, small i (omega arith))
             go (no h) = let z = List·getD-eq-default (take n bytes) 0 {n = i} (let y = length-take n bytes in omega arith) in omega arith
     both-resume (refused a b) e = refused-both bytes state answers a b
 
@@ -196,6 +198,15 @@ module _ (state other : List ℕ) (same : take stateBytes state ≡ take stateBy
       ap₂ (λ b h. cond b (closing (outcome p (resume 0 p h answers))) (refuses 12 0)) (same-admits state other same p (f p refl)) (same-unpacked state other same (size p) (f p refl))
   same-call (refused a b) f = refl
 
+-- a byte above 1 was refused
+above-one : (t answers bytes emissions bytes′ emissions′ : List ℕ) (p : Stmt) (r : Reaction) (i : ℕ) → verdict t ≡ passed p → size p ≤ length bytes → signals ≤ length emissions → i < size p → 1 < getD bytes i 0 → ResumingBefore t answers bytes emissions bytes′ emissions′ r → r ≡ Refused 12 0
+unfolding resumeBefore
+above-one t answers bytes emissions bytes′ emissions′ p r i v room wide hi one o =
+    let fails : admitted p (take (size p) bytes) ≡ false = cannot-pass (admitted p (take (size p) bytes)) (λ e. omega (arith, admitted-small p (take (size p) bytes) e i, getD-take (size p) bytes i 0 hi)) in
+    let enough : (leb (length t / 2) (length bytes) && leb signals (length emissions)) ≡ true = bothPass (le-leb (length t / 2) (length bytes) (omega (arith, verdict-nodes t p v))) (le-leb signals (length emissions) wide) in
+    let passes : verdictBefore t (length bytes) (length emissions) ≡ passed p = ap (λ b. checked b t) enough ∙ checked-room t ∙ v in
+    reacts-as (ap (λ x. resumeBefore x bytes answers) passes ∙ ap (λ b. cond b (closingBefore (outcome p (resume 0 p (take (size p) bytes) answers))) (refuses 12 0)) fails) o .answer
+
 pub packedCalls : PackedCalls
 packedCalls =
     record {
@@ -225,4 +236,5 @@ packedCalls =
           let w′ = reacts-as (ap (λ x. resumeCall x state answers) (sym (one-verdict room emissions)) ∙ both-resume room emissions answers small is v refl) w in
           let both = alike places o w′ in
           (both .0, both .1, kept-packed places o w′ is));
+      aboveOneBefore = above-one;
     }

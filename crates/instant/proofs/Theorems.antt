@@ -1,7 +1,7 @@
 -- Demand 3 of the calls: each contract joined with the theory's theorems.
 use mathlib.Core.Path.{_≡_, refl, sym, ap, subst, _∙_}
 use mathlib.Core.Logic.{_↔_}
-use mathlib.Core.Bool.{Bool, true, false, cond}
+use mathlib.Core.Bool.{Bool, true, false, cond, _&&_}
 use mathlib.Core.List.{List}
 use Prim.Native.Nat.{ℕ, _≤_, _<_}
 use native.Mathlib.Omega.{arith}
@@ -236,7 +236,7 @@ demand3OfCalls =
           (let x = starts-instant t answers state emissions state′ emissions′ p (Closed code k entries) l o .exact code k entries refl in
           omega (arith, x .entriesAre, demand3 .startEntries p answers code (x .trail) _ (x .rest) (x .rules)));
       blind = λ t answers state other emissions state′ other′ emissions′ emissions″ r s e o w.
-          (let same : startCall (verdictFor t (length state) (length emissions)) answers ≡ startCall (verdictFor t (length other) (length emissions)) answers = ap (λ i. startCall (verdictFor t i (length emissions)) answers) e in
+          (let same : startCall (verdictFor t (length state) (length emissions)) answers ≡ startCall (verdictFor t (length other) (length emissions)) answers = ap (λ b. startCall (checked (b && leb signals (length emissions)) t) answers) e in
           let alike : r ≡ s = o .answer ∙ ap answerOf same ∙ sym (w .answer) in (
             alike,
             o .emissionsAre ∙ ap (λ c. emissionsAfter c emissions) same ∙ sym (w .emissionsAre),

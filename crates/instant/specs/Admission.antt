@@ -2,14 +2,16 @@
 use Prim.Native.Nat.{ℕ, zero, suc, _-_, _≤_, _<_}
 use mathlib.Core.Path.{_≡_}
 use mathlib.Core.Bool.{Bool, true, _&&_, _||_}
-use mathlib.Core.List.{List, [], _∷_}
+use mathlib.Core.List.{List, [], _∷_, _++_}
 use lib.Dec.{eqb}
 use lib.ListN.{length, getD, take, drop}
 use Rattle.esterel.specs.Limits.{maxNodes}
 use Rattle.esterel.specs.Statement.{Stmt, leaf, one, two, kind, size}
 use Rattle.esterel.specs.Instant.{holds, apart}
 use Rattle.esterel.specs.Outcome.{statementAt}
-use Rattle.packing.specs.Packing.{stateBytes, unpack}
+use Rattle.packing.specs.Packing.{stateBytes, unpack, admits}
+use Rattle.table.specs.Check.{passIf}
+use Rattle.table.specs.declared.Check.{Check}
 use Rattle.table.specs.declared.Kind.{Kind}
 use Rattle.table.specs.Kinds.{isPause, isSequence, isPresent}
 
@@ -45,9 +47,15 @@ byteFitsKind k b = eqb b 0 || eqb b 1 && isPause k
 abbrev pub isExclusive : Kind → Bool
 isExclusive k = isSequence k || isPresent k
 
--- the bytes of p's nodes, as the bits of a packed state say
-pub record Unpacks (p : Stmt) (held state : List ℕ) : Type 0 where
+-- room for a packed state, for the bytes of p's nodes and for their counts
+pub record Suffices (p : Stmt) (state held counts : List ℕ) : Type 0 where
   pub few : size p ≤ maxNodes
   pub room : stateBytes ≤ length state
   pub places : size p ≤ length held
-  pub front : take (size p) held ≡ unpack (size p) state
+  pub listed : size p < length counts
+
+-- check 12 of a packed state (F-11), whose bits are then the bytes of p's nodes, and counted
+pub record Admitting (p : Stmt) (state held held′ counts′ : List ℕ) (r : Check) : Type 0 where
+  pub answer : r ≡ passIf 12 (admits p state)
+  pub unpacked : held′ ≡ unpack (size p) state ++ drop (size p) held
+  pub counted : Counted held′ counts′ (size p)

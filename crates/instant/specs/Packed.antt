@@ -9,6 +9,7 @@ use lib.ListN.{length, getD, take}
 use Rattle.esterel.specs.Limits.{maxNodes, signals}
 use Rattle.esterel.specs.Statement.{Stmt, kind, size, nodes}
 use Rattle.esterel.specs.Table.{Verdict, passed, refused}
+use Rattle.esterel.specs.Checks.{verdict}
 use Rattle.esterel.specs.Instant.{Result, start, resume, admitted}
 use Rattle.esterel.specs.Outcome.{Outcome, done, needsAnswer, noRule, outcome, statementAt}
 use Rattle.packing.specs.Packing.{stateBytes, heldBit, pack}
@@ -83,10 +84,15 @@ pub record PackedCalls : Type 0 where
       StartingBefore t answers bytes emissions bytes′ emissions′ r →
       Starting t answers state emissions state′ emissions″ s →
       (r ≡ s) × (emissions′ ≡ emissions″) × ((code k entries : ℕ) → r ≡ Closed code k entries → IsPacked t bytes′ state′)
-  -- So does a resumption from what packs the bytes, each 0 or 1; no bits stand for a byte above 1, which was refused: 12.
+  -- So does a resumption from what packs the bytes, each 0 or 1.
   pub resumesAsBefore :
       (t answers bytes state emissions bytes′ state′ emissions′ emissions″ : List ℕ) (r s : Reaction) →
-      Rooms t bytes state → ((i : ℕ) → getD bytes i 0 ≤ 1) → IsPacked t bytes state →
+      Rooms t bytes state → ((i : ℕ) → i < length t / 2 → getD bytes i 0 ≤ 1) → IsPacked t bytes state →
       ResumingBefore t answers bytes emissions bytes′ emissions′ r →
       Resuming t answers state emissions state′ emissions″ s →
       (r ≡ s) × (emissions′ ≡ emissions″) × IsPacked t bytes′ state′
+  -- No bits stand for a byte above 1, from which the call of before was refused: 12.
+  pub aboveOneBefore :
+      (t answers bytes emissions bytes′ emissions′ : List ℕ) (p : Stmt) (r : Reaction) (i : ℕ) →
+      verdict t ≡ passed p → size p ≤ length bytes → signals ≤ length emissions → i < size p → 1 < getD bytes i 0 →
+      ResumingBefore t answers bytes emissions bytes′ emissions′ r → r ≡ Refused 12 0

@@ -6,6 +6,7 @@ use mathlib.Core.Path.{_≡_}
 use mathlib.Core.Logic.{_↔_}
 use mathlib.Core.Bool.{true, false}
 use mathlib.Core.List.{List}
+use lib.Dec.{leb}
 use lib.ListN.{length, take, drop}
 use Rattle.esterel.specs.Limits.{maxNodes, signals}
 use Rattle.esterel.specs.Statement.{Stmt, size, nodes}
@@ -99,10 +100,11 @@ pub record Demand3OfCalls : Type 0 where
       (t answers state emissions state′ emissions′ : List ℕ) (p : Stmt) (code k entries : ℕ) →
       Lent t p state emissions →
       Starting t answers state emissions state′ emissions′ (Closed code k entries) → entries ≤ size p
-  -- a start looks at no byte of the state: the answer, the emissions and the pauses that it leaves are the same
+  -- a start looks at no byte of the state: where both buffers suffice, or neither does, the answer, the emissions and the 128 bytes that
+  -- it leaves are the same
   pub blind :
       (t answers state other emissions state′ other′ emissions′ emissions″ : List ℕ) (r s : Reaction) →
-      length state ≡ length other →
+      leb stateBytes (length state) ≡ leb stateBytes (length other) →
       Starting t answers state emissions state′ emissions′ r →
       Starting t answers other emissions other′ emissions″ s →
       (r ≡ s) × (emissions′ ≡ emissions″) × ((code k entries : ℕ) → r ≡ Closed code k entries → take stateBytes state′ ≡ take stateBytes other′)

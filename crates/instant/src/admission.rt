@@ -1,4 +1,4 @@
-// Check 12: whether a state is admitted, from the counts of its held pauses. The functions up to `check_state` have a byte for each node.
+// Check 12: whether a state is admitted, from the counts of its held pauses.
 ghost use mathlib.Core.Path.{_≡_};
 ghost use mathlib.Core.List.{[], _∷_};
 ghost use Prim.Native.Nat.{_<_, _≤_};
@@ -9,8 +9,7 @@ ghost use Rattle.esterel.specs.Statement.{size, nodes};
 ghost use Rattle.table.specs.Check.{passIf};
 ghost use Rattle.table.specs.Program.{programOf};
 ghost use Rattle.table.specs.Columns.{Measured};
-ghost use Rattle.packing.specs.Packing.{admits};
-ghost use Rattle.instant.specs.Admission.{countHeld, Counted, isExclusive, byteFitsKind, nodeFits, Unpacks};
+ghost use Rattle.instant.specs.Admission.{countHeld, Counted, isExclusive, byteFitsKind, nodeFits, Suffices, Admitting};
 use table::Check;
 use table::Kind;
 
@@ -42,27 +41,27 @@ fn one_if(byte: u8) -> u16
 }
 
 // The number of held pauses before each node, and before the end.
-pub fn count_held(state: &[u8], counts: &mut [u16], n: usize)
-    requires { ⌜ (n ≤ length (now state)) × (n < length (now counts)) × (n ≤ maxNodes) ⌝ }
-    ensures { λ _. ⌜ Counted (now (state .entry)) (now (counts .exit)) n ⌝ }
+fn count_held(held: &[u8], counts: &mut [u16], n: usize)
+    requires { ⌜ (n ≤ length (now held)) × (n < length (now counts)) × (n ≤ maxNodes) ⌝ }
+    ensures { λ _. ⌜ Counted (now (held .entry)) (now (counts .exit)) n ⌝ }
 {
     counts[0] = 0;
-    let mut held: u16 = 0;
+    let mut count: u16 = 0;
     let mut i: usize = 0;
     while i < n {
-        held += one_if(state[i]);
+        count += one_if(held[i]);
         i += 1;
-        counts[i] = held;
+        counts[i] = count;
     }
 }
 
 // What check 12 asks at a node: its own byte fits, and a sequence or present holds pauses in one child at most.
-fn node_fits(table: &[u8], sizes: &[u16], counts: &[u16], state: &[u8], node: usize) -> bool
-    requires { ⌜ Measured (now table) (now sizes) × (node < size (programOf (now table))) × (size (programOf (now table)) ≤ length (now state)) × Counted (now state) (now counts) (size (programOf (now table))) ⌝ }
-    ensures { λ r. ⌜ r ≡ nodeFits (nodes (programOf (now (table .entry)))) (now (state .entry)) node ⌝ }
+fn node_fits(table: &[u8], sizes: &[u16], counts: &[u16], held: &[u8], node: usize) -> bool
+    requires { ⌜ Measured (now table) (now sizes) × (node < size (programOf (now table))) × (size (programOf (now table)) ≤ length (now held)) × Counted (now held) (now counts) (size (programOf (now table))) ⌝ }
+    ensures { λ r. ⌜ r ≡ nodeFits (nodes (programOf (now (table .entry)))) (now (held .entry)) node ⌝ }
 {
     let kind = table::kind_at(table, node);
-    if !byte_fits(kind, state[node]) {
+    if !byte_fits(kind, held[node]) {
         return false;
     }
     if !is_exclusive(kind) {
@@ -76,10 +75,10 @@ fn node_fits(table: &[u8], sizes: &[u16], counts: &[u16], state: &[u8], node: us
     counts[second] == counts[node]
 }
 
-// Check 12.
-pub fn check_state(table: &[u8], sizes: &[u16], counts: &[u16], state: &[u8]) -> Check
-    requires { ⌜ Measured (now table) (now sizes) × (size (programOf (now table)) ≤ length (now state)) × Counted (now state) (now counts) (size (programOf (now table))) ⌝ }
-    ensures { λ r. ⌜ r ≡ passIf 12 (admitted (programOf (now (table .entry))) (take (size (programOf (now (table .entry)))) (now (state .entry)))) ⌝ }
+// What check 12 asks of the nodes' bytes.
+fn check_state(table: &[u8], sizes: &[u16], counts: &[u16], held: &[u8]) -> Check
+    requires { ⌜ Measured (now table) (now sizes) × (size (programOf (now table)) ≤ length (now held)) × Counted (now held) (now counts) (size (programOf (now table))) ⌝ }
+    ensures { λ r. ⌜ r ≡ passIf 12 (admitted (programOf (now (table .entry))) (take (size (programOf (now (table .entry)))) (now (held .entry)))) ⌝ }
 {
     let n = table.len() / 2;
     if counts[n] == 0 {
@@ -90,7 +89,7 @@ pub fn check_state(table: &[u8], sizes: &[u16], counts: &[u16], state: &[u8]) ->
     }
     let mut i: usize = 0;
     while i < n {
-        if !node_fits(table, sizes, counts, state, i) {
+        if !node_fits(table, sizes, counts, held, i) {
             return Check::Refused {
                 number: 12,
                 node: 0,
@@ -101,12 +100,21 @@ pub fn check_state(table: &[u8], sizes: &[u16], counts: &[u16], state: &[u8]) ->
     Check::Passed
 }
 
-// Check 12 of a packed state, whose bits the bytes of the nodes are.
-pub fn check_packed(table: &[u8], sizes: &[u16], counts: &[u16], held: &[u8], state: &[u8]) -> Check
-    requires { ⌜ Measured (now table) (now sizes) × Counted (now held) (now counts) (size (programOf (now table))) × Unpacks (programOf (now table)) (now held) (now state) ⌝ }
-    ensures { λ r. ⌜ r ≡ passIf 12 (admits (programOf (now (table .entry))) (now (state .entry))) ⌝ }
+// Check 12 of a packed state, and what a run resumes from: the bytes of the program's nodes, and their counts.
+pub fn admit(
+    table: &[u8],
+    sizes: &[u16],
+    state: &[u8],
+    held: &mut [u8],
+    counts: &mut [u16],
+) -> Check
+    requires { ⌜ Measured (now table) (now sizes) × Suffices (programOf (now table)) (now state) (now held) (now counts) ⌝ }
+    ensures { λ r. ⌜ Admitting (programOf (now (table .entry))) (now (state .entry)) (now (held .entry)) (now (held .exit)) (now (counts .exit)) r ⌝ }
 {
-    if !packing::is_clear_from(state, table.len() / 2) {
+    let n = table.len() / 2;
+    packing::unpack(state, held, n);
+    count_held(held, counts, n);
+    if !packing::is_clear_from(state, n) {
         return Check::Refused {
             number: 12,
             node: 0,

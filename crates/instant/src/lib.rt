@@ -63,7 +63,7 @@ fn check_call(table: &[u8], state: usize, emissions: usize, sizes: &mut [u16]) -
     analysis::check_sized(table, room, sizes)
 }
 
-// The first n bytes.
+// The first n bytes of one list over those of another.
 fn copy(from: &[u8], to: &mut [u8], n: usize)
     requires { ⌜ (n ≤ length (now from)) × (n ≤ length (now to)) ⌝ }
     ensures { λ _. ⌜ now (to .exit) ≡ take n (now (from .entry)) ++ drop n (now (to .entry)) ⌝ }
@@ -135,10 +135,8 @@ pub fn resume(table: &[u8], answers: &[u8], state: &mut [u8], emissions: &mut [u
     };
     let n = table.len() / 2;
     let mut held = [0u8; esterel::MAX_NODES];
-    packing::unpack(state, &mut held, n);
     let mut counts = [0u16; esterel::MAX_NODES + 1];
-    admission::count_held(&held, &mut counts, n);
-    let admitted = admission::check_packed(table, &sizes, &counts, &held, state);
+    let admitted = admission::admit(table, &sizes, state, &mut held, &mut counts);
     let Check::Passed = admitted else {
         return refused(admitted);
     };

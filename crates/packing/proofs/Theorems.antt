@@ -115,5 +115,6 @@ packs =
       unpacked = λ n s. record { places = length-unpack n s; bits = unpack-bits n s };
       unpackPack = λ n few h o. unpack-pack n few h (o .places) (o .bits);
       packUnpack = λ n few s o. pack-unpack n s o;
+      lists = unpack-at;
       bits = λ n few h o i l. pack-bits h (o .bits) i l;
     }

@@ -24,5 +24,7 @@ pub record Packs : Type 0 where
   pub unpacked : (n : ℕ) (s : List ℕ) → Unpacked n (unpack n s)
   pub unpackPack : (n : ℕ) → n ≤ maxNodes → (h : List ℕ) → Unpacked n h → unpack n (pack h) ≡ h
   pub packUnpack : (n : ℕ) → n ≤ maxNodes → (s : List ℕ) → Packed n s → pack (unpack n s) ≡ s
-  -- the request's words: the bit of every node that a table can have, those past the end of h are 0
+  -- the request's words: what is unpacked are the nodes' bits, and in what is packed every node that a table can have has its byte as its
+  -- bit, 0 past the end of h
+  pub lists : (n : ℕ) (s : List ℕ) (i : ℕ) → i < n → getD (unpack n s) i 0 ≡ heldBit s i
   pub bits : (n : ℕ) → n ≤ maxNodes → (h : List ℕ) → Unpacked n h → (i : ℕ) → i < maxNodes → heldBit (pack h) i ≡ getD h i 0

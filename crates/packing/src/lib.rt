@@ -52,7 +52,8 @@ fn tail_of(state: &[u8], n: usize) -> u8
     state[n / 8] >> (n % 8) as u32
 }
 
-// Whether no bit from node n on is 1. The whole bytes are joined without a test at each, which takes several at a time.
+// Whether no bit from node n on is 1. The whole bytes are joined without a test at each, so that the compiler takes
+// several at a time.
 pub fn is_clear_from(state: &[u8], n: usize) -> bool
     requires { ⌜ (n ≤ maxNodes) × (stateBytes ≤ length (now state)) ⌝ }
     ensures { λ r. ⌜ r ≡ isClearFrom n (now (state .entry)) ⌝ }
@@ -106,5 +107,6 @@ pub fn pack(bytes: &[u8], n: usize, state: &mut [u8])
     if n % 8 != 0 {
         state[whole] = byte_of(bytes, 8 * whole, n);
     }
-    clear(state, (n + 7) / 8, STATE_BYTES);
+    let used = (n + 7) / 8;
+    clear(state, used, STATE_BYTES);
 }

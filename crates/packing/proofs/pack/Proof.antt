@@ -53,8 +53,8 @@ byte-of-requires-2 c κs = (omega arith, omega arith, c .before .before .before 
 slice-write-state-2 : tie.Need-slice-write-state-2 Inv-loop μ-loop
 slice-write-state-2 c = omega (arith, c .before .before .before .before .before .before .pre .1, c .before .before .before .before .before .before .pre .2, c .before .if1 .taken, packed-length (now (c .before .before .before .before .before .before .args .bytes)) (now (c .before .before .before .before .before .before .args .state)) (c .before .before .before .before .before .before .pre .0) (c .before .before .before .before .before .before .pre .1) (c .before .before .before .before .before .before .pre .2) (c .before .before .before .loop .inv))
 
-add-clear : tie.Need-add-clear Inv-loop μ-loop
-add-clear c = omega (arith, c .before .before .before .before .before .before .pre .1)
+add-used : tie.Need-add-used Inv-loop μ-loop
+add-used c = omega (arith, c .before .before .before .before .before .pre .1)
 
 clear-requires : tie.Need-clear-requires Inv-loop μ-loop
 clear-requires c κs = (omega (arith, c .before .before .before .before .before .before .pre .1), omega (arith, c .before .before .before .before .before .before .pre .2, packed-wide (now (c .before .before .before .before .before .before .args .bytes)) (now (c .before .before .before .before .before .before .args .state)) (c .before .before .before .before .before .before .pre .0) (c .before .before .before .before .before .before .pre .1) (c .before .before .before .before .before .before .pre .2) (joined (now (c .before .before .before .before .before .before .args .bytes)) (now (c .before .before .before .before .before .before .args .state)) (c .before .before .before .before .before .before .pre .0) (c .before .before .before .before .before .before .pre .1) (c .before .before .before .before .before .before .pre .2) (c .before .before .before .loop .inv) (omega arith) (c .before .if1 .state) (⊎-elim (λ x. inl (x .0 .taken, _, x .1 .ensures, x .2)) (λ x. inr (x .0 .left, x .1)) (c .before .if1 .came)))))
@@ -83,7 +83,7 @@ pack-spec =
     mul-byte-of-3
     byte-of-requires-2
     slice-write-state-2
-    add-clear
+    add-used
     clear-requires
     same-length
     returns)

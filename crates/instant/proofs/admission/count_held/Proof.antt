@@ -10,10 +10,10 @@ use Rattle.instant.proofs.admission.count_held.Statement.{statement}
 use Rattle.instant.proofs.admission.count_held.Tie as tie
 
 abbrev Inv-loop : tie.InvT-loop
-Inv-loop state counts₀ n held₀ i₀ counts held i = Counting state counts₀ counts n held i
+Inv-loop held counts₀ n count₀ i₀ counts count i = Counting held counts₀ counts n count i
 
 abbrev μ-loop : tie.MeasureT-loop
-μ-loop state counts₀ n held₀ i₀ counts held i = n - i
+μ-loop held counts₀ n count₀ i₀ counts count i = n - i
 
 slice-write-counts : tie.Need-slice-write-counts Inv-loop μ-loop
 slice-write-counts c = omega (arith, c .before .before .pre .1)
@@ -27,8 +27,8 @@ shared-slice-read-one-if c = omega (arith, c .before .before .before .before .be
 one-if-requires : tie.Need-one-if-requires Inv-loop μ-loop
 one-if-requires c κs = search needs
 
-add-held : tie.Need-add-held Inv-loop μ-loop
-add-held c = omega (arith, counting-next (omega (arith, c .before .before .before .loop .inv .same, length-set (now (c .before .before .before .before .before .before .args .counts)) 0 0, c .before .before .before .before .before .before .pre .1)) (c .before .before .before .loop .inv) (c .before .before .loop-test .taken) (c .before .before .before .before .before .before .pre .0) (c .one-if .ensures) .low, c .before .before .before .before .before .before .pre .2)
+add-count : tie.Need-add-count Inv-loop μ-loop
+add-count c = omega (arith, counting-next (omega (arith, c .before .before .before .loop .inv .same, length-set (now (c .before .before .before .before .before .before .args .counts)) 0 0, c .before .before .before .before .before .before .pre .1)) (c .before .before .before .loop .inv) (c .before .before .loop-test .taken) (c .before .before .before .before .before .before .pre .0) (c .one-if .ensures) .low, c .before .before .before .before .before .before .pre .2)
 
 add-i : tie.Need-add-i Inv-loop μ-loop
 add-i c = omega arith
@@ -61,7 +61,7 @@ count-held-spec =
     loop-holds
     shared-slice-read-one-if
     one-if-requires
-    add-held
+    add-count
     add-i
     mul-counts
     slice-write-counts-2

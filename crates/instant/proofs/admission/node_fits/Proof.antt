@@ -19,31 +19,31 @@ byte-fits-requires : tie.Need-byte-fits-requires
 byte-fits-requires c κs = search needs
 
 returns : tie.Need-returns
-returns c = misfit (c .before .before .before .before .before .before .before .before .pre .0) (c .before .before .before .before .before .before .before .before .args .node) (c .before .before .before .before .before .before .before .before .pre .1) (c .before .before .before .kind-at .ensures) (now (c .before .before .before .before .before .before .before .before .args .state)) (c .before .byte-fits .ensures) (not-true _ (c .if1 .taken))
+returns c = misfit (c .before .before .before .before .before .before .before .before .pre .0) (c .before .before .before .before .before .before .before .before .args .node) (c .before .before .before .before .before .before .before .before .pre .1) (c .before .before .before .kind-at .ensures) (now (c .before .before .before .before .before .before .before .before .args .held)) (c .before .byte-fits .ensures) (not-true _ (c .if1 .taken))
 
 is-exclusive-requires : tie.Need-is-exclusive-requires
 is-exclusive-requires c κs = search needs
 
 returns-2 : tie.Need-returns-2
-returns-2 c = no-sides (c .before .before .before .before .before .before .before .before .before .before .pre .0) (c .before .before .before .before .before .before .before .before .before .before .args .node) (c .before .before .before .before .before .before .before .before .before .before .pre .1) (c .before .before .before .before .before .kind-at .ensures) (now (c .before .before .before .before .before .before .before .before .before .before .args .state)) (c .before .before .before .byte-fits .ensures) (not-false _ (c .before .before .if1 .left)) (c .before .is-exclusive .ensures) (not-true _ (c .if2 .taken))
+returns-2 c = no-sides (c .before .before .before .before .before .before .before .before .before .before .pre .0) (c .before .before .before .before .before .before .before .before .before .before .args .node) (c .before .before .before .before .before .before .before .before .before .before .pre .1) (c .before .before .before .before .before .kind-at .ensures) (now (c .before .before .before .before .before .before .before .before .before .before .args .held)) (c .before .before .before .byte-fits .ensures) (not-false _ (c .before .before .if1 .left)) (c .before .is-exclusive .ensures) (not-true _ (c .if2 .taken))
 
 sub-size-at : tie.Need-sub-size-at
-sub-size-at c = omega (arith, some-before (c .before .before .before .before .before .before .before .before .before .before .pre .0) (c .before .before .before .before .before .before .before .before .before .before .args .node) (c .before .before .before .before .before .before .before .before .before .before .pre .1) (c .before .before .before .before .before .kind-at .ensures) (now (c .before .before .before .before .before .before .before .before .before .before .args .state)) (c .before .before .before .byte-fits .ensures) (not-false _ (c .before .before .if1 .left)) (c .before .is-exclusive .ensures) (not-false _ (c .if2 .left)))
+sub-size-at c = omega (arith, some-before (c .before .before .before .before .before .before .before .before .before .before .pre .0) (c .before .before .before .before .before .before .before .before .before .before .args .node) (c .before .before .before .before .before .before .before .before .before .before .pre .1) (c .before .before .before .before .before .kind-at .ensures) (now (c .before .before .before .before .before .before .before .before .before .before .args .held)) (c .before .before .before .byte-fits .ensures) (not-false _ (c .before .before .if1 .left)) (c .before .is-exclusive .ensures) (not-false _ (c .if2 .left)))
 
 size-at-requires : tie.Need-size-at-requires
 size-at-requires c κs = omega (arith, c .before .before .before .before .before .before .before .before .before .before .pre .1, c .before .before .before .before .before .before .before .before .before .before .pre .0 .listed)
 
 sub-second : tie.Need-sub-second
-sub-second c = omega (arith, second-inside (c .before .before .before .before .before .before .before .before .before .before .before .pre .0) (c .before .before .before .before .before .before .before .before .before .before .before .args .node) (c .before .before .before .before .before .before .before .before .before .before .before .pre .1) (c .before .before .before .before .before .before .kind-at .ensures) (now (c .before .before .before .before .before .before .before .before .before .before .before .args .state)) (c .before .before .before .before .byte-fits .ensures) (not-false _ (c .before .before .before .if1 .left)) (c .before .before .is-exclusive .ensures) (not-false _ (c .before .if2 .left)) (c .size-at .ensures))
+sub-second c = omega (arith, second-inside (c .before .before .before .before .before .before .before .before .before .before .before .pre .0) (c .before .before .before .before .before .before .before .before .before .before .before .args .node) (c .before .before .before .before .before .before .before .before .before .before .before .pre .1) (c .before .before .before .before .before .before .kind-at .ensures) (now (c .before .before .before .before .before .before .before .before .before .before .before .args .held)) (c .before .before .before .before .byte-fits .ensures) (not-false _ (c .before .before .before .if1 .left)) (c .before .before .is-exclusive .ensures) (not-false _ (c .before .if2 .left)) (c .size-at .ensures))
 
 sub-size-at-2 : tie.Need-sub-size-at-2
-sub-size-at-2 c = omega (arith, second-inside (c .before .before .before .before .before .before .before .before .before .before .before .pre .0) (c .before .before .before .before .before .before .before .before .before .before .before .args .node) (c .before .before .before .before .before .before .before .before .before .before .before .pre .1) (c .before .before .before .before .before .before .kind-at .ensures) (now (c .before .before .before .before .before .before .before .before .before .before .before .args .state)) (c .before .before .before .before .byte-fits .ensures) (not-false _ (c .before .before .before .if1 .left)) (c .before .before .is-exclusive .ensures) (not-false _ (c .before .if2 .left)) (c .size-at .ensures))
+sub-size-at-2 c = omega (arith, second-inside (c .before .before .before .before .before .before .before .before .before .before .before .pre .0) (c .before .before .before .before .before .before .before .before .before .before .before .args .node) (c .before .before .before .before .before .before .before .before .before .before .before .pre .1) (c .before .before .before .before .before .before .kind-at .ensures) (now (c .before .before .before .before .before .before .before .before .before .before .before .args .held)) (c .before .before .before .before .byte-fits .ensures) (not-false _ (c .before .before .before .if1 .left)) (c .before .before .is-exclusive .ensures) (not-false _ (c .before .if2 .left)) (c .size-at .ensures))
 
 size-at-requires-2 : tie.Need-size-at-requires-2
 size-at-requires-2 c κs = omega (arith, c .before .before .before .before .before .before .before .before .before .before .before .pre .1, c .before .before .before .before .before .before .before .before .before .before .before .pre .0 .listed)
 
 sub-first : tie.Need-sub-first
-sub-first c = first-inside (c .before .before .before .before .before .before .before .before .before .before .before .before .pre .0) (c .before .before .before .before .before .before .before .before .before .before .before .before .args .node) (c .before .before .before .before .before .before .before .before .before .before .before .before .pre .1) (c .before .before .before .before .before .before .before .kind-at .ensures) (now (c .before .before .before .before .before .before .before .before .before .before .before .before .args .state)) (c .before .before .before .before .before .byte-fits .ensures) (not-false _ (c .before .before .before .before .if1 .left)) (c .before .before .before .is-exclusive .ensures) (not-false _ (c .before .before .if2 .left)) (c .before .size-at .ensures) (c .size-at2 .ensures)
+sub-first c = first-inside (c .before .before .before .before .before .before .before .before .before .before .before .before .pre .0) (c .before .before .before .before .before .before .before .before .before .before .before .before .args .node) (c .before .before .before .before .before .before .before .before .before .before .before .before .pre .1) (c .before .before .before .before .before .before .before .kind-at .ensures) (now (c .before .before .before .before .before .before .before .before .before .before .before .before .args .held)) (c .before .before .before .before .before .byte-fits .ensures) (not-false _ (c .before .before .before .before .if1 .left)) (c .before .before .before .is-exclusive .ensures) (not-false _ (c .before .before .if2 .left)) (c .before .size-at .ensures) (c .size-at2 .ensures)
 
 mul-if3 : tie.Need-mul-if3
 mul-if3 c = search needs
@@ -58,7 +58,7 @@ shared-slice-read-if3-2 : tie.Need-shared-slice-read-if3-2
 shared-slice-read-if3-2 c = omega (arith, c .before .before .before .before .before .before .before .before .before .before .before .before .before .before .pre .1, c .before .before .before .before .before .before .before .before .before .before .before .before .before .before .pre .3 .long)
 
 returns-3 : tie.Need-returns-3
-returns-3 c = first-idle (c .before .before .before .before .before .before .before .before .before .before .before .before .before .before .before .pre .0) (c .before .before .before .before .before .before .before .before .before .before .before .before .before .before .before .args .node) (c .before .before .before .before .before .before .before .before .before .before .before .before .before .before .before .pre .1) (c .before .before .before .before .before .before .before .before .before .before .kind-at .ensures) (now (c .before .before .before .before .before .before .before .before .before .before .before .before .before .before .before .args .state)) (c .before .before .before .before .before .before .before .before .byte-fits .ensures) (not-false _ (c .before .before .before .before .before .before .before .if1 .left)) (c .before .before .before .before .before .before .is-exclusive .ensures) (not-false _ (c .before .before .before .before .before .if2 .left)) (c .before .before .before .before .size-at .ensures) (c .before .before .before .size-at2 .ensures) (c .before .before .before .before .before .before .before .before .before .before .before .before .before .before .before .pre .3) (c .if3 .taken)
+returns-3 c = first-idle (c .before .before .before .before .before .before .before .before .before .before .before .before .before .before .before .pre .0) (c .before .before .before .before .before .before .before .before .before .before .before .before .before .before .before .args .node) (c .before .before .before .before .before .before .before .before .before .before .before .before .before .before .before .pre .1) (c .before .before .before .before .before .before .before .before .before .before .kind-at .ensures) (now (c .before .before .before .before .before .before .before .before .before .before .before .before .before .before .before .args .held)) (c .before .before .before .before .before .before .before .before .byte-fits .ensures) (not-false _ (c .before .before .before .before .before .before .before .if1 .left)) (c .before .before .before .before .before .before .is-exclusive .ensures) (not-false _ (c .before .before .before .before .before .if2 .left)) (c .before .before .before .before .size-at .ensures) (c .before .before .before .size-at2 .ensures) (c .before .before .before .before .before .before .before .before .before .before .before .before .before .before .before .pre .3) (c .if3 .taken)
 
 mul-result : tie.Need-mul-result
 mul-result c = search needs
@@ -73,7 +73,7 @@ shared-slice-read-result-2 : tie.Need-shared-slice-read-result-2
 shared-slice-read-result-2 c = omega (arith, c .before .before .before .before .before .before .before .before .before .before .before .before .before .before .before .before .before .pre .1, c .before .before .before .before .before .before .before .before .before .before .before .before .before .before .before .before .before .pre .3 .long)
 
 returns-4 : tie.Need-returns-4
-returns-4 c = second-idle (c .before .before .before .before .before .before .before .before .before .before .before .before .before .before .before .before .before .pre .0) (c .before .before .before .before .before .before .before .before .before .before .before .before .before .before .before .before .before .args .node) (c .before .before .before .before .before .before .before .before .before .before .before .before .before .before .before .before .before .pre .1) (c .before .before .before .before .before .before .before .before .before .before .before .before .kind-at .ensures) (now (c .before .before .before .before .before .before .before .before .before .before .before .before .before .before .before .before .before .args .state)) (c .before .before .before .before .before .before .before .before .before .before .byte-fits .ensures) (not-false _ (c .before .before .before .before .before .before .before .before .before .if1 .left)) (c .before .before .before .before .before .before .before .before .is-exclusive .ensures) (not-false _ (c .before .before .before .before .before .before .before .if2 .left)) (c .before .before .before .before .before .before .size-at .ensures) (c .before .before .before .before .before .size-at2 .ensures) (c .before .before .before .before .before .before .before .before .before .before .before .before .before .before .before .before .before .pre .3) (c .before .before .if3 .left)
+returns-4 c = second-idle (c .before .before .before .before .before .before .before .before .before .before .before .before .before .before .before .before .before .pre .0) (c .before .before .before .before .before .before .before .before .before .before .before .before .before .before .before .before .before .args .node) (c .before .before .before .before .before .before .before .before .before .before .before .before .before .before .before .before .before .pre .1) (c .before .before .before .before .before .before .before .before .before .before .before .before .kind-at .ensures) (now (c .before .before .before .before .before .before .before .before .before .before .before .before .before .before .before .before .before .args .held)) (c .before .before .before .before .before .before .before .before .before .before .byte-fits .ensures) (not-false _ (c .before .before .before .before .before .before .before .before .before .if1 .left)) (c .before .before .before .before .before .before .before .before .is-exclusive .ensures) (not-false _ (c .before .before .before .before .before .before .before .if2 .left)) (c .before .before .before .before .before .before .size-at .ensures) (c .before .before .before .before .before .size-at2 .ensures) (c .before .before .before .before .before .before .before .before .before .before .before .before .before .before .before .before .before .pre .3) (c .before .before .if3 .left)
 
 pub node-fits-spec : {M : Type 1} → statement M
 node-fits-spec =
