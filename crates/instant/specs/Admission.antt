@@ -22,8 +22,8 @@ countHeld (zero ∷ h) = countHeld h
 countHeld (suc b ∷ h) = suc (countHeld h)
 
 -- entry j is the number of held pauses before node j
-pub record Counted (state counts : List ℕ) (n : ℕ) : Type 0 where
-  pub entry : (j : ℕ) → j ≤ n → getD counts j 0 ≡ countHeld (take j state)
+pub record Counted (held counts : List ℕ) (n : ℕ) : Type 0 where
+  pub entry : (j : ℕ) → j ≤ n → getD counts j 0 ≡ countHeld (take j held)
   pub long : n < length counts
 
 -- what node i asks of its own byte

@@ -1,11 +1,11 @@
 -- The bits of a packed state, and the bytes that they come from.
 use mathlib.Core.Path.{_≡_, refl, sym, ap, ap₂, _∙_}
 use mathlib.Core.Bool.{Bool, true, false, not}
-use mathlib.Core.List.{List, _++_}
+use mathlib.Core.List.{List}
 use Prim.Native.Nat.{ℕ, zero, suc, _+_, _*_, _/_, _%_, _≤_, _<_}
 use native.Mathlib.Omega.{arith}
 use lib.Dec.{eqb}
-use lib.ListN.{length, getD, List·getD-append}
+use lib.ListN.{length, getD}
 use lib.Seq.{ext-getD}
 use Rattle.codes.specs.Codes.{bit}
 use Rattle.codes.specs.Words.{_∋_, setOf}
@@ -64,11 +64,6 @@ held-at s j k l =
     let r : (8 * j + k) % 8 ≡ k = omega arith in
     held-is s (8 * j + k) ∙ ap₂ (λ a b. bit (getD s a 0 ∋ b)) q r
 
--- it stands among the first bytes
-pub held-front : (s t : List ℕ) (i : ℕ) → i < 8 * length s → heldBit (s ++ t) i ≡ heldBit s i
-held-front s t i l =
-    held-is (s ++ t) i ∙ ap (λ x. bit (x ∋ (i % 8))) (List·getD-append s t 0 (i / 8) (omega arith)) ∙ sym (held-is s i)
-
 -- ---- packed and unpacked
 
 pub length-pack : (h : List ℕ) → length (pack h) ≡ stateBytes
@@ -96,9 +91,6 @@ pub unpack-same : (n : ℕ) (s t : List ℕ) → ((i : ℕ) → i < n → heldBi
 unpack-same n s t same =
     let long = length-unpack n s in
     ext-getD 0 (unpack n s) (unpack n t) (long ∙ sym (length-unpack n t)) (λ i l. let m : i < n = omega arith in unpack-at n s i m ∙ same i m ∙ sym (unpack-at n t i m))
-
-pub unpack-front : (n : ℕ) (s t : List ℕ) → n ≤ 8 * length s → unpack n (s ++ t) ≡ unpack n s
-unpack-front n s t le = unpack-same n (s ++ t) s (λ i l. held-front s t i (omega arith))
 
 -- the bit of a node is 1 where its byte is not 0
 pub packed-bit : (h : List ℕ) (i : ℕ) → i < maxNodes → heldBit (pack h) i ≡ bit (not (eqb (getD h i 0) 0))

@@ -26,19 +26,15 @@ byte-clear : (w : ℕ) → w < 256 → ((k : ℕ) → k < 8 → (w ∋ k) ≡ fa
 byte-clear w l z = sym (below-set 8 w l) ∙ below-none 8 (setOf w) z
 
 -- a join is 0 where both are
-or-left : (a b : ℕ) → a < 256 → bitOr a b ≡ 0 → a ≡ 0
-or-left a b l e = byte-clear a l (λ k lk. go k (a ∋ k) (b ∋ k) (sym (∋-or a b k) ∙ ap (λ (x : ℕ). x ∋ k) e ∙ ∋-none k))
-  where
-    go : (k : ℕ) (x y : Bool) → (x || y) ≡ false → x ≡ false
-    go k true y z = let q : _≡_ {A = ℕ} 0 1 = cc in absurd (omega arith)
-    go k false y z = refl
+neither : (x y : Bool) → (x || y) ≡ false → (x ≡ false) × (y ≡ false)
+neither true y z = let q : _≡_ {A = ℕ} 0 1 = cc in absurd (omega arith)
+neither false y z = (refl, z)
 
-or-right : (a b : ℕ) → b < 256 → bitOr a b ≡ 0 → b ≡ 0
-or-right a b l e = byte-clear b l (λ k lk. go k (a ∋ k) (b ∋ k) (sym (∋-or a b k) ∙ ap (λ (x : ℕ). x ∋ k) e ∙ ∋-none k))
+or-zero : (a b : ℕ) → a < 256 → b < 256 → bitOr a b ≡ 0 → (a ≡ 0) × (b ≡ 0)
+or-zero a b la lb e = (byte-clear a la (λ k lk. bits k .0), byte-clear b lb (λ k lk. bits k .1))
   where
-    go : (k : ℕ) (x y : Bool) → (x || y) ≡ false → y ≡ false
-    go k true y z = let q : _≡_ {A = ℕ} 0 1 = cc in absurd (omega arith)
-    go k false y z = z
+    bits : (k : ℕ) → ((a ∋ k) ≡ false) × ((b ∋ k) ≡ false)
+    bits k = neither (a ∋ k) (b ∋ k) (sym (∋-or a b k) ∙ ap (λ (x : ℕ). x ∋ k) e ∙ ∋-none k)
 
 module _ (n : ℕ) (s : List ℕ) where
   pub clear-at : isClearFrom n s ≡ true → (i : ℕ) → n ≤ i → i < maxNodes → heldBit s i ≡ 0
@@ -130,14 +126,17 @@ module _ (n : ℕ) (s : List ℕ) where
           from = omega (arith, o .from);
           bound = omega arith;
           small = or-lt 8 bits (getD s j 0) (o .small) (small j);
-          tail = λ e. o .tail (or-left bits (getD s j 0) (o .small) e);
+          tail = λ e. o .tail (both e .0);
           bytes = λ e i lo hi. go e i lo hi (decLt i j);
           none = λ e. ap₂ bitOr (o .none e) (byte-zero e j (omega (arith, o .from)) h (small j));
         }
       where
+        both : bitOr bits (getD s j 0) ≡ 0 → (bits ≡ 0) × (getD s j 0 ≡ 0)
+        both = or-zero bits (getD s j 0) (o .small) (small j)
+
         go : bitOr bits (getD s j 0) ≡ 0 → (i : ℕ) → (n + 7) / 8 ≤ i → i < j + 1 → Dec (i < j) → getD s i 0 ≡ 0
-        go e i lo hi (yes y) = o .bytes (or-left bits (getD s j 0) (o .small) e) i lo y
-        go e i lo hi (no y) = let z : i ≡ j = omega arith in rw z (or-right bits (getD s j 0) (small j) e)
+        go e i lo hi (yes y) = o .bytes (both e .0) i lo y
+        go e i lo hi (no y) = let z : i ≡ j = omega arith in rw z (both e .1)
 
   pub joined-end : {j bits : ℕ} → Joined j bits → stateBytes ≤ j → eqb bits 0 ≡ isClearFrom n s
   joined-end {j} {bits} o h =

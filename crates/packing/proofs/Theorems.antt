@@ -6,8 +6,8 @@ use Prim.Native.Nat.{ℕ, _+_, _*_, _/_, _%_, _≤_, _<_}
 use native.Mathlib.Decide.{decLt}
 use native.Mathlib.Omega.{arith}
 use lib.Dec.{eqb}
-use lib.ListN.{length, getD, take, length-replicate, getD-replicate, List·getD-eq-default}
-use lib.Seq.{ext-getD, getD-take}
+use lib.ListN.{length, getD, take, length-replicate, List·getD-eq-default}
+use lib.Seq.{ext-getD, take-all, getD-take}
 use Rattle.codes.specs.Codes.{bit}
 use Rattle.codes.specs.Words.{_∋_}
 use Rattle.codes.proofs.Bools.{same-test}
@@ -47,16 +47,21 @@ pub unpack-pack : (n : ℕ) → n ≤ maxNodes → (h : List ℕ) → length h �
 unpack-pack n few h long bits =
     ext-getD 0 (unpack n (pack h)) h (length-unpack n (pack h) ∙ sym long) (λ i l. let m : i < n = omega (arith, length-unpack n (pack h)) in unpack-at n (pack h) i m ∙ pack-bits h bits i (omega arith))
 
-pub pack-unpack : (n : ℕ) (s : List ℕ) → Packed n s → pack (unpack n s) ≡ s
-pack-unpack n s o =
-    ext-getD 0 (pack (unpack n s)) s (length-pack (unpack n s) ∙ sym (o .places)) (λ j l. let m : j < stateBytes = omega (arith, length-pack (unpack n s)) in pack-at (unpack n s) j m ∙ is-byte (unpack n s) j (getD s j 0) (o .bytes j) (λ k lk. same j k m lk (decLt (8 * j + k) n)))
+-- the only 128 bytes with these bits
+only-packed : (h s : List ℕ) → length s ≡ stateBytes → ((j : ℕ) → getD s j 0 < 256) → ((i : ℕ) → i < maxNodes → heldBit s i ≡ getD h i 0) → s ≡ pack h
+only-packed h s long small same =
+    sym
+    (ext-getD 0 (pack h) s (length-pack h ∙ sym long) (λ j l. let m : j < stateBytes = omega (arith, length-pack h) in pack-at h j m ∙ is-byte h j (getD s j 0) (small j) (λ k lk. at j k m lk)))
   where
-    same : (j k : ℕ) → j < stateBytes → k < 8 → Dec (8 * j + k < n) → not (eqb (getD (unpack n s) (8 * j + k) 0) 0) ≡ (getD s j 0 ∋ k)
-    same j k lj lk (yes y) =
-        ap (λ x. not (eqb x 0)) (unpack-at n s (8 * j + k) y ∙ held-at s j k lk) ∙ bit-not-zero (getD s j 0 ∋ k)
-    same j k lj lk (no y) =
-        ap (λ x. not (eqb x 0)) (unpack-past n s (8 * j + k) (omega arith))
-        ∙ sym (bit-zero (getD s j 0 ∋ k) (sym (held-at s j k lk) ∙ clear-at n s (o .clear) (8 * j + k) (omega arith) (omega arith)))
+    at : (j k : ℕ) → j < stateBytes → k < 8 → not (eqb (getD h (8 * j + k) 0) 0) ≡ (getD s j 0 ∋ k)
+    at j k lj lk = ap (λ x. not (eqb x 0)) (sym (same (8 * j + k) (omega arith)) ∙ held-at s j k lk) ∙ bit-not-zero (getD s j 0 ∋ k)
+
+pack-unpack : (n : ℕ) (s : List ℕ) → Packed n s → pack (unpack n s) ≡ s
+pack-unpack n s o = sym (only-packed (unpack n s) s (o .places) (o .bytes) (λ i l. same i l (decLt i n)))
+  where
+    same : (i : ℕ) → i < maxNodes → Dec (i < n) → heldBit s i ≡ getD (unpack n s) i 0
+    same i l (yes y) = sym (unpack-at n s i y)
+    same i l (no y) = clear-at n s (o .clear) i (omega arith) l ∙ sym (unpack-past n s i (omega arith))
 
 -- ---- the first 128 bytes say all
 
@@ -102,19 +107,18 @@ module _ (s t : List ℕ) (same : take stateBytes s ≡ take stateBytes t) where
 -- nothing held
 pub pack-zeros : (n : ℕ) → pack (zeros n) ≡ zeros stateBytes
 pack-zeros n =
-    ext-getD 0 (pack (zeros n)) (zeros stateBytes) (length-pack (zeros n) ∙ sym (length-replicate {A = ℕ} stateBytes 0))
-    (λ j l. let m : j < stateBytes = omega (arith, length-pack (zeros n)) in
-    pack-at (zeros n) j m
-    ∙ is-byte (zeros n) j 0 (omega arith) (λ k lk. ap (λ x. not (eqb x 0)) (none-at (zeros n) (holds-zeros n) (8 * j + k)) ∙ sym (∋-none k))
-    ∙ sym (getD-replicate stateBytes j 0 0 m))
+    sym
+    (only-packed (zeros n) (zeros stateBytes) (length-replicate {A = ℕ} stateBytes 0) (λ j. omega (arith, none-at (zeros stateBytes) (holds-zeros stateBytes) j))
+    (λ i l. zero-held (zeros stateBytes) (take-all stateBytes (zeros stateBytes) (omega (arith, length-replicate {A = ℕ} stateBytes 0))) i l ∙ sym (none-at (zeros n) (holds-zeros n) i)))
 
 pub packs : Packs
 packs =
     record {
-      packed = λ n few h long. record { places = length-pack h; bytes = pack-lt h; clear = pack-clear n h (omega arith) };
+      packed = λ n h long. record { places = length-pack h; bytes = pack-lt h; clear = pack-clear n h (omega arith) };
       unpacked = λ n s. record { places = length-unpack n s; bits = unpack-bits n s };
       unpackPack = λ n few h o. unpack-pack n few h (o .places) (o .bits);
-      packUnpack = λ n few s o. pack-unpack n s o;
+      packUnpack = pack-unpack;
       lists = unpack-at;
-      bits = λ n few h o i l. pack-bits h (o .bits) i l;
+      bits = λ n h o. pack-bits h (o .bits);
+      only = only-packed;
     }

@@ -20,11 +20,15 @@ pub record Packed (n : ℕ) (s : List ℕ) : Type 0 where
 
 -- each is a state of the other kind, and undoes the other
 pub record Packs : Type 0 where
-  pub packed : (n : ℕ) → n ≤ maxNodes → (h : List ℕ) → length h ≡ n → Packed n (pack h)
+  pub packed : (n : ℕ) (h : List ℕ) → length h ≡ n → Packed n (pack h)
   pub unpacked : (n : ℕ) (s : List ℕ) → Unpacked n (unpack n s)
   pub unpackPack : (n : ℕ) → n ≤ maxNodes → (h : List ℕ) → Unpacked n h → unpack n (pack h) ≡ h
-  pub packUnpack : (n : ℕ) → n ≤ maxNodes → (s : List ℕ) → Packed n s → pack (unpack n s) ≡ s
+  pub packUnpack : (n : ℕ) (s : List ℕ) → Packed n s → pack (unpack n s) ≡ s
   -- the request's words: what is unpacked are the nodes' bits, and in what is packed every node that a table can have has its byte as its
   -- bit, 0 past the end of h
   pub lists : (n : ℕ) (s : List ℕ) (i : ℕ) → i < n → getD (unpack n s) i 0 ≡ heldBit s i
-  pub bits : (n : ℕ) → n ≤ maxNodes → (h : List ℕ) → Unpacked n h → (i : ℕ) → i < maxNodes → heldBit (pack h) i ≡ getD h i 0
+  pub bits : (n : ℕ) (h : List ℕ) → Unpacked n h → (i : ℕ) → i < maxNodes → heldBit (pack h) i ≡ getD h i 0
+  -- and no other 128 bytes have these bits
+  pub only :
+      (h s : List ℕ) → length s ≡ stateBytes → ((j : ℕ) → getD s j 0 < 256) →
+      ((i : ℕ) → i < maxNodes → heldBit s i ≡ getD h i 0) → s ≡ pack h
