@@ -2,11 +2,11 @@
 """Runs the theory's definitions on outside vectors and on edges of documents 01 and 02, and reports each difference.
 
     python3 tools/run_definitions.py [--vectors DIR] [--listings N] [--instants N] [--texts N] [--dialect N] [--ticks N] [--runs N]
-                                     [--blocks N] [--ties N] [--first N] [--seed S]
+                                     [--blocks N] [--ties N] [--first N] [--questions N] [--seed S]
 
 Each vector becomes a theorem `what the definitions give ≡ what is expected`, proved by refl, so that the checker has to
 compute the definitions. All is written to a temporary repository, which has copies of crates/codes, crates/esterel,
-crates/grammar, crates/starts, crates/blocks, crates/instant and crates/tied, and of what it stands on. The theorem listing17 is the vector
+crates/grammar, crates/starts, crates/blocks, crates/instant, crates/tied and crates/question, and of what they stand on. The theorem listing17 is the vector
 in line 17 of the listings; edges are numbered as they stand below.
 
 A text's derivation cannot be computed: its tree is the one that the machine of crates/grammar finds, of which it is proved
@@ -25,10 +25,10 @@ import argparse, collections, json, os, random, re, shutil, subprocess, sys, tem
 from pathlib import Path
 
 ROOT = Path(__file__).resolve().parent.parent
-COPIED = ("codes", "esterel", "grammar", "starts", "blocks", "table", "analysis", "packing", "instant", "tied")
+COPIED = ("codes", "esterel", "grammar", "starts", "blocks", "table", "analysis", "packing", "instant", "tied", "question")
 CRATES_TXT = "codes:\nesterel: codes\ngrammar: esterel\nstarts: esterel codes\nblocks: esterel codes bytes\n" + (
-    "table: esterel\nanalysis: table esterel codes\npacking: table esterel codes\ninstant: packing analysis table esterel codes\ntied: analysis table esterel codes\n") + "".join(
-    f"{name}: tied instant packing analysis table blocks starts grammar esterel codes\n" for name in ("control", "vectors"))
+    "table: esterel\nanalysis: table esterel codes\npacking: table esterel codes\ninstant: packing analysis table esterel codes\ntied: analysis table esterel codes\nquestion: analysis table esterel codes\n") + "".join(
+    f"{name}: question tied instant packing analysis table blocks starts grammar esterel codes\n" for name in ("control", "vectors"))
 
 # ---- the theorems in antt
 
@@ -43,6 +43,7 @@ use mathlib.Core.Option.{Option, none, some}
 use lib.ListN.{length, take, drop}
 use lib.Dec.{T, eqb, ltb, eqb→eq, eqb-refl}
 use Rattle.esterel.specs.Limits.{signals as maxSignals}
+use Rattle.esterel.specs.Codes.{bit}
 use Rattle.esterel.specs.Statement.{Stmt, size, nodes, loopDepth}
 use Rattle.esterel.specs.Table.{Verdict, passed, refused, read, checkLength, postfix}
 use Rattle.esterel.specs.Checks.{verdict, listing, Line, planned}
@@ -61,6 +62,9 @@ use Rattle.starts.specs.Ticks.{Leads, presents}
 use Rattle.blocks.specs.Editions as B
 use Rattle.blocks.specs.Fetching as F
 use Rattle.tied.specs.Calls as N
+use Rattle.question.specs.Calls as Q
+use Rattle.question.specs.declared.Asked.{Asked}
+use Rattle.question.specs.declared.Asked.the-variants.{Known, Refused}
 use Rattle.instant.specs.Calls as I
 
 pub data Shown : Type 0 where
@@ -69,6 +73,7 @@ pub data Shown : Type 0 where
   written : (table : List ℕ) → Shown
   tick : (node : ℕ) (answers : List ℕ) → Shown
   made : (entries : ℕ) → Shown
+  known : (answer count : ℕ) → Shown
   went : (marks : List ℕ) (twice : List (List ℕ)) → Shown
   refusal : (number node : ℕ) → Shown
   refusedAt : (number place : ℕ) → Shown
@@ -303,6 +308,14 @@ narrowedAs ties old (refused number node) = refusal number node
 
 abbrev pub narrowOf : (bytes ties old : List ℕ) → Shown
 narrowOf bytes ties old = narrowedAs ties old (N.verdictFor bytes ties old)
+
+-- F-12
+abbrev pub askedAs : Asked → Shown
+askedAs (Known answer count) = known (bit answer) count
+askedAs (Refused number node) = refusal number node
+
+abbrev pub askOf : (bytes : List ℕ) (node code : ℕ) → Shown
+askOf bytes node code = askedAs (Q.askedOf (verdict bytes) node code)
 """
 HEAD = """
 use mathlib.Core.Path.{_≡_, refl}
@@ -311,19 +324,20 @@ use Rattle.esterel.specs.Codes.{word}
 use Rattle.esterel.specs.Checks.{verdict, line}
 use Rattle.esterel.specs.Instant.{started, resumed}
 use Rattle.grammar.specs.Tokens.{tokens, classOf, beginnings, byteOf}
-use Rattle.CRATE.proofs.Calls.{shown, figures, call, readText, readPlace, tickWith, firstTick, mostBy, runOf, fetchOf, partOf, narrowOf, ok, ran, written, tick, made, went, refusal, refusedAt}
+use Rattle.CRATE.proofs.Calls.{shown, figures, call, readText, readPlace, tickWith, firstTick, mostBy, runOf, fetchOf, partOf, narrowOf, askOf, ok, ran, written, tick, made, known, went, refusal, refusedAt}
 use Rattle.blocks.specs.Block.{word as wordOf, firstCheck, secondCheck, checksMatch, lengthFits, zeroFilled, good}
 use Rattle.blocks.specs.Editions.{fileFits, blocksIn, blockAt, isFor, counted, partsOf, completes, whole, tableOf}
 use Rattle.blocks.specs.Fetching.{handed}
 use Rattle.analysis.specs.Analysis.{checked}
 use Rattle.tied.specs.Narrowed.{wordsOf}
 use Rattle.tied.specs.Calls.{setsAfter}
+use Rattle.question.specs.Calls.{askedOf}
 use Rattle.codes.specs.Codes.{wordBelow}
 use Rattle.codes.specs.Words.{_∋_}
 use Rattle.packing.specs.Packing.{heldBit, column, unpack, bitsFrom, byteOf as packedByte, pack, isClearFrom}
 use Rattle.instant.specs.Calls.{startCall, resumeCall}
 """
-UNFOLDING = "unfolding word tokens classOf beginnings byteOf wordOf firstCheck secondCheck checksMatch lengthFits zeroFilled good fileFits blocksIn blockAt isFor counted partsOf completes whole tableOf handed checked wordsOf setsAfter wordBelow _∋_ heldBit column unpack bitsFrom packedByte pack isClearFrom startCall resumeCall"
+UNFOLDING = "unfolding word tokens classOf beginnings byteOf wordOf firstCheck secondCheck checksMatch lengthFits zeroFilled good fileFits blocksIn blockAt isFor counted partsOf completes whole tableOf handed checked wordsOf setsAfter askedOf wordBelow _∋_ heldBit column unpack bitsFrom packedByte pack isClearFrom startCall resumeCall"
 Theorem = collections.namedtuple("Theorem", "name left right")  # left: a call of the definitions; right: what is expected
 
 refused = "refusal {} {}".format  # number, node
@@ -436,6 +450,13 @@ def tied_theorem(at, vector):
     table = bytes.fromhex(vector["table"])
     right = refused(vector["refused"], vector["node"]) if "refused" in vector else "written " + a_list([int(x, 16) for x in vector["sets"]] + [7])
     return Theorem(f"tied{at}", narrow_of(table, bytes.fromhex(vector["ties"]), [7] * (len(table) // 2 + 1)), right)
+
+def ask_of(table, node, code):
+    return f"askOf {a_list(table)} {node} {code}"
+
+def question_theorem(at, vector):
+    right = refused(vector["refused"], vector["at"]) if "refused" in vector else f"known {vector['answer']} {vector['count']}"
+    return Theorem(f"question{at}", ask_of(bytes.fromhex(vector["table"]), vector["node"], vector["code"]), right)
 
 def vectors(file, wanted, chance, theorem, taken=lambda line: True):
     numbered = [(at, line) for at, line in enumerate(file.read_text().splitlines(), 1) if taken(line)]
@@ -610,6 +631,29 @@ def tied_edges():
         yield narrow_of(table, ties, [9] * (len(table) // 2 + 2)), refused(*right) if isinstance(right, tuple) else "written " + a_list(right + [9, 9])
     yield narrow_of(CHOICE, tied(), [9] * 2), refused(3, 0)
 
+ENDS = CHOICE + [4, 0, 9, 0, 11, 0]  # CHOICE; exit 0, in a trap
+MOST_TRAPS = under(11, 62, [4, 61])
+QUESTIONS = [  # node and code follow the table; what is expected was worked out by hand from F-12 of document 02
+    # signal, suspend and loop pass the question on, and so does a trap for a code above 0; a loop looks no further for 0
+    ([2, 0, 5, 3, 7, 4], 2, 1, (1, 3)), ([2, 0, 5, 3, 7, 4], 2, 0, (0, 3)), (W1, 3, 1, (1, 3)), (W1, 3, 0, (0, 1)), (W1, 2, 0, (0, 2)), (W1, 1, 0, (1, 1)),
+    (ENDS, 5, 1, (1, 5)), (ENDS, 5, 2, (0, 6)), (MOST_TRAPS, 0, 63, (1, 1)), (MOST_TRAPS, 1, 62, (1, 2)), (MOST_TRAPS, 61, 2, (1, 62)), (MOST_TRAPS, 62, 1, (0, 63)),
+    # a trap asked for 63 would pass 64 on
+    (MOST_TRAPS, 62, 63, (0, 1)), (MOST_TRAPS, 62, 62, (0, 2)), (MOST_TRAPS, 62, 64, (0, 0)),
+    # then, else, neither
+    (CHOICE, 2, 0, (1, 2)), (CHOICE, 2, 1, (1, 3)), (CHOICE, 2, 2, (0, 3)),
+    # the second of a sequence is asked if the first has 0 and, for a code above 0, lacks the code
+    (ENDS, 4, 0, (0, 5)), (ENDS, 4, 1, (1, 4)), (ENDS, 4, 2, (1, 5)), ([2, 0] + CHOICE + [9, 0], 4, 0, (0, 2)), ([2, 0] + CHOICE + [9, 0], 4, 2, (0, 2)),
+    # every node of a parallel, and of a trap asked for 0
+    (CHOICE + [2, 0, 10, 0], 4, 1, (1, 5)), (CHOICE + [2, 0, 10, 0], 4, 0, (0, 5)), (ENDS, 5, 0, (1, 6)), ([1, 0, 11, 0], 1, 0, (1, 2)),
+    # 21 comes before the rule on codes above 63, and after the table's own checks
+    (W1, 4, 0, refused(21, 0)), (W1, 4, 64, refused(21, 0)), (W1, 2 ** 64 - 1, 0, refused(21, 0)), (W1, 0, 2 ** 64 - 1, (0, 0)), (CHOICE + [8, 0], 9, 0, refused(11, 3)),
+    ([], 0, 0, refused(2, 0)), ([12, 0], 1, 0, refused(4, 0)), (W1, 0, 1, (1, 1)), (W1, 0, 64, (0, 0)),
+]
+
+def question_edges():
+    for *asked, right in QUESTIONS:
+        yield ask_of(*asked), right if isinstance(right, str) else "known {} {}".format(*right)
+
 STAYS = [1, 0, 2, 0, 9, 0, 1, 0, 6, 1]  # present 1 then nothing; pause else nothing: the most entries are with code 1
 MOST = {  # what is expected was worked out by hand from the rules of document 01
     1: [[1, 0], [2, 0], [3, 9]],
@@ -628,7 +672,7 @@ def edge_theorems():
     edges += [(f"firstTick {a_list(table)} {len(key)}", f"tick {key[0]} {a_list(key[1:])}") for key, tables in TICKS.items() for table in tables]
     edges += [(most_of(table), f"made {most}") for most, tables in MOST.items() for table in tables]
     edges += [(ran_through(*lent), entered_twice(*right)) for *lent, right in ((table, steps, right) for table, steps, *right in RUNS)]
-    edges += [*block_edges(), *tied_edges()]
+    edges += [*block_edges(), *tied_edges(), *question_edges()]
     return [Theorem(f"edge{at}", *edge) for at, edge in enumerate(edges, 1)]
 
 TEXTS = [  # what is expected was worked out by hand from F-1 of document 02
@@ -685,6 +729,7 @@ def control_theorems():
     edges += [(fetch_of(bytes(FULL + SHORT_BLOCK), 7), right) for right in ("written " + a_list([5] * 502 + [9]), refused(18, 0))]
     edges += [(part_of(SHORT_BLOCK, 7, 2, 1), "written " + a_list(right)) for right in ([9], [])]
     edges += [(narrow_of(CHOICE, tied((5, 2)), [9] * 4), right) for right in ("written " + a_list([1, 2, 3, 9]), "written " + a_list([1, 2, 1]), refused(19, 0))]
+    edges += [(ask_of(CHOICE, 2, 0), right) for right in ("known 1 3", "known 0 2", refused(21, 0))]
     return [Theorem(f"control{at}", *edge) for at, edge in enumerate(edges)]
 
 # ---- the temporary repository
@@ -750,13 +795,14 @@ def run(repo, args):
     blocks = vectors(args.vectors / "blocks_open.jsonl", args.blocks, chance, block_theorem)
     ties = vectors(args.vectors / "tied_open.jsonl", args.ties, chance, tied_theorem)
     first = vectors(args.vectors / "worst_open.jsonl", args.first, chance, most_theorem, is_tried)
+    questions = vectors(args.vectors / "query_open.jsonl", args.questions, chance, question_theorem)
     edges, controls = edge_theorems(), control_theorems()
-    theorems = {x.name: x for x in edges + listings + instants + texts + dialect + ticks + runs + blocks + ties + first}
+    theorems = {x.name: x for x in edges + listings + instants + texts + dialect + ticks + runs + blocks + ties + first + questions}
     copy_crates(repo, args.whole)
     write_crate(repo, "control", controls, 1)
     write_crate(repo, "vectors", list(theorems.values()), 250)
     (repo / "crates.txt").write_text(CRATES_TXT)
-    for what, some in (("listings", listings), ("instants", instants), ("texts", texts), ("dialect", dialect), ("ticks", ticks), ("runs", runs), ("blocks", blocks), ("ties", ties), ("first ticks", first), ("edges", edges)):
+    for what, some in (("listings", listings), ("instants", instants), ("texts", texts), ("dialect", dialect), ("ticks", ticks), ("runs", runs), ("blocks", blocks), ("ties", ties), ("first ticks", first), ("questions", questions), ("edges", edges)):
         tally(what, some)
 
     proved, refusals, said = check(repo, "control")
@@ -785,6 +831,7 @@ def main():
     parser.add_argument("--blocks", type=int, metavar="N", help="likewise")
     parser.add_argument("--ties", type=int, metavar="N", help="likewise")
     parser.add_argument("--first", type=int, metavar="N", help="likewise, of those that are tried")
+    parser.add_argument("--questions", type=int, metavar="N", help="likewise")
     parser.add_argument("--seed", type=int, default=random.randrange(10**6), metavar="S")
     parser.add_argument("--keep", action="store_true", help="keep the temporary repository")
     parser.add_argument("--whole", action="store_true", help="prove the copied crates whole first; else their definitions and types alone are read")

@@ -2,9 +2,9 @@
  * Bavzhrono: the checker and the runner of single instants for tables of pure Esterel, the reader
  * that makes such a table from text and finds where a refused text is at fault, the finder of the
  * tick in which a refused loop's body ends at once, the fetcher of tables that are stored in blocks
- * on the service partition, the narrower of start sets by signals that are known for certain, and
- * the planner of the first tick, to the entry, for C (C99) and C++. Link with libabi.a (x86-64),
- * which needs nothing but the C library.
+ * on the service partition, the narrower of start sets by signals that are known for certain, the
+ * planner of the first tick, to the entry, and the answerer of single questions about start sets,
+ * for C (C99) and C++. Link with libabi.a (x86-64), which needs nothing but the C library.
  *
  * The table
  *
@@ -158,6 +158,7 @@
  *         18  the program has no whole edition in the file                      no
  *         19  a signal's tie is none of 0, 1 and 2                              no
  *         20  the text leaves the grammar at immediate, every, case or a count  no
+ *         21  the node that is asked about is outside the table                 no
  *
  * 4 to 6 are decided node by node: the first faulty node counts, with its lowest number. Each of
  * 8 to 11 covers the whole table before the next begins. 11 is not returned by bavzhrono_tick,
@@ -166,8 +167,8 @@
  * 20 is in the place of 14: the text has at most 16,384 bytes, and the first word, sign or other
  * byte with which it can't go on to a text of the grammar is one of the three words or a count.
  * bavzhrono_read_place has the refusals of bavzhrono_read in its figures and returns only 3. 17 and
- * 18 are for bavzhrono_fetch, whose check 1 is of the parts, joined. 19 is for bavzhrono_narrow,
- * after 11.
+ * 18 are for bavzhrono_fetch, whose check 1 is of the parts, joined. 19 is for bavzhrono_narrow and
+ * 21 for bavzhrono_ask, each after 11.
  *
  * Buffers
  *
@@ -187,6 +188,7 @@
  * bavzhrono_read, bavzhrono_read_place: up to about 1590 KiB
  * bavzhrono_tick, bavzhrono_first_tick_answers: up to about 520 KiB
  * bavzhrono_first_tick: up to about 40 KiB
+ * bavzhrono_ask: up to about 45 KiB
  */
 #ifndef BAVZHRONO_H
 #define BAVZHRONO_H
@@ -438,6 +440,42 @@ uint32_t bavzhrono_first_tick(const uint8_t *table, size_t table_length,
 uint32_t bavzhrono_first_tick_answers(const uint8_t *table, size_t table_length,
                                       uint8_t *answers, size_t answers_length,
                                       uint64_t *answer, size_t answer_length);
+
+/*
+ * One question, few nodes: whether a code is in the start set of a node; checks 1 to 11 and 21.
+ *
+ * In:  the table, the number of the node and the code. Both may be any number: a node from n on is
+ *      refused by 21, and a code above 63 is in no set.
+ * Out: answer  (1 if the code is in the node's start set and else 0, count, 0). For a code up to 63
+ *              the first is bit `code` of the start_sets[node] that bavzhrono_analyse writes. The
+ *              count is that of the nodes looked at, the asked one included.
+ *
+ * A node that is asked for a code is looked at, and besides
+ *
+ *     signal, suspend  the child is asked for the code
+ *     loop             the child is asked for the code; a loop asked for 0 looks no further
+ *     trap             the child is asked for 1 if the code is 1, and for k + 1 if it is k from 2
+ *                      on; a trap asked for 0 has every node within looked at
+ *     present          the then branch is asked for the code, and if it lacks the code the else
+ *                      branch, too
+ *     sequence         every node of the first child is looked at; the second is asked for the code
+ *                      if the first has 0 and, for a code above 0, lacks the code
+ *     parallel         every node within is looked at
+ *
+ * A question for a code above 63 adds no node to the count: asked by the caller it has count 0, and
+ * a trap asked for 63 counts itself only. For any other code the count is at least 1 and at most
+ * the nodes of the asked statement, itself included.
+ *
+ * Of the table 2 0 3 7 9 0 8 0, a loop of pause and emit, node 3 asked for 1 gives (1, 3, 0): the
+ * loop asks the sequence, which looks at the pause and, as that has 1, not at the emit. Asked for 0
+ * it gives (0, 1, 0).
+ *
+ * The count is not what a call costs: each call makes checks 1 to 11 of the whole table anew. A
+ * caller with many questions about one table may rather call bavzhrono_analyse once and test bits
+ * of the start sets.
+ */
+uint32_t bavzhrono_ask(const uint8_t *table, size_t table_length, uint64_t node, uint64_t code,
+                       uint64_t *answer, size_t answer_length);
 
 #ifdef __cplusplus
 }

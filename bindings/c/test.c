@@ -4,9 +4,9 @@
  * The expected values are those that document 01 prints (Table W and its edges) or that its rules,
  * as F-5 and F-7 amend them, give by hand; the sets of W3 are those of the implementation in
  * compare/. The tables of texts and the places of their faults, the lists of ticks, what files of
- * blocks give, what ties leave of start sets, the entries of first ticks and their lists, and the
- * bits of held pauses are by hand, from F-1, F-2, F-4 and F-8 to F-11 of document 02 and their
- * readings.
+ * blocks give, what ties leave of start sets, the entries of first ticks and their lists, the bits
+ * of held pauses, and the answers to questions and their counts are by hand, from F-1, F-2, F-4 and
+ * F-8 to F-12 of document 02 and their readings.
  */
 #include "bavzhrono.h"
 #include "bavzhrono.h" /* twice, for the include guard */
@@ -184,6 +184,11 @@ static uint32_t first_tick_answers(const uint8_t *table, size_t length, lengths 
                                         lent.answer);
 }
 
+static uint32_t ask(const uint8_t *table, size_t length, uint64_t node, uint64_t code, lengths lent)
+{
+    return bavzhrono_ask(table, length, node, code, actual.answer, lent.answer);
+}
+
 static void tie_signal(size_t signal, uint8_t byte)
 {
     actual.ties[signal] = expected.ties[signal] = byte;
@@ -328,8 +333,8 @@ static void test_code_63_in_all_sets(void)
     test_sets("code 63 in K, A and S", table, sets, 68, 1);
 }
 
-/* Refused tables: by number and node in seven functions, as a line of text in the eighth. What 11
-   refuses is shown by one of the seven, and is tested with the ticks. */
+/* Refused tables: by number and node in eight functions, as a line of text in the ninth. What 11
+   refuses is shown by one of the eight, and is tested with the ticks. */
 
 /* Refused whatever the ties, since 19 comes last. */
 static void test_not_narrowed(const char *name, const uint8_t *table, size_t length, lengths lent,
@@ -338,6 +343,15 @@ static void test_not_narrowed(const char *name, const uint8_t *table, size_t len
     check("narrow, wrong ties", name, narrow(table, length, lent), refused);
     tie_none();
     check("narrow", name, narrow(table, length, lent), refused);
+}
+
+/* Refused whatever is asked, since 21 comes last. */
+static void test_not_asked(const char *name, const uint8_t *table, size_t length, lengths lent,
+                           uint32_t refused)
+{
+    check("ask", name, ask(table, length, 0, 1, lent), refused);
+    check("ask, no such node", name, ask(table, length, UINT64_MAX, 1, lent), refused);
+    check("ask, no such code", name, ask(table, length, 0, UINT64_MAX, lent), refused);
 }
 
 static void test_refused(const char *name, const uint8_t *table, size_t length, uint32_t number,
@@ -355,6 +369,7 @@ static void test_refused(const char *name, const uint8_t *table, size_t length, 
     test_not_narrowed(name, table, length, spare(), refused);
     check("first_tick", name, first_tick(table, length, spare()), refused);
     check("first_tick_answers", name, first_tick_answers(table, length, spare()), refused);
+    test_not_asked(name, table, length, spare(), refused);
     memcpy(expected.text, line, (size_t)line_length);
     expect_answer((uint64_t)line_length, 0, 0);
     check("render", name, render(table, length, needed(0, (size_t)line_length)), 0);
@@ -488,6 +503,7 @@ static void test_short_answer(size_t answer_length, const char *table_name, cons
     test_not_narrowed(name, table, length, lent, number);
     check("first_tick", name, first_tick(table, length, lent), number);
     check("first_tick_answers", name, first_tick_answers(table, length, lent), number);
+    test_not_asked(name, table, length, lent, number);
     check("render", name, render(table, length, lent), 3);
 }
 
@@ -2750,6 +2766,425 @@ static void test_first_ticks(void)
     test_read_then_first_tick();
 }
 
+/* Questions: whether a code is in a node's start set, and the count of the nodes looked at. */
+
+static void test_ask(const char *name, const uint8_t *table, size_t length, uint64_t node,
+                     uint64_t code, uint64_t in_set, uint64_t count)
+{
+    lengths lent[2] = {needed(0, 0), spare()};
+    for (int more = 0; more < 2; more++) {
+        expect_answer(in_set, count, 0);
+        check(more ? "ask, more lent" : "ask", name, ask(table, length, node, code, lent[more]), 0);
+    }
+}
+
+typedef struct {
+    const char *name;
+    size_t nodes;
+    uint8_t table[24];
+    uint64_t node, code, in_set, count;
+} question_test;
+
+static const question_test question_tests[] = {
+    {"nothing for 0", 1, {1, 0}, 0, 0, 1, 1},
+    {"nothing for 1", 1, {1, 0}, 0, 1, 0, 1},
+    {"nothing for 63", 1, {1, 0}, 0, 63, 0, 1},
+    {"a pause for 0", 1, {2, 0}, 0, 0, 0, 1},
+    {"a pause for 1", 1, {2, 0}, 0, 1, 1, 1},
+    {"an emit for 0", 1, {3, 1}, 0, 0, 1, 1},
+    {"an emit for 1", 1, {3, 1}, 0, 1, 0, 1},
+    {"an exit for 2", 2, {4, 0, 11, 0}, 0, 2, 1, 1},
+    {"an exit for 3", 2, {4, 0, 11, 0}, 0, 3, 0, 1},
+    {"an exit of level 1 for 3", 3, {4, 1, 11, 0, 11, 0}, 0, 3, 1, 1},
+
+    {"a signal for 1", 2, {2, 0, 5, 0}, 1, 1, 1, 2},
+    {"a signal for 0", 2, {2, 0, 5, 0}, 1, 0, 0, 2},
+    {"a suspend for 1", 2, {2, 0, 7, 1}, 1, 1, 1, 2},
+    {"a suspend for 0", 2, {1, 0, 7, 1}, 1, 0, 1, 2},
+    {"a loop for 1", 2, {2, 0, 8, 0}, 1, 1, 1, 2},
+    {"a loop for 2", 2, {2, 0, 8, 0}, 1, 2, 0, 2},
+    {"a loop for 0 looks no further", 2, {2, 0, 8, 0}, 1, 0, 0, 1},
+    {"a loop for 0 within a signal", 3, {2, 0, 8, 0, 5, 0}, 2, 0, 0, 2},
+
+    {"a trap for 0 that catches", 2, {4, 0, 11, 0}, 1, 0, 1, 2},
+    {"a trap for 0 that ends", 2, {1, 0, 11, 0}, 1, 0, 1, 2},
+    {"a trap for 0 that pauses", 2, {2, 0, 11, 0}, 1, 0, 0, 2},
+    {"a trap for 1 asks for 1", 2, {2, 0, 11, 0}, 1, 1, 1, 2},
+    {"a trap for 1 does not ask for 2", 2, {4, 0, 11, 0}, 1, 1, 0, 2},
+    {"a trap for 2 asks for 3", 3, {4, 1, 11, 0, 11, 0}, 1, 2, 1, 2},
+    {"a trap for 2 does not ask for 2", 2, {4, 0, 11, 0}, 1, 2, 0, 2},
+    {"two traps for 2 ask for 4", 4, {4, 2, 11, 0, 11, 0, 11, 0}, 2, 2, 1, 3},
+    {"a trap for 62 asks for 63", 2, {2, 0, 11, 0}, 1, 62, 0, 2},
+    {"a trap for 63 counts itself only", 2, {2, 0, 11, 0}, 1, 63, 0, 1},
+    {"two traps for 62", 3, {2, 0, 11, 0, 11, 0}, 2, 62, 0, 2},
+    {"two traps for 61", 3, {2, 0, 11, 0, 11, 0}, 2, 61, 0, 3},
+    {"a trap for 0 around a test", 4, {4, 0, 1, 0, 6, 0, 11, 0}, 3, 0, 1, 4},
+    {"a trap for 0 around a loop", 3, {2, 0, 8, 0, 11, 0}, 2, 0, 0, 3},
+    {"a trap for 0 around a sequence", 4, {4, 0, 1, 0, 9, 0, 11, 0}, 3, 0, 1, 4},
+
+    {"then has the code", 3, {1, 0, 2, 0, 6, 0}, 2, 0, 1, 2},
+    {"then lacks the code, else has it", 3, {1, 0, 2, 0, 6, 0}, 2, 1, 1, 3},
+    {"then and else lack the code", 3, {1, 0, 2, 0, 6, 0}, 2, 2, 0, 3},
+    {"then and else have the code", 3, {2, 0, 2, 0, 6, 0}, 2, 1, 1, 2},
+    {"a long then has the code", 5, {1, 0, 5, 0, 5, 0, 2, 0, 6, 0}, 4, 0, 1, 4},
+    {"a long else is not asked", 5, {1, 0, 1, 0, 5, 0, 5, 0, 6, 0}, 4, 0, 1, 2},
+    {"a loop as then for 0", 4, {2, 0, 8, 0, 1, 0, 6, 0}, 3, 0, 1, 3},
+    {"tests within a test for 1", 7, {2, 0, 1, 0, 6, 0, 1, 0, 1, 0, 6, 0, 6, 0}, 6, 1, 1, 3},
+    {"tests within a test for 0", 7, {2, 0, 2, 0, 6, 0, 1, 0, 2, 0, 6, 0, 6, 0}, 6, 0, 1, 6},
+    {"two traps as branches for 63", 5, {1, 0, 11, 0, 2, 0, 11, 0, 6, 0}, 4, 63, 0, 3},
+    {"two traps as branches for 62", 5, {1, 0, 11, 0, 2, 0, 11, 0, 6, 0}, 4, 62, 0, 5},
+
+    {"the first has the code", 3, {2, 0, 2, 0, 9, 0}, 2, 1, 1, 2},
+    {"the first lacks 0", 3, {2, 0, 1, 0, 9, 0}, 2, 0, 0, 2},
+    {"the first lacks the code and 0", 3, {2, 0, 1, 0, 9, 0}, 2, 2, 0, 2},
+    {"the first has 0, the second the code", 3, {1, 0, 2, 0, 9, 0}, 2, 1, 1, 3},
+    {"the first has 0, the second lacks the code", 3, {1, 0, 2, 0, 9, 0}, 2, 2, 0, 3},
+    {"both have 0", 3, {1, 0, 1, 0, 9, 0}, 2, 0, 1, 3},
+    {"the first has 0, the second lacks 0", 3, {1, 0, 2, 0, 9, 0}, 2, 0, 0, 3},
+    {"the first has 0 and the code", 5, {1, 0, 2, 0, 6, 0, 2, 0, 9, 0}, 4, 1, 1, 4},
+    {"the first has 0 and 1, for 0", 5, {1, 0, 2, 0, 6, 0, 2, 0, 9, 0}, 4, 0, 0, 5},
+    {"the first has 0 and 1, for 2", 5, {1, 0, 2, 0, 6, 0, 2, 0, 9, 0}, 4, 2, 0, 5},
+    {"every node of a test as the first", 5, {2, 0, 1, 0, 6, 0, 1, 0, 9, 0}, 4, 1, 1, 4},
+    {"every node of a loop as the first", 4, {2, 0, 8, 0, 1, 0, 9, 0}, 3, 0, 0, 3},
+    {"every node of a sequence as the first", 5, {2, 0, 1, 0, 9, 0, 1, 0, 9, 0}, 4, 1, 1, 4},
+    {"every node of a trap as the first", 4, {2, 0, 11, 0, 1, 0, 9, 0}, 3, 63, 0, 3},
+    {"not every node of a test as the second", 5, {1, 0, 1, 0, 2, 0, 6, 0, 9, 0}, 4, 0, 1, 4},
+    {"not every node of a loop as the second", 4, {1, 0, 2, 0, 8, 0, 9, 0}, 3, 0, 0, 3},
+    {"not every node of a trap as the second", 4, {1, 0, 2, 0, 11, 0, 9, 0}, 3, 63, 0, 3},
+
+    {"a parallel for 1", 3, {1, 0, 2, 0, 10, 0}, 2, 1, 1, 3},
+    {"a parallel for 0", 3, {1, 0, 2, 0, 10, 0}, 2, 0, 0, 3},
+    {"a parallel for 63", 3, {1, 0, 2, 0, 10, 0}, 2, 63, 0, 3},
+    {"every node of a loop in a parallel", 4, {2, 0, 8, 0, 2, 0, 10, 0}, 3, 0, 0, 4},
+    {"every node of a test in a parallel", 5, {1, 0, 2, 0, 6, 0, 1, 0, 10, 0}, 4, 0, 1, 5},
+    {"every node of a sequence in a parallel", 5, {2, 0, 2, 0, 9, 0, 1, 0, 10, 0}, 4, 1, 1, 5},
+    {"every node of a trap in a parallel", 4, {2, 0, 11, 0, 1, 0, 10, 0}, 3, 63, 0, 4},
+    {"the larger of two exits", 9, {EXITS}, 6, 3, 1, 7},
+    {"two exits, the inner trap for 2", 9, {EXITS}, 7, 2, 1, 8},
+    {"two exits, the outer trap for 0", 9, {EXITS}, 8, 0, 1, 9},
+    {"two exits, the outer trap for 1", 9, {EXITS}, 8, 1, 1, 9},
+    {"two exits, the outer trap for 2", 9, {EXITS}, 8, 2, 0, 9},
+    {"two exits, the outer trap for 62", 9, {EXITS}, 8, 62, 0, 2},
+
+    {"a loop with an exit, the test for 2", 7, {LOCK_REQUEST}, 2, 2, 1, 2},
+    {"a loop with an exit, the loop for 2", 7, {LOCK_REQUEST}, 5, 2, 1, 5},
+    {"a loop with an exit, the loop for 1", 7, {LOCK_REQUEST}, 5, 1, 1, 6},
+    {"a loop with an exit, the trap for 0", 7, {LOCK_REQUEST}, 6, 0, 1, 7},
+    {"a loop with an exit, the trap for 1", 7, {LOCK_REQUEST}, 6, 1, 1, 7},
+    {"a loop with an exit, the trap for 2", 7, {LOCK_REQUEST}, 6, 2, 0, 7},
+};
+
+static void test_questions_by_hand(void)
+{
+    for (size_t i = 0; i < sizeof question_tests / sizeof question_tests[0]; i++) {
+        const question_test *test = &question_tests[i];
+        test_ask(test->name, test->table, 2 * test->nodes, test->node, test->code, test->in_set,
+                 test->count);
+    }
+}
+
+static void test_questions_of_table_w(void)
+{
+    test_ask("W1 for 1", w1, sizeof w1, 3, 1, 1, 3);
+    test_ask("W1 for 0", w1, sizeof w1, 3, 0, 0, 1);
+    test_ask("W1, its body for 0", w1, sizeof w1, 2, 0, 0, 2);
+    test_ask("W3 for 1", w3, sizeof w3, 10, 1, 1, 11);
+    test_ask("W3 for 0", w3, sizeof w3, 10, 0, 0, 1);
+    test_ask("W3, its body for 0", w3, sizeof w3, 9, 0, 0, 10);
+    test_ask("W3, the sequence of exits for 2", w3, sizeof w3, 5, 2, 1, 5);
+    test_ask("W3, the sequence of exits for 3", w3, sizeof w3, 5, 3, 0, 5);
+    test_ask("W6 without its loop for 0", w6, sizeof w6 - 2, 2, 0, 1, 2);
+    test_ask("W6 without its loop for 1", w6, sizeof w6 - 2, 2, 1, 1, 3);
+    test_ask("W7 for 1", w7, sizeof w7, 2, 1, 1, 3);
+    test_ask("W8 without its loop for 0", w8, sizeof w8 - 2, 6, 0, 1, 6);
+    test_ask("W8 without its loop for 1", w8, sizeof w8 - 2, 6, 1, 1, 4);
+    test_ask("the lock program of F-5 for 1", lock, sizeof lock, 7, 1, 1, 8);
+    test_ask("the lock program of F-5 for 0", lock, sizeof lock, 7, 0, 0, 1);
+}
+
+/* Large tables. */
+static void test_questions_of_edges(void)
+{
+    static uint8_t table[2 * BAVZHRONO_MAX_NODES];
+    size_t length = full_table(table);
+
+    /* A loop around sequences. Each half has 511 nodes, of which the first pauses. */
+    test_ask("1,024 nodes for 1", table, length, 1023, 1, 1, 2 + 511);
+    test_ask("1,024 nodes for 2", table, length, 1023, 2, 0, 2 + 511);
+    test_ask("1,024 nodes for 0", table, length, 1023, 0, 0, 1);
+    test_ask("1,024 nodes, the first for 1", table, length, 0, 1, 1, 1);
+    pauses_to_nothing(table);
+    put(table + length - 2, 5, 0);
+    test_ask("1,024 nodes that end for 0", table, length, 1023, 0, 1, 1024);
+    test_ask("1,024 nodes that end for 1", table, length, 1023, 1, 0, 1024);
+    length = balanced(table, 6, 9);
+    test_ask("1,023 nodes, tests for 1", table, length, 1022, 1, 1, 10);
+    test_ask("1,023 nodes, tests for 0", table, length, 1022, 0, 0, 1023);
+    length = balanced(table, 10, 9);
+    test_ask("1,023 nodes, parallels for 1", table, length, 1022, 1, 1, 1023);
+    test_ask("1,023 nodes, parallels for 63", table, length, 1022, 63, 0, 1023);
+
+    length = around(table, 2, 0, 5, 255);
+    test_ask("depth 256 for 1", table, length, 255, 1, 1, 256);
+    test_ask("depth 256 for 0", table, length, 255, 0, 0, 256);
+    length = around(table, 2, 0, 8, 255);
+    test_ask("255 loops for 1", table, length, 255, 1, 1, 256);
+    test_ask("255 loops for 0", table, length, 255, 0, 0, 1);
+
+    /* Trap j, as node j, has the code 63 - j alone, and the outermost 0. */
+    length = around(table, 4, 61, 11, 62);
+    test_ask("level 61 for 63", table, length, 0, 63, 1, 1);
+    test_ask("level 61, trap 1 for 62", table, length, 1, 62, 1, 2);
+    test_ask("level 61, trap 1 for 63", table, length, 1, 63, 0, 1);
+    test_ask("level 61, trap 61 for 2", table, length, 61, 2, 1, 62);
+    test_ask("level 61, trap 61 for 3", table, length, 61, 3, 0, 61);
+    test_ask("level 61, trap 61 for 1", table, length, 61, 1, 0, 62);
+    test_ask("level 61, trap 62 for 0", table, length, 62, 0, 1, 63);
+    test_ask("level 61, trap 62 for 2", table, length, 62, 2, 0, 62);
+    test_ask("level 61, trap 62 for 1", table, length, 62, 1, 0, 63);
+}
+
+/* Each node of a table asked for each code. The right answers are from the start sets that
+   bavzhrono_analyse writes, and the counts from these and the statements' nodes, by the rule. */
+
+typedef struct {
+    const uint8_t *table;
+    size_t length;
+    uint64_t start_sets[NODE_ROOM];
+    uint64_t nodes[NODE_ROOM]; /* of each statement, its own included */
+} questioned;
+
+/* Of two children; the second, or an only child, ends right before its parent. */
+static size_t first_child(const questioned *of, size_t node)
+{
+    return node - 1 - (size_t)of->nodes[node - 1];
+}
+
+static int is_in_set(const questioned *of, size_t node, uint64_t code)
+{
+    return code < 64 && (of->start_sets[node] >> code & 1) != 0;
+}
+
+static void count_nodes(questioned *of)
+{
+    for (size_t node = 0; 2 * node < of->length; node++) {
+        const uint8_t kind = of->table[2 * node];
+        of->nodes[node] = 1;
+        if (kind >= 5)
+            of->nodes[node] += of->nodes[node - 1];
+        if (kind == 6 || kind == 9 || kind == 10)
+            of->nodes[node] += of->nodes[first_child(of, node)];
+    }
+}
+
+static uint64_t count_by_rule(const questioned *of, size_t node, uint64_t code);
+
+static uint64_t count_of_present(const questioned *of, size_t node, uint64_t code)
+{
+    const size_t then = first_child(of, node);
+    const uint64_t count = 1 + count_by_rule(of, then, code);
+
+    return is_in_set(of, then, code) ? count : count + count_by_rule(of, node - 1, code);
+}
+
+static uint64_t count_of_sequence(const questioned *of, size_t node, uint64_t code)
+{
+    const size_t first = first_child(of, node);
+    const uint64_t count = 1 + of->nodes[first];
+
+    if (!is_in_set(of, first, 0) || (code > 0 && is_in_set(of, first, code)))
+        return count;
+    return count + count_by_rule(of, node - 1, code);
+}
+
+static uint64_t count_by_rule(const questioned *of, size_t node, uint64_t code)
+{
+    if (code > 63)
+        return 0;
+    switch (of->table[2 * node]) {
+    case 5:
+    case 7:
+        return 1 + count_by_rule(of, node - 1, code);
+    case 6:
+        return count_of_present(of, node, code);
+    case 8:
+        return code == 0 ? 1 : 1 + count_by_rule(of, node - 1, code);
+    case 9:
+        return count_of_sequence(of, node, code);
+    case 11:
+        if (code > 0)
+            return 1 + count_by_rule(of, node - 1, code == 1 ? 1 : code + 1);
+        return of->nodes[node];
+    default:
+        return of->nodes[node];
+    }
+}
+
+static int is_answered(const questioned *of, size_t node, uint64_t code)
+{
+    uint64_t written[4] = {7, 7, 7, 7};
+    const uint64_t in_set = is_in_set(of, node, code) ? 1 : 0;
+    const uint64_t right[4] = {in_set, count_by_rule(of, node, code), 0, 7};
+
+    return bavzhrono_ask(of->table, of->length, node, code, written, 4) == 0 &&
+           memcmp(written, right, sizeof right) == 0;
+}
+
+static void test_every_question(const char *name, const uint8_t *table, size_t length)
+{
+    static questioned of;
+    int passed = analyse(table, length, spare()) == 0;
+
+    of.table = table;
+    of.length = length;
+    memcpy(of.start_sets, actual.start_sets, sizeof of.start_sets);
+    count_nodes(&of);
+    for (size_t node = 0; passed && 2 * node < length; node++)
+        for (uint64_t code = 0; code <= 65; code++)
+            passed = passed && is_answered(&of, node, code);
+    report(passed, "ask each node for each code", name);
+    prepare();
+}
+
+static void test_every_question_of_tables(void)
+{
+    static uint8_t table[2 * BAVZHRONO_MAX_NODES];
+    static const uint8_t exits[] = {EXITS}, lock_request[] = {LOCK_REQUEST};
+
+    test_every_question("W1", w1, sizeof w1);
+    test_every_question("W3", w3, sizeof w3);
+    test_every_question("W6 without its loop", w6, sizeof w6 - 2);
+    test_every_question("W7", w7, sizeof w7);
+    test_every_question("W8 without its loop", w8, sizeof w8 - 2);
+    test_every_question("the lock program of F-5", lock, sizeof lock);
+    test_every_question("a present", present, sizeof present);
+    test_every_question("a suspend", suspend, sizeof suspend);
+    test_every_question("two pauses", pauses, sizeof pauses);
+    test_every_question("an await", awaited, sizeof awaited);
+    test_every_question("an abort", aborted, sizeof aborted);
+    test_every_question("a weak abort", weakly_aborted, sizeof weakly_aborted);
+    test_every_question("two awaits", granted, sizeof granted);
+    test_every_question("two exits", exits, sizeof exits);
+    test_every_question("a loop with an exit", lock_request, sizeof lock_request);
+    test_every_question("127 nodes, sequences", table, balanced(table, 9, 6));
+    test_every_question("127 nodes, tests", table, balanced(table, 6, 6));
+    test_every_question("127 nodes, parallels", table, balanced(table, 10, 6));
+    test_every_question("depth 256", table, around(table, 2, 0, 5, 255));
+    test_every_question("255 loops", table, around(table, 2, 0, 8, 255));
+    test_every_question("62 traps around a pause", table, around(table, 2, 0, 11, 62));
+    test_every_question("level 61 under 62 traps", table, around(table, 4, 61, 11, 62));
+}
+
+/* Numbers that no node and no code has, though a part of their bits is one. */
+
+typedef struct {
+    const char *name;
+    uint64_t number;
+} large;
+
+static const large large_numbers[] = {
+    {"1,024", 1024},
+    {"2^16 + 1", ((uint64_t)1 << 16) + 1},
+    {"2^31", (uint64_t)1 << 31},
+    {"2^32", (uint64_t)1 << 32},
+    {"2^32 + 1", ((uint64_t)1 << 32) + 1},
+    {"2^33 + 2", ((uint64_t)1 << 33) + 2},
+    {"2^63", (uint64_t)1 << 63},
+    {"2^63 + 1", ((uint64_t)1 << 63) + 1},
+    {"2^64 - 1", UINT64_MAX},
+};
+
+#define LARGE_NUMBERS (sizeof large_numbers / sizeof large_numbers[0])
+
+/* A code above 63 is in no set, and no node is looked at. */
+static void test_no_such_code(const char *name, uint64_t code)
+{
+    static const uint8_t codes_0_and_1[] = {1, 0, 2, 0, 6, 1};
+    static const uint8_t caught[] = {4, 0, 11, 0, 11, 0};
+    static uint8_t table[2 * BAVZHRONO_MAX_NODES];
+    char named[64];
+
+    sprintf(named, "code %s of codes 0 and 1", name);
+    test_ask(named, codes_0_and_1, sizeof codes_0_and_1, 2, code, 0, 0);
+    sprintf(named, "code %s of nothing", name);
+    test_ask(named, codes_0_and_1, sizeof codes_0_and_1, 0, code, 0, 0);
+    sprintf(named, "code %s of a trap", name);
+    test_ask(named, caught, sizeof caught, 2, code, 0, 0);
+    sprintf(named, "code %s of 1,024 nodes", name);
+    test_ask(named, table, full_table(table), 1023, code, 0, 0);
+}
+
+static void test_no_such_codes(void)
+{
+    test_no_such_code("64", 64);
+    test_no_such_code("65", 65);
+    test_no_such_code("128", 128);
+    test_no_such_code("256", 256);
+    for (size_t i = 0; i < LARGE_NUMBERS; i++)
+        test_no_such_code(large_numbers[i].name, large_numbers[i].number);
+}
+
+/* 21 names no node. It comes before the rule on codes above 63, so that each code is refused. */
+static void test_no_such_node(const char *table_name, const uint8_t *table, size_t length,
+                              const char *node_name, uint64_t node)
+{
+    static const uint64_t codes[] = {0, 1, 2, 63, 64, (uint64_t)1 << 32, UINT64_MAX};
+    uint32_t returned = 21;
+    char name[64];
+
+    for (size_t i = 0; returned == 21 && i < sizeof codes / sizeof codes[0]; i++)
+        returned = ask(table, length, node, codes[i], spare());
+    sprintf(name, "21, node %s of %s", node_name, table_name);
+    check("ask", name, returned, 21);
+}
+
+static void test_no_such_nodes(void)
+{
+    static uint8_t table[2 * BAVZHRONO_MAX_NODES];
+    static const uint8_t nothing[] = {1, 0};
+    size_t full = full_table(table);
+
+    test_no_such_node("nothing", nothing, sizeof nothing, "1", 1);
+    test_no_such_node("W1", w1, sizeof w1, "4", 4);
+    test_no_such_node("W1", w1, sizeof w1, "5", 5);
+    test_no_such_node("W1", w1, sizeof w1, "8", 8);
+    test_no_such_node("W1", w1, sizeof w1, "256", 256);
+    test_no_such_node("W1", w1, sizeof w1, "1,023", 1023);
+    for (size_t i = 0; i < LARGE_NUMBERS; i++) {
+        const large *node = &large_numbers[i];
+        test_no_such_node("W1", w1, sizeof w1, node->name, node->number);
+        test_no_such_node("1,024 nodes", table, full, node->name, node->number);
+    }
+    check("ask", "answer NULL", bavzhrono_ask(w1, sizeof w1, 3, 1, NULL, 0), 3);
+    check("ask", "all NULL", bavzhrono_ask(NULL, 0, 0, 0, NULL, 0), 2);
+}
+
+/* A text that is read and then asked about: whether its loop can be left at once. */
+static void test_read_then_ask(void)
+{
+    static const char text[] = "trap Locked in\n"
+                               "    loop present LockRequest then exit Locked end; pause end\n"
+                               "end\n";
+    static const uint8_t table[] = {4, 0, 1, 0, 6, 0, 2, 0, 9, 0, 8, 0, 11, 0};
+
+    if (read_text(text, strlen(text), spare()) != 0 || actual.answer[0] != sizeof table / 2)
+        report(0, "read", "a text that is asked about then");
+    memcpy(expected.table, table, sizeof table);
+    expect_answer(1, 5, 0);
+    check("ask", "a table that was read", ask(actual.table, sizeof table, 5, 2, spare()), 0);
+}
+
+static void test_questions(void)
+{
+    test_questions_by_hand();
+    test_questions_of_table_w();
+    test_questions_of_edges();
+    test_every_question_of_tables();
+    test_no_such_codes();
+    test_no_such_nodes();
+    test_read_then_ask();
+}
+
 int main(void)
 {
     prepare();
@@ -2789,5 +3224,6 @@ int main(void)
     test_blocks();
     test_narrowed_sets();
     test_first_ticks();
+    test_questions();
     return failures != 0;
 }

@@ -2,7 +2,8 @@
 //! reader that makes a table from text and finds where a refused text is at fault, the proved finder
 //! of the tick in which a refused loop's body ends at once, the proved fetcher of tables that are
 //! stored in blocks on the service partition, the proved narrower of start sets by signals that are
-//! known for certain, and the proved planner of the first tick, to the entry.
+//! known for certain, the proved planner of the first tick, to the entry, and the proved answerer of
+//! single questions about start sets.
 //!
 //! A table has two bytes a node, kind then field, children before parents. Nodes are numbered
 //! from 0, and the last is the whole program. Below, n is the number of nodes, half the table's
@@ -27,12 +28,12 @@
 //! be longer than needed: what lies past the needed length is neither looked at nor changed. A
 //! refused call changes no buffer. [`Sets::of`], [`listing`], [`table_of`], [`Fault::of`],
 //! [`table_in`], [`narrowed_sets`] and [`Plan::of`] bring their own buffers. [`read_place`],
-//! [`part`] and [`first_tick`] need none: they hand back a place of the lent text, a part of the lent
-//! file, and a number. The pauses that a program holds between two instants are a [`State`] of
-//! [`STATE_BYTES`] bytes, which can be stored as they are. The calls keep nothing of their own, and
-//! any number of threads may make them at once; [`raw`] has the exported functions as they are. How
-//! much stack they need, [`read`] and [`read_place`] the most, is said in the header for C,
-//! `bindings/c/bavzhrono.h`.
+//! [`part`], [`first_tick`] and [`ask`] need none: they hand back a place of the lent text, a part
+//! of the lent file, a number, and an answer. The pauses that a program holds between two instants
+//! are a [`State`] of [`STATE_BYTES`] bytes, which can be stored as they are. The calls keep nothing
+//! of their own, and any number of threads may make them at once; [`raw`] has the exported functions
+//! as they are. How much stack they need, [`read`] and [`read_place`] the most, is said in the
+//! header for C, `bindings/c/bavzhrono.h`.
 //!
 //! A loop of pause and emit 7, analysed and run for two instants:
 //!
@@ -185,6 +186,25 @@
 //! assert_eq!(closed.entries, 5);
 //! # Ok::<(), bavzhrono::Refusal>(())
 //! ```
+//!
+//! A question about one node of a program, which is answered without the full listing:
+//!
+//! ```
+//! use bavzhrono::{ask, table_of, Asked};
+//!
+//! let table = table_of(
+//!     b"trap Locked in
+//!         loop present LockRequest then exit Locked end; pause end
+//!       end",
+//! )?;
+//!
+//! // Node 5, the loop, can be left in the instant in which it is started: it has the exit's code,
+//! // 2. The pause is not looked at, since the test before it has the code.
+//! assert_eq!(ask(&table, 5, 2)?, Asked { member: true, count: 5 });
+//! // It does not end by itself.
+//! assert_eq!(ask(&table, 5, 0)?, Asked { member: false, count: 1 });
+//! # Ok::<(), bavzhrono::Refusal>(())
+//! ```
 
 #![deny(missing_docs)]
 #![deny(unsafe_code)]
@@ -195,6 +215,7 @@ mod codes;
 mod first_tick;
 mod instant;
 mod listing;
+mod question;
 #[allow(unsafe_code)]
 pub mod raw;
 mod refusal;
@@ -209,6 +230,7 @@ pub use codes::{CodeSet, Codes};
 pub use first_tick::{first_tick, first_tick_answers, FirstTick, Plan};
 pub use instant::{resume, start, Closed, Completion};
 pub use listing::{listing, render};
+pub use question::{ask, Asked};
 pub use refusal::Refusal;
 pub use state::{Held, State};
 pub use text::{read, read_place, table_of, Placed, Reading};

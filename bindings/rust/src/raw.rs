@@ -143,6 +143,15 @@ extern "C" {
         answer: *mut u64,
         answer_length: usize,
     ) -> u32;
+
+    fn bavzhrono_ask(
+        table: *const u8,
+        table_length: usize,
+        node: u64,
+        code: u64,
+        answer: *mut u64,
+        answer_length: usize,
+    ) -> u32;
 }
 
 /// The figures are the nodes, the loop depth and 0.
@@ -323,6 +332,22 @@ pub fn first_tick_answers(table: &[u8], answers: &mut [u8], answer: &mut [u64]) 
             table.len(),
             answers.as_mut_ptr(),
             answers.len(),
+            answer.as_mut_ptr(),
+            answer.len(),
+        )
+    }
+}
+
+/// The figures are 1 if the code is in the node's start set and else 0, the nodes looked at, and 0.
+/// Node and code may be any numbers.
+pub fn ask(table: &[u8], node: u64, code: u64, answer: &mut [u64]) -> u32 {
+    // SAFETY: each pointer is followed by the length of its own slice.
+    unsafe {
+        bavzhrono_ask(
+            table.as_ptr(),
+            table.len(),
+            node,
+            code,
             answer.as_mut_ptr(),
             answer.len(),
         )

@@ -13,9 +13,9 @@ use std::fmt;
 /// ```
 #[derive(Clone, Copy, Debug, PartialEq, Eq, Hash)]
 pub struct Refusal {
-    /// The number of the check, 1 to 20.
+    /// The number of the check, 1 to 21.
     pub number: u32,
-    /// The lowest node that the check fits; 0 for checks 1, 2, 3, 7 and 12 to 20, which name none.
+    /// The lowest node that the check fits; 0 for checks 1, 2, 3, 7 and 12 to 21, which name none.
     pub node: usize,
 }
 
@@ -43,6 +43,7 @@ impl Refusal {
             18 => "the program has no whole edition in the file",
             19 => "a signal's tie is none of 0, 1 and 2",
             20 => "the text leaves the grammar at immediate, every, case or a count",
+            21 => "the node that is asked about is outside the table",
             _ => "there is no check of this number",
         }
     }

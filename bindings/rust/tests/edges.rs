@@ -2,7 +2,7 @@
 
 mod common;
 
-use bavzhrono::{first_tick, listing, Analysis, CodeSet, Completion, Mark, Sets, MAX_NODES};
+use bavzhrono::{ask, first_tick, listing, Analysis, CodeSet, Completion, Mark, Sets, MAX_NODES};
 use common::*;
 
 const ENDED: CodeSet = CodeSet(1 << 0);
@@ -38,6 +38,8 @@ fn the_longest_table_is_listed_and_run() {
     assert_eq!(lent.start(&table, &[]), closed(Completion::Paused, 0, 11));
     assert_eq!(first_tick(&table), Ok(11));
     assert_eq!(lent.state, holding(&[0]));
+    // Loop, sequence, and the 511 nodes of its first child.
+    assert_eq!(ask(&table, MAX_NODES - 1, 1), asked(true, 513));
 }
 
 #[test]
@@ -50,6 +52,7 @@ fn depth_256() {
     let mut lent = Buffers::for_table(&table, 0);
     assert_eq!(lent.start(&table, &[]), closed(Completion::Paused, 0, 256));
     assert_eq!(first_tick(&table), Ok(256));
+    assert_eq!(ask(&table, 255, 1), asked(true, 256));
     assert_eq!(
         lent.resume(&table, &[]),
         closed(Completion::Terminated, 0, 256)
@@ -68,6 +71,7 @@ fn loop_depth_255() {
 fn sixty_two_traps() {
     let table = around([2, 0], [11, 0], 62);
     assert_eq!(Sets::of(&table).unwrap().start_sets, [PAUSED; 63]);
+    assert_eq!(ask(&table, 62, 1), asked(true, 63));
 }
 
 #[test]
@@ -75,9 +79,13 @@ fn level_61_under_62_traps() {
     // Code 63 comes down by one at each trap, and the outermost catches it.
     let codes = (2..=63).rev().chain([0]).map(|code| CodeSet(1 << code));
     let expected: Vec<CodeSet> = codes.collect();
-    let sets = Sets::of(&around([4, 61], [11, 0], 62)).unwrap();
+    let table = around([4, 61], [11, 0], 62);
+    let sets = Sets::of(&table).unwrap();
     assert_eq!(sets.start_sets, expected);
     assert_eq!(sets.any_sets, expected);
+    assert_eq!(ask(&table, 0, 63), asked(true, 1));
+    assert_eq!(ask(&table, 61, 2), asked(true, 62));
+    assert_eq!(ask(&table, 62, 0), asked(true, 63));
 }
 
 /// The set of the codes from 0 to the given one.

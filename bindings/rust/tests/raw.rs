@@ -101,13 +101,23 @@ impl Lent {
     fn first_tick_answers(&mut self, table: &[u8]) -> u32 {
         raw::first_tick_answers(table, &mut self.answers, &mut self.answer)
     }
+
+    /// The first node, for code 1.
+    fn ask(&mut self, table: &[u8]) -> u32 {
+        raw::ask(table, 0, 1, &mut self.answer)
+    }
+
+    /// A node that no table has, for a code that no set has.
+    fn ask_outside(&mut self, table: &[u8]) -> u32 {
+        raw::ask(table, u64::MAX, u64::MAX, &mut self.answer)
+    }
 }
 
 /// It takes a table, a text if it reads one, or a file.
 type Function = fn(&mut Lent, &[u8]) -> u32;
 
 /// The functions that make the table's checks.
-const CHECKING: [Function; 7] = [
+const CHECKING: [Function; 9] = [
     Lent::analyse,
     Lent::start,
     Lent::resume,
@@ -115,16 +125,20 @@ const CHECKING: [Function; 7] = [
     Lent::narrow,
     Lent::first_tick,
     Lent::first_tick_answers,
+    Lent::ask,
+    Lent::ask_outside,
 ];
 
 /// Of these, the ones that return 11.
-const RETURNING_11: [Function; 6] = [
+const RETURNING_11: [Function; 8] = [
     Lent::analyse,
     Lent::start,
     Lent::resume,
     Lent::narrow,
     Lent::first_tick,
     Lent::first_tick_answers,
+    Lent::ask,
+    Lent::ask_outside,
 ];
 
 /// Of these, the ones that need other buffers than the answer.
@@ -235,7 +249,7 @@ fn a_refused_file_is_a_number_and_leaves_table_and_answer() {
 }
 
 #[test]
-fn refusals_3_12_13_and_19_name_no_node_and_leave_the_answer() {
+fn refusals_3_12_13_19_and_21_name_no_node_and_leave_the_answer() {
     let mut short = Lent::with_answer(3);
     (short.marks, short.text) = (vec![FILL; 3], vec![FILL; 3]);
     short.state.truncate(STATE_BYTES - 1);
@@ -257,6 +271,10 @@ fn refusals_3_12_13_and_19_name_no_node_and_leave_the_answer() {
         let mut wrong = Lent::with_answer(3);
         wrong.ties[signal] = 3;
         assert_unchanged(wrong, Lent::narrow, &present, 19);
+    }
+
+    for entries in [3, 4, 8] {
+        assert_unchanged(Lent::with_answer(entries), Lent::ask_outside, &present, 21);
     }
 }
 
@@ -356,6 +374,8 @@ fn three_entries_of_the_answer_are_written_and_no_more() {
         assert_figures(&mut lent, Lent::first_tick, &full_table(), [11, 0, 0]);
         assert_figures(&mut lent, Lent::first_tick_answers, W1, [3, 0, 0]);
         assert_figures(&mut lent, Lent::first_tick_answers, &W8[..14], [5, 2, 0]);
+        assert_figures(&mut lent, Lent::ask, W1, [1, 1, 0]);
+        assert_figures(&mut lent, Lent::ask, W7, [0, 1, 0]);
     }
 }
 

@@ -4,6 +4,7 @@ use mathlib.Core.List.{List, [], _∷_, _++_}
 use Prim.Native.Nat.{ℕ, _≤_, _<_}
 use native.Mathlib.Omega.{arith}
 use lib.ListN.{length, drop, set}
+use Rattle.esterel.specs.Checks.{verdict}
 use Rattle.table.specs.declared.Check.{Check}
 use Rattle.table.specs.declared.Check.the-variants.{Passed, Refused}
 use Rattle.analysis.specs.Analysis.{Analysis}
@@ -46,7 +47,12 @@ use Rattle.planning.specs.declared.Longest.{Longest}
 use Rattle.planning.specs.declared.Longest.the-variants.{Reached}
 use Rattle.planning.specs.declared.Longest.the-variants.{Refused as RefusedLongest}
 use Rattle.planning.proofs.Theorems.{ofMostEntries, ofFindLongest}
-use Rattle.abi.specs.Exported.{returned, answerAfter, Small, Tells, tellAnalysed, tellReaction, tellRendered, tellReading, tellPlace, tellTick, tellFetched, tellNarrowed, tellPlanned, tellLongest, shortAnswer, Exported}
+use Rattle.question.specs.Calls.{askedOf}
+use Rattle.question.specs.declared.Asked.{Asked}
+use Rattle.question.specs.declared.Asked.the-variants.{Known}
+use Rattle.question.specs.declared.Asked.the-variants.{Refused as RefusedQuestion}
+use Rattle.question.proofs.OfAsk.{numbered}
+use Rattle.abi.specs.Exported.{returned, answerAfter, Small, Tells, tellAnalysed, tellReaction, tellRendered, tellReading, tellPlace, tellTick, tellFetched, tellNarrowed, tellPlanned, tellLongest, tellAsked, shortAnswer, Exported}
 use Rattle.abi.specs.declared.Told.{Told}
 
 pub three : (l : List ℕ) (a b c : ℕ) → 3 ≤ length l → set (set (set l 0 a) 1 b) 2 c ≡ (a ∷ b ∷ c ∷ []) ++ drop 3 l
@@ -104,6 +110,10 @@ small-planned t (RefusedPlan number node) o = omega (arith, ofMostEntries .refus
 pub small-longest : (t old new : List ℕ) (r : Longest) → Hands t old new r → Small (tellLongest r)
 small-longest t old new (Reached n l) o = tt
 small-longest t old new (RefusedLongest number node) o = omega (arith, ofFindLongest .refusals t old new number node o .2)
+
+pub small-asked : (t : List ℕ) (node code : ℕ) (r : Asked) → r ≡ askedOf (verdict t) node code → Small (tellAsked r)
+small-asked t node code (Known b n) o = tt
+small-asked t node code (RefusedQuestion number at) o = omega (arith, numbered t node code number at o .2)
 
 -- it changes no answer
 short-same : (before : Check) (answer : List ℕ) → answer ≡ answerAfter (shortAnswer before) answer

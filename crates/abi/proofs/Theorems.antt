@@ -9,6 +9,7 @@ use native.Mathlib.Omega.{arith}
 use lib.Dec.{leb}
 use lib.ListN.{length, drop}
 use Rattle.esterel.specs.Limits.{maxNodes}
+use Rattle.esterel.specs.Codes.{bit}
 use Rattle.esterel.specs.Checks.{verdict}
 use Rattle.table.specs.Check.{lengthCheck}
 use Rattle.table.proofs.Found.{length-refusal}
@@ -58,7 +59,12 @@ use Rattle.planning.specs.declared.Longest.{Longest}
 use Rattle.planning.specs.declared.Longest.the-variants.{Reached}
 use Rattle.planning.specs.declared.Longest.the-variants.{Refused as RefusedLongest}
 use Rattle.planning.proofs.Theorems.{ofMostEntries, ofFindLongest}
-use Rattle.abi.specs.Exported.{returned, answerAfter, Tells, tellAnalysed, tellReaction, tellRendered, tellReading, tellPlace, tellTick, tellFetched, tellSpan, tellNarrowed, tellPlanned, tellLongest, shortAnswer, Exported, ReadingC, PlacedAs, PlacingC, LocatingC}
+use Rattle.question.specs.Calls.{askedOf}
+use Rattle.question.specs.declared.Asked.{Asked}
+use Rattle.question.specs.declared.Asked.the-variants.{Known as KnownAnswer}
+use Rattle.question.specs.declared.Asked.the-variants.{Refused as RefusedQuestion}
+use Rattle.question.proofs.OfAsk.{numbered}
+use Rattle.abi.specs.Exported.{returned, answerAfter, Tells, tellAnalysed, tellReaction, tellRendered, tellReading, tellPlace, tellTick, tellFetched, tellSpan, tellNarrowed, tellPlanned, tellLongest, tellAsked, shortAnswer, Exported, ReadingC, PlacedAs, PlacingC, LocatingC}
 use Rattle.abi.specs.Theorems.{Ran, TickShown, NoTick, AnswerOf, PlaceShown, NoPlace, SameRefusal, IsRefused, Demand1OfExports}
 use Rattle.abi.specs.declared.Told.{Told}
 use Rattle.abi.specs.declared.Told.the-variants.{Refusal}
@@ -138,6 +144,9 @@ narrow-known t = first-known 19 (omega arith) t
 
 plan-known : (t : List ℕ) → Known 11 (shortAnswer (lengthCheck t))
 plan-known t = first-known 11 (omega arith) t
+
+ask-known : (t : List ℕ) → Known 21 (shortAnswer (lengthCheck t))
+ask-known t = first-known 21 (omega arith) t
 
 none-known : (most : ℕ) → 3 ≤ most → Known most (shortAnswer Passed)
 none-known most m = short-known most m Passed (λ number node e. (let z : _≡_ {A = ℕ} 0 1 = cc in absurd (omega arith)))
@@ -298,6 +307,20 @@ module _ (t old new answer answer′ : List ℕ) where
   longest-done (Reached n l) o z e = (n, l, o, e)
   longest-done (RefusedLongest number node) o z e = absurd (omega (arith, ofFindLongest .refusals t old new number node o .0))
 
+module _ (t : List ℕ) (node code : ℕ) (answer answer′ : List ℕ) where
+  abbrev Asks : Asked → Type 0
+  Asks x = x ≡ askedOf (verdict t) node code
+
+  ask-own : (x : Asked) → Asks x → 0 < returned (tellAsked x) → Own (lengthCheck t) (Unit {0}) Asks tellAsked (λ number at. Asks (RefusedQuestion number at)) answer answer′ 21 (ask-known t) x
+  ask-own (KnownAnswer b n) o h = absurd (omega arith)
+  ask-own (RefusedQuestion number at) o h =
+      let (some, known, below) = numbered t node code number at o in
+      record { known = record { number = number; node = at; is = refl; some = some; known = known; within = below }; refuses = o; same = tt }
+
+  ask-done : (x : Asked) → Asks x → returned (tellAsked x) ≡ 0 → answer′ ≡ answerAfter (tellAsked x) answer → (b : Bool) × (n : ℕ) × Asks (KnownAnswer b n) × (answer′ ≡ onto (bit b ∷ n ∷ 0 ∷ []) answer)
+  ask-done (KnownAnswer b n) o z e = (b, n, o, e)
+  ask-done (RefusedQuestion number at) o z e = absurd (omega (arith, numbered t node code number at o .0))
+
 part-refused : (file : List ℕ) (p e k : ℕ) (answer answer′ : List ℕ) (r : ℕ) → LocatingC file p e k answer answer′ r → 0 < r → (length answer < 3) × (r ≡ returned (Refusal 3 0)) × (answer′ ≡ answer)
 part-refused file p e k answer answer′ r o h = go (decLt (length answer) 3)
   where
@@ -400,6 +423,11 @@ demand1OfExports =
       firstTickAnswersDone = λ t answers answer answers′ answer′ o.
           (let (x, call, z, e) = done-told (lengthCheck t) _ _ tellLongest (λ number node. Unit {0}) answer answer′ 11 (plan-known t) o in
           longest-done t answers answers′ answer answer′ x call z e);
+      askRefused = λ t node code answer answer′ r o h.
+          refused-is (lengthCheck t) _ _ tellAsked _ answer answer′ 21 (ask-known t) (ask-own t node code answer answer′) r o h .1;
+      askDone = λ t node code answer answer′ o.
+          (let (x, call, z, e) = done-told (lengthCheck t) _ _ tellAsked (λ number at. Unit {0}) answer answer′ 21 (ask-known t) o in
+          ask-done t node code answer answer′ x call z e);
       partRefused = part-refused;
       partDone = λ file p e k answer answer′ o.
           (let (x, call, z, a) = done-told Passed _ _ tellSpan (λ number node. Unit {0}) answer answer′ 3 (none-known 3 (omega arith)) o in (x, call, a));

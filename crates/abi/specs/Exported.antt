@@ -4,6 +4,7 @@ use mathlib.Core.Path.{_≡_}
 use mathlib.Core.List.{List, [], _∷_}
 use lib.ListN.{length}
 use Rattle.esterel.specs.Limits.{maxNodes}
+use Rattle.esterel.specs.Codes.{bit}
 use Rattle.esterel.specs.Checks.{verdict}
 use Rattle.table.specs.Check.{lengthCheck}
 use Rattle.table.specs.declared.Check.{Check}
@@ -46,6 +47,10 @@ use Rattle.planning.specs.declared.Planned.the-variants.{Refused as RefusedPlan
 use Rattle.planning.specs.declared.Longest.{Longest}
 use Rattle.planning.specs.declared.Longest.the-variants.{Reached}
 use Rattle.planning.specs.declared.Longest.the-variants.{Refused as RefusedLongest}
+use Rattle.question.specs.Calls.{askedOf}
+use Rattle.question.specs.declared.Asked.{Asked}
+use Rattle.question.specs.declared.Asked.the-variants.{Known}
+use Rattle.question.specs.declared.Asked.the-variants.{Refused as RefusedQuestion}
 use Rattle.abi.specs.declared.Told.{Told}
 use Rattle.abi.specs.declared.Told.the-variants.{Figures, Refusal}
 
@@ -121,6 +126,11 @@ abbrev pub tellLongest : Longest → Told
 tellLongest (Reached n l) = Figures n l 0
 tellLongest (RefusedLongest number node) = Refusal number node
 
+-- F-12: 1 if the code is in the set, else 0, and the number of nodes looked at
+abbrev pub tellAsked : Asked → Told
+tellAsked (Known answer count) = Figures (bit answer) count 0
+tellAsked (RefusedQuestion number node) = Refusal number node
+
 -- an answer of fewer than three entries fails check 3, which comes after the call's checks before it
 abbrev pub shortAnswer : (before : Check) → Told
 shortAnswer Passed = Refusal 3 0
@@ -180,3 +190,7 @@ PlanningC t answer answer′ r = Exported (lengthCheck t) (Unit {0}) (Plans t) t
 
 abbrev pub HandingC : (t answers answer answers′ answer′ : List ℕ) → ℕ → Type 0
 HandingC t answers answer answers′ answer′ r = Exported (lengthCheck t) (answers′ ≡ answers) (Hands t answers answers′) tellLongest answer answer′ r
+
+-- no other buffer is written
+abbrev pub AskingC : (t : List ℕ) (node code : ℕ) (answer answer′ : List ℕ) → ℕ → Type 0
+AskingC t node code answer answer′ r = Exported (lengthCheck t) (Unit {0}) (λ x. x ≡ askedOf (verdict t) node code) tellAsked answer answer′ r

@@ -2,9 +2,11 @@
 use Prim.Native.Nat.{ℕ, _+_, _*_, _/_, _%_, _≤_, _<_}
 use mathlib.Core.Path.{_≡_}
 use mathlib.Core.Logic.{_⊎_}
+use mathlib.Core.Bool.{Bool}
 use mathlib.Core.List.{List, [], _∷_}
 use lib.ListN.{length}
 use Rattle.esterel.specs.Limits.{maxNodes}
+use Rattle.esterel.specs.Codes.{bit}
 use Rattle.esterel.specs.Checks.{verdict}
 use Rattle.table.specs.Check.{lengthCheck}
 use Rattle.table.specs.declared.Check.{Check}
@@ -39,7 +41,10 @@ use Rattle.planning.specs.declared.Planned.the-variants.{Entries}
 use Rattle.planning.specs.declared.Planned.the-variants.{Refused as RefusedPlan}
 use Rattle.planning.specs.declared.Longest.the-variants.{Reached}
 use Rattle.planning.specs.declared.Longest.the-variants.{Refused as RefusedLongest}
-use Rattle.abi.specs.Exported.{returned, shortAnswer, Analysing, StartingC, ResumingC, RenderingC, ReadingC, PlacedAs, PlacingC, TickingC, FetchingC, LocatingC, NarrowingC, PlanningC, HandingC}
+use Rattle.question.specs.Calls.{askedOf}
+use Rattle.question.specs.declared.Asked.the-variants.{Known}
+use Rattle.question.specs.declared.Asked.the-variants.{Refused as RefusedQuestion}
+use Rattle.abi.specs.Exported.{returned, shortAnswer, Analysing, StartingC, ResumingC, RenderingC, ReadingC, PlacedAs, PlacingC, TickingC, FetchingC, LocatingC, NarrowingC, PlanningC, HandingC, AskingC}
 use Rattle.abi.specs.declared.Told.the-variants.{Refusal}
 
 -- after 0 the call has closed with these figures
@@ -143,6 +148,10 @@ pub record Demand1OfExports : Type 0 where
       (t answers answer answers′ answer′ : List ℕ) (r : ℕ) →
       HandingC t answers answer answers′ answer′ r → 0 < r →
       (answers′ ≡ answers) × IsRefused 11 (lengthCheck t) (λ number node. Hands t answers answers′ (RefusedLongest number node)) answer answer′ r
+  pub askRefused :
+      (t : List ℕ) (node code : ℕ) (answer answer′ : List ℕ) (r : ℕ) →
+      AskingC t node code answer answer′ r → 0 < r →
+      IsRefused 21 (lengthCheck t) (λ number at. RefusedQuestion number at ≡ askedOf (verdict t) node code) answer answer′ r
   -- where 0 is returned, the call was not refused, and its figures stand in the answer
   pub analyseDone :
       (t k a s m answer k′ a′ s′ m′ answer′ : List ℕ) →
@@ -194,3 +203,7 @@ pub record Demand1OfExports : Type 0 where
       (t answers answer answers′ answer′ : List ℕ) →
       HandingC t answers answer answers′ answer′ 0 →
       (n l : ℕ) × Hands t answers answers′ (Reached n l) × (answer′ ≡ onto (n ∷ l ∷ 0 ∷ []) answer)
+  pub askDone :
+      (t : List ℕ) (node code : ℕ) (answer answer′ : List ℕ) →
+      AskingC t node code answer answer′ 0 →
+      (b : Bool) × (n : ℕ) × (Known b n ≡ askedOf (verdict t) node code) × (answer′ ≡ onto (bit b ∷ n ∷ 0 ∷ []) answer)

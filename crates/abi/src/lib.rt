@@ -6,7 +6,7 @@ ghost use Prim.Native.Nat.{_≤_, _<_};
 ghost use lib.ListN.{length};
 ghost use Rattle.table.specs.Check.{lengthCheck};
 ghost use Rattle.analysis.specs.Passes.{onto};
-ghost use Rattle.abi.specs.Exported.{maxNode, returned, Small, Tells, tellAnalysed, tellReaction, tellRendered, tellReading, tellPlace, tellTick, tellFetched, tellSpan, tellNarrowed, tellPlanned, tellLongest, shortAnswer, Analysing, StartingC, ResumingC, RenderingC, ReadingC, PlacingC, TickingC, FetchingC, LocatingC, NarrowingC, PlanningC, HandingC};
+ghost use Rattle.abi.specs.Exported.{maxNode, returned, Small, Tells, tellAnalysed, tellReaction, tellRendered, tellReading, tellPlace, tellTick, tellFetched, tellSpan, tellNarrowed, tellPlanned, tellLongest, tellAsked, shortAnswer, Analysing, StartingC, ResumingC, RenderingC, ReadingC, PlacingC, TickingC, FetchingC, LocatingC, NarrowingC, PlanningC, HandingC, AskingC};
 use analysis::Analysed;
 use blocks::Fetched;
 use blocks::Span;
@@ -14,6 +14,7 @@ use instant::Reaction;
 use listing::Rendered;
 use planning::Longest;
 use planning::Planned;
+use question::Asked;
 use table::Check;
 use text::Reading;
 use tied::Narrowed;
@@ -257,6 +258,19 @@ fn tell_longest(longest: Longest) -> Told
     }
 }
 
+fn tell_asked(asked: Asked) -> Told
+    ensures { λ r. ⌜ r ≡ tellAsked asked ⌝ }
+{
+    match asked {
+        Asked::Known { answer, count } => Told::Figures {
+            first: answer as usize,
+            second: count,
+            third: 0,
+        },
+        Asked::Refused { number, node } => Told::Refusal { number, node },
+    }
+}
+
 #[no_mangle]
 pub extern "C" fn bavzhrono_analyse(
     table: &[u8],
@@ -437,4 +451,16 @@ pub extern "C" fn bavzhrono_first_tick_answers(
     }
     let longest = planning::find_longest(table, answers);
     tell(tell_longest(longest), answer)
+}
+
+// Whether a code is in the start set of a node, and the number of nodes looked at.
+#[no_mangle]
+pub extern "C" fn bavzhrono_ask(table: &[u8], node: u64, code: u64, answer: &mut [u64]) -> u32
+    ensures { λ r. ⌜ AskingC (now (table .entry)) node code (now (answer .entry)) (now (answer .exit)) r ⌝ }
+{
+    if answer.len() < FIGURES {
+        return short_answer(table);
+    }
+    let asked = question::ask(table, node as usize, code as usize);
+    tell(tell_asked(asked), answer)
 }

@@ -3,10 +3,10 @@
 #![allow(dead_code)] // each test file uses a part of this
 
 use bavzhrono::{analyse, narrow, read, read_place, render, resume, start, table_of, tick};
-use bavzhrono::{first_tick, first_tick_answers};
+use bavzhrono::{ask, first_tick, first_tick_answers};
 use bavzhrono::{
-    Analysis, Closed, CodeSet, Completion, FirstTick, Mark, Placed, Reading, Refusal, State, Tick,
-    BLOCK, MAX_NODES, MAX_TEXT, SIGNALS, STATE_BYTES, TICK_ANSWERS,
+    Analysis, Asked, Closed, CodeSet, Completion, FirstTick, Mark, Placed, Reading, Refusal, State,
+    Tick, BLOCK, MAX_NODES, MAX_TEXT, SIGNALS, STATE_BYTES, TICK_ANSWERS,
 };
 
 pub const W1: &[u8] = &[2, 0, 3, 7, 9, 0, 8, 0];
@@ -123,6 +123,10 @@ pub fn closed(code: Completion, taken: usize, entries: usize) -> Result<Closed, 
     })
 }
 
+pub fn asked(member: bool, count: usize) -> Result<Asked, Refusal> {
+    Ok(Asked { member, count })
+}
+
 /// The state that holds these nodes, by bits that are set here.
 pub fn holding(nodes: &[usize]) -> State {
     let mut bytes = [0; STATE_BYTES];
@@ -156,6 +160,12 @@ pub fn assert_refused(table: &[u8], number: u32, node: usize) {
     }
     assert_eq!(first_tick(table), refused(number, node));
     assert_eq!(lent.first_tick_answers(table), refused(number, node));
+    // So do nodes and codes that there are not.
+    for asked in [0, usize::MAX] {
+        for code in [1, u32::MAX] {
+            assert_eq!(ask(table, asked, code), refused(number, node));
+        }
+    }
     assert_eq!(lent, before);
     assert_eq!(
         bavzhrono::listing(table),

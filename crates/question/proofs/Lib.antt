@@ -1,0 +1,11 @@
+pub mod Examples
+pub mod Lists
+pub mod Looks
+pub mod Answers
+pub mod Suffice
+pub mod Theorems
+pub mod Small
+pub mod Beneath
+pub mod Looking
+pub mod Asking
+pub mod OfAsk
