@@ -1,10 +1,11 @@
 -- Where a statement's nodes stand in the postorder list.
 use mathlib.Core.Path.{_≡_, refl}
 use mathlib.Core.List.{List}
-use Prim.Native.Nat.{ℕ, suc, _+_, _≤_}
+use Prim.Native.Nat.{ℕ, suc, _+_, _-_, _≤_}
 use native.Mathlib.Omega.{arith}
 use Rattle.esterel.specs.Statement.{nothing, Stmt, leaf, one, two, size, nodes}
 use Rattle.esterel.specs.Outcome.{statementAt}
+use Rattle.esterel.proofs.Sizes.{size-pos}
 use Rattle.esterel.proofs.Ranges.{Over, over-join, over-last}
 use Rattle.esterel.proofs.Postorder.{Part, part-whole, Postorder, part-child, part-first, part-second, part-own}
 
@@ -42,3 +43,7 @@ module _ (ps : List Stmt) where
 -- a program's nodes stand in its own list from 0 on
 pub sits-own : (p : Stmt) → Sits (nodes p) 0 p
 sits-own p = sits (nodes p) p 0 (part-whole (nodes p))
+
+-- and the last is the program itself
+pub last-node : (p : Stmt) → statementAt (nodes p) (size p - 1) ≡ p
+last-node p = root (nodes p) p 0 (sits-own p) (size p - 1) (omega (arith, size-pos p))

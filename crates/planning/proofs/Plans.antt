@@ -2,25 +2,25 @@
 use mathlib.Core.Path.{_≡_, refl, sym, ap, ap₂, subst, _∙_}
 use mathlib.Core.Bool.{true}
 use mathlib.Core.Option.{Option, none, some}
-use mathlib.Core.List.{List, [], _∷_, _++_}
-use Prim.Native.Nat.{ℕ, zero, suc, _+_, _-_, _*_, _/_, _≤_, _<_, max}
+use mathlib.Core.List.{List}
+use Prim.Native.Nat.{ℕ, zero, suc, _+_, _-_, _*_, _/_, _≤_, max}
 use native.Mathlib.Omega.{arith}
 use borrow.Author.Tests.{leb-true}
 use lib.Dec.{leb}
-use lib.ListN.{length, getD, length-append, replicate, getD-replicate}
-use lib.Seq.{sets, getD-at}
+use lib.ListN.{length, getD, replicate, getD-replicate}
+use lib.Seq.{sets}
 use Rattle.esterel.specs.Limits.{maxNodes}
-use Rattle.esterel.specs.Statement.{nothing, Stmt, leaf, one, two, size, nodes}
-use Rattle.esterel.specs.Sets.{startSet}
-use Rattle.esterel.specs.Table.{passed, refused}
+use Rattle.esterel.specs.Statement.{Stmt, one, size, nodes}
+use Rattle.esterel.specs.Table.{passed}
 use Rattle.esterel.specs.Checks.{verdict}
 use Rattle.esterel.specs.Outcome.{statementAt}
 use Rattle.esterel.specs.Theorems.{Accepted, Closed}
 use Rattle.esterel.proofs.Accepted.{acceptance}
-use Rattle.esterel.proofs.Sizes.{size-pos, length-nodes}
+use Rattle.esterel.proofs.Nodes.{last-node}
+use Rattle.esterel.proofs.Sizes.{size-pos}
 use Rattle.esterel.proofs.Theorems.{exactness, demand3}
 use Rattle.table.specs.Program.{programOf}
-use Rattle.table.specs.Columns.{onto, stmtAt}
+use Rattle.table.specs.Columns.{stmtAt}
 use Rattle.table.specs.declared.Check.{Check}
 use Rattle.table.specs.declared.Check.the-variants.{Passed}
 use Rattle.table.specs.declared.Check.the-variants.{Refused as RefusedCheck}
@@ -33,25 +33,24 @@ use Rattle.analysis.proofs.Nodes.{well-formed}
 use Rattle.analysis.proofs.Theorems.{checked-room, checked-passed}
 use Rattle.starts.specs.declared.Weight.the-variants.{Entries}
 use Rattle.starts.specs.Ticks.{tickAnswers, presents}
-use Rattle.starts.specs.Entries.{Greatest, IsLongest}
+use Rattle.starts.specs.Entries.{Greatest}
 use Rattle.starts.specs.Summary.{either, upTo, weights, mostEntries}
 use Rattle.starts.specs.Walk.{walk, anyCode, answersOf, Low, Below}
 use Rattle.starts.proofs.Agree.{walk-agree}
 use Rattle.starts.proofs.Short.{walk-short}
 use Rattle.starts.proofs.Theorems.{few-tests, codes-below}
 use Rattle.starts.proofs.Entries.{firstTick, composed}
-use Rattle.rows.specs.Rows.{valueOf, valuesOf, maxNumber, Picks, LowRow, Holds}
+use Rattle.rows.specs.Rows.{valueOf, valuesOf, Picks, Holds}
 use Rattle.rows.specs.Filled.{Formed, RowAt, RowsTo}
 use Rattle.rows.proofs.Said.{row-low, rows-all}
 use Rattle.walk.specs.declared.Walked.{Walked}
 use Rattle.walk.specs.Walks.{Walking, Walks}
 use Rattle.planning.specs.declared.Planned.{Planned}
-use Rattle.planning.specs.declared.Planned.the-variants.{Entries as EntriesOf, Refused}
+use Rattle.planning.specs.declared.Planned.the-variants.{Entries as EntriesOf}
 use Rattle.planning.specs.declared.Longest.{Longest}
 use Rattle.planning.specs.declared.Longest.the-variants.{Reached}
-use Rattle.planning.specs.declared.Longest.the-variants.{Refused as RefusedLongest}
 use Rattle.planning.specs.Rows.{larger01, topOf, Tops, AnyCode}
-use Rattle.planning.specs.Planning.{Plans, verdictFor, Hands, refusalOf, longestRefusal}
+use Rattle.planning.specs.Planning.{Plans, Hands, refusalOf, longestRefusal}
 
 -- ---- top
 
@@ -139,13 +138,6 @@ any-is =
 
 -- ---- find_longest
 
--- the last node is the program itself
-whole : (p : Stmt) → statementAt (nodes p) (size p - 1) ≡ p
-whole (leaf l) = refl
-whole (one u p) = getD-at (nodes p) (one u p) [] (leaf nothing) (suc (size p) - 1) (omega (arith, length-nodes p))
-whole (two b p q) =
-    getD-at (nodes p ++ nodes q) (two b p q) [] (leaf nothing) (suc (size p + size q) - 1) (omega (arith, length-append (nodes p) (nodes q), length-nodes p, length-nodes q))
-
 module _ (old : List ℕ) {t sizes : List ℕ} {r : Check} (o : SizesChecked (leb tickAnswers (length old)) t sizes r) where
   pub refused-hands : {x : Longest} (number node : ℕ) → r ≡ RefusedCheck number node → x ≡ longestRefusal r → Hands t old old x
   refused-hands number node z e = Hands.refuses number node (verdict-refused _ r number node (o .answer) z) (e ∙ ap longestRefusal z) refl
@@ -170,7 +162,7 @@ module _ (old : List ℕ) {t sizes : List ℕ} {r : Check} (o : SizesChecked (le
     some-node = omega (arith, count, size-pos (programOf t))
 
     last-is : stmtAt t (length t / 2 - 1) ≡ programOf t
-    last-is = ap (λ i. statementAt (nodes (programOf t)) (i - 1)) count ∙ whole (programOf t)
+    last-is = ap (λ i. statementAt (nodes (programOf t)) (i - 1)) count ∙ last-node (programOf t)
 
     module _ {all : List ℕ} (done : RowsTo Entries t (length t / 2) all) where
       pub last-room : 64 * (length t / 2 - 1) + 64 ≤ length all

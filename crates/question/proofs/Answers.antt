@@ -14,8 +14,7 @@ use Rattle.esterel.specs.Theorems.{Accepted}
 use Rattle.esterel.proofs.Accepted.{passes}
 use Rattle.esterel.proofs.Caught.{codes-few}
 use Rattle.esterel.proofs.Low.{start-pause}
-use Rattle.esterel.proofs.Nodes.{root, sits-own}
-use Rattle.esterel.proofs.Sizes.{size-pos}
+use Rattle.esterel.proofs.Nodes.{last-node}
 use Rattle.esterel.proofs.Subtrees.{only-child, two-children}
 use Rattle.question.specs.Question.{Found, found, memberOf, asking, after, orElse, andThen, maxCode, limited, range, look, question}
 use Rattle.question.specs.Theorems.{Answers}
@@ -98,12 +97,9 @@ module _ (p : Stmt) (few : (j k : ℕ) → startSet (statementAt (nodes p) j) k 
 accepted-few : (p : Stmt) → Accepted p → (j k : ℕ) → startSet (statementAt (nodes p) j) k ≡ true → k ≤ maxCode
 accepted-few p a j k e = omega (arith, codes-few p (passes p a .traps) (passes p a .exits) _ start-pause j k e)
 
-own : (p : Stmt) → statementAt (nodes p) (size p - 1) ≡ p
-own p = root (nodes p) p 0 (sits-own p) (size p - 1) (omega (arith, size-pos p))
-
 pub answers : Answers
 answers =
     record {
       exact = λ p a node k. question-at p (accepted-few p a) _ node k;
-      low = λ i p f k. rw (own p) at (question-at p f i (size p - 1) k);
+      low = λ i p f k. rw (last-node p) at (question-at p f i (size p - 1) k);
     }

@@ -18,7 +18,7 @@ use Rattle.table.specs.Kinds.{kindOf, arityOf, isSequence}
 use Rattle.table.specs.Program.{programOf}
 use Rattle.table.specs.Columns.{stmtAt, firstAt}
 use Rattle.table.specs.declared.Kind.{Kind}
-use Rattle.table.proofs.Views.{spans, Over, Both, kind-is, has-last, one-of, two-of}
+use Rattle.table.proofs.Views.{spans, Over, Both, kind-is, has-last, one-of, two-of, first-le}
 use Rattle.analysis.specs.Analysis.{Sized}
 use Rattle.question.specs.Question.{Found, found, asking, after, orElse, asksSecond, andThen, maxCode, range, whole, look}
 use Rattle.question.specs.Steps.{Counted, counted, countedOf, lookAt, passedUp, joinedOf, looksAtAll, stopsAt, passedCode}
@@ -205,7 +205,7 @@ module _ {t sizes : List ℕ} (ok : Sized true t sizes) {i : ℕ} (h : i < size 
           children = two-of (ok .measured) h ek en es (λ e. has-child (sym en ∙ e)) z
 
           pub first-below : s ≤ i - 1
-          first-below = let (b, p, q, v) = children in omega (arith, v .sized, v .ends, v .some-left)
+          first-below = first-le (ok .measured) h ek en es (λ e. has-child (sym en ∙ e)) z
 
           look-two : {b : Binary} {p q : Stmt} → Both t i s b p q → lookAt t i code ≡ countedOf (look (firstAt t i) (two b p q) code)
           look-two v = ap (λ w. countedOf (look (firstAt t i) w code)) (v .is)

@@ -1,6 +1,6 @@
 -- What the tests on a node's kind compute.
 use mathlib.Core.Path.{_≡_, sym, ap, ap₂, _∙_}
-use mathlib.Core.Bool.{Bool, true, false, _&&_, _||_, cond}
+use mathlib.Core.Bool.{Bool, _&&_, _||_, cond}
 use Prim.Native.Nat.{ℕ, _+_}
 use lib.Dec.{eqb, leb}
 use Rattle.table.specs.Kinds.{arityOf, isTrap, isLoop, isParallel}
@@ -15,11 +15,5 @@ module _ (kind : Kind) (code : ℕ) {b : Bool} (trap : b ≡ isTrap kind) where
   pub stops-by : {a : Bool} → a ≡ isLoop kind → ((a && eqb code 0) || (b && eqb code maxCode)) ≡ stopsAt kind code
   stops-by e = ap₂ (λ x y. (x && eqb code 0) || (y && eqb code maxCode)) e trap
 
-  test : {t : Bool} → (b && leb 2 code) ≡ t → (isTrap kind && leb 2 code) ≡ t
-  test e = ap (λ y. y && leb 2 code) (sym trap) ∙ e
-
-  pub passed-next : (b && leb 2 code) ≡ true → code + 1 ≡ passedCode kind code
-  passed-next e = sym (ap (λ x. cond x (code + 1) code) (test e))
-
-  pub passed-same : (b && leb 2 code) ≡ false → code ≡ passedCode kind code
-  passed-same e = sym (ap (λ x. cond x (code + 1) code) (test e))
+  pub passed-by : {t : Bool} → (b && leb 2 code) ≡ t → cond t (code + 1) code ≡ passedCode kind code
+  passed-by e = ap (λ x. cond x (code + 1) code) (sym e ∙ ap (λ y. y && leb 2 code) trap)

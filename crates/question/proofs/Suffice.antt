@@ -1,19 +1,20 @@
 -- The nodes looked at suffice: what stands at the others changes nothing.
-use mathlib.Core.Path.{_≡_, refl, sym, ap, ap₂, _∙_}
+use mathlib.Core.Path.{_≡_, refl, ap, ap₂, _∙_}
 use mathlib.Core.Bool.{Bool, true, false, cond}
 use mathlib.Core.List.{List, []}
-use Prim.Native.Nat.{ℕ, zero, suc, _+_, _≤_, _<_}
+use Prim.Native.Nat.{ℕ, zero, suc, _+_, _-_, _≤_, _<_}
 use native.Mathlib.Omega.{arith}
 use lib.Dec.{eqb, ltb}
 use Rattle.codes.proofs.Bools.{inr-true}
 use Rattle.esterel.specs.Codes.{withoutEnded}
-use Rattle.esterel.specs.Statement.{signal, suspend, loop, trap, present, sequence, parallel, Stmt, leaf, one, two, size}
+use Rattle.esterel.specs.Statement.{signal, suspend, loop, trap, present, sequence, parallel, Stmt, one, two, size}
 use Rattle.esterel.specs.Sets.{startSet}
 use Rattle.esterel.specs.Outcome.{member}
+use Rattle.esterel.proofs.Sizes.{size-pos}
 use Rattle.question.specs.Question.{Found, found, nodesOf, asking, after, orElse, asksSecond, andThen, maxCode, limited, range, whole, look, question}
-use Rattle.question.specs.Theorems.{Alike, leaves, ones, twos}
+use Rattle.question.specs.Theorems.{Alike, leaves, ones, twos, others}
 use Rattle.question.proofs.Lists.{left-in, right-in, in-range}
-use Rattle.question.proofs.Looks.{asked-is}
+use Rattle.question.proofs.Looks.{asked-looked}
 
 -- N holds of all nodes that are looked at
 abbrev Seen : (ℕ → Type 0) → Found → Type 0
@@ -21,23 +22,20 @@ Seen N x = (n : ℕ) → member n (nodesOf x) ≡ true → N n
 
 module _ (N : ℕ → Type 0) where
   alike-size : (i : ℕ) (p q : Stmt) → Alike N i p q → size q ≡ size p
-  alike-size _ _ _ (leaves i l m e) = refl
-  alike-size _ _ _ (ones i u v p q a e) = ap suc (alike-size i p q a)
-  alike-size _ _ _ (twos i b c p q r s a z e) = ap₂ (λ x y. suc (x + y)) (alike-size i p q a) (alike-size (i + size p) r s z)
+  alike-size _ _ _ (leaves i l) = refl
+  alike-size _ _ _ (ones i u p q a) = ap suc (alike-size i p q a)
+  alike-size _ _ _ (twos i b p q r s a z) = ap₂ (λ x y. suc (x + y)) (alike-size i p q a) (alike-size (i + size p) r s z)
+  alike-size _ _ _ (others i p q e out) = e
 
   -- where every node is looked at
   alike-same : (i : ℕ) (p q : Stmt) → Alike N i p q → ((n : ℕ) → i ≤ n → n < i + size p → N n) → q ≡ p
-  alike-same _ _ _ (leaves i l m e) all = ap leaf (sym (e (all i (omega arith) (omega arith))))
-  alike-same _ _ _ (ones i u v p q a e) all = ap₂ one (sym (e (all (i + size p) (omega arith) (omega arith)))) (alike-same i p q a (λ n l h. all n l (omega arith)))
-  alike-same _ _ _ (twos i b c p q r s a z e) all =
-      let left = alike-same i p q a (λ n l h. all n l (omega arith)) in
-      let right = alike-same (i + size p) r s z (λ n l h. all n (omega arith) (omega arith)) in
-      ap (λ x. two x q s) (sym (e (all (i + (size p + size r)) (omega arith) (omega arith)))) ∙ ap₂ (two b) left right
+  alike-same _ _ _ (leaves i l) all = refl
+  alike-same _ _ _ (ones i u p q a) all = ap (one u) (alike-same i p q a (λ n l h. all n l (omega arith)))
+  alike-same _ _ _ (twos i b p q r s a z) all =
+      ap₂ (two b) (alike-same i p q a (λ n l h. all n l (omega arith))) (alike-same (i + size p) r s z (λ n l h. all n (omega arith) (omega arith)))
+  alike-same _ _ _ (others i p q e out) all = absurd (out (all (i + size p - 1) (omega (arith, size-pos p)) (omega (arith, size-pos p))))
 
   -- what is found stays the same if its parts do, as far as they are looked at
-  own-seen : (n : ℕ) (x : Found) → Seen N (asking n x) → N n
-  own-seen n x see = see n (asked-is n n x refl)
-
   inner-seen : (n : ℕ) (x : Found) → Seen N (asking n x) → Seen N x
   inner-seen n (found b ns) see m e = see m (inr-true (eqb n m) (member m ns) e)
 
@@ -68,44 +66,36 @@ module _ (N : ℕ → Type 0) where
 
   -- the same nodes are looked at, and the answer is the same
   pub look-same : (i : ℕ) (p q : Stmt) → Alike N i p q → (k : ℕ) → Seen N (look i p k) → look i q k ≡ look i p k
-  look-same _ _ _ (leaves i l m e) k see = ap (λ w. look i w k) (alike-same i (leaf l) (leaf m) (leaves i l m e) (whole-seen i (leaf l) k see))
-  look-same _ _ _ (ones i (signal s) v p q a e) k see =
-      ap (λ w. look i (one w q) k) (sym (e (own-seen (i + size p) (look i p k) see)))
-      ∙ ap₂ (λ n x. asking (i + n) x) (alike-size i p q a) (look-same i p q a k (inner-seen (i + size p) (look i p k) see))
-  look-same _ _ _ (ones i (suspend s) v p q a e) k see =
-      ap (λ w. look i (one w q) k) (sym (e (own-seen (i + size p) (look i p k) see)))
-      ∙ ap₂ (λ n x. asking (i + n) x) (alike-size i p q a) (look-same i p q a k (inner-seen (i + size p) (look i p k) see))
-  look-same _ _ _ (ones i loop v p q a e) zero see =
-      ap (λ w. look i (one w q) 0) (sym (e (own-seen (i + size p) (found false []) see))) ∙ ap (λ n. asking (i + n) (found false [])) (alike-size i p q a)
-  look-same _ _ _ (ones i loop v p q a e) (suc k) see =
-      ap (λ w. look i (one w q) (suc k)) (sym (e (own-seen (i + size p) (look i p (suc k)) see)))
-      ∙ ap₂ (λ n x. asking (i + n) x) (alike-size i p q a) (look-same i p q a (suc k) (inner-seen (i + size p) (look i p (suc k)) see))
-  look-same _ _ _ (ones i trap v p q a e) zero see =
-      ap (λ w. look i w 0) (alike-same i (one trap p) (one v q) (ones i trap v p q a e) (whole-seen i (one trap p) 0 see))
-  look-same _ _ _ (ones i trap v p q a e) (suc zero) see =
-      ap (λ w. look i (one w q) 1) (sym (e (own-seen (i + size p) (look i p 1) see)))
-      ∙ ap₂ (λ n x. asking (i + n) x) (alike-size i p q a) (look-same i p q a 1 (inner-seen (i + size p) (look i p 1) see))
-  look-same _ _ _ (ones i trap v p q a e) (suc (suc k)) see =
+  look-same _ _ _ (leaves i l) k see = refl
+  look-same _ _ _ (ones i (signal s) p q a) k see =
+      ap₂ (λ n x. asking (i + n) x) (alike-size i p q a) (look-same i p q a k (inner-seen (i + size p) (look i p k) see))
+  look-same _ _ _ (ones i (suspend s) p q a) k see =
+      ap₂ (λ n x. asking (i + n) x) (alike-size i p q a) (look-same i p q a k (inner-seen (i + size p) (look i p k) see))
+  look-same _ _ _ (ones i loop p q a) zero see = ap (λ n. asking (i + n) (found false [])) (alike-size i p q a)
+  look-same _ _ _ (ones i loop p q a) (suc k) see =
+      ap₂ (λ n x. asking (i + n) x) (alike-size i p q a) (look-same i p q a (suc k) (inner-seen (i + size p) (look i p (suc k)) see))
+  look-same _ _ _ (ones i trap p q a) zero see =
+      ap (λ w. look i w 0) (alike-same i (one trap p) (one trap q) (ones i trap p q a) (whole-seen i (one trap p) 0 see))
+  look-same _ _ _ (ones i trap p q a) (suc zero) see =
+      ap₂ (λ n x. asking (i + n) x) (alike-size i p q a) (look-same i p q a 1 (inner-seen (i + size p) (look i p 1) see))
+  look-same _ _ _ (ones i trap p q a) (suc (suc k)) see =
       let up = suc (suc (suc k)) in
-      ap (λ w. look i (one w q) (suc (suc k))) (sym (e (own-seen (i + size p) (limited up (look i p up)) see)))
-      ∙ ap₂ (λ n x. asking (i + n) x) (alike-size i p q a)
+      ap₂ (λ n x. asking (i + n) x) (alike-size i p q a)
       (limited-same up (look i p up) (look i q up) (look-same i p q a up) (inner-seen (i + size p) (limited up (look i p up)) see))
-  look-same _ _ _ (twos i (present t) c p q r s a z e) k see =
+  look-same _ _ _ (twos i (present t) p q r s a z) k see =
       let x = orElse (look i p k) (look (i + size p) r k) in
-      let sizes : size q ≡ size p = alike-size i p q a in
-      ap (λ w. look i (two w q s) k) (sym (e (own-seen (i + (size p + size r)) x see)))
-      ∙ ap₂ (λ n m. asking (i + (n + m)) (orElse (look i q k) (look (i + n) s k))) sizes (alike-size (i + size p) r s z)
+      ap₂ (λ n m. asking (i + (n + m)) (orElse (look i q k) (look (i + n) s k))) (alike-size i p q a) (alike-size (i + size p) r s z)
       ∙ ap (asking (i + (size p + size r))) (else-same (look i p k) (look (i + size p) r k) (look i q k) (look (i + size p) s k) (look-same i p q a k) (look-same (i + size p) r s z k) (inner-seen (i + (size p + size r)) x see))
-  look-same _ _ _ (twos i sequence c p q r s a z e) k see =
+  look-same _ _ _ (twos i sequence p q r s a z) k see =
       let y = look (i + size p) r k in
       let x = andThen (startSet p) k y in
       let rest = inner-seen (i + (size p + size r)) (after (range i (size p)) x) see in
-      ap (λ w. look i (two w q s) k) (sym (e (own-seen (i + (size p + size r)) (after (range i (size p)) x) see)))
-      ∙ ap (λ w. look i (two sequence w s) k) (alike-same i p q a (all-seen i (size p) x rest))
+      ap (λ w. look i (two sequence w s) k) (alike-same i p q a (all-seen i (size p) x rest))
       ∙ ap₂ (λ n v. asking (i + (size p + n)) (after (range i (size p)) v)) (alike-size (i + size p) r s z)
       (by-test (asksSecond (startSet p) k) y (look (i + size p) s k) (found (withoutEnded (startSet p) k) []) (look-same (i + size p) r s z k) (rest-seen (range i (size p)) x rest))
-  look-same _ _ _ (twos i parallel c p q r s a z e) k see =
-      ap (λ w. look i w k) (alike-same i (two parallel p r) (two c q s) (twos i parallel c p q r s a z e) (whole-seen i (two parallel p r) k see))
+  look-same _ _ _ (twos i parallel p q r s a z) k see =
+      ap (λ w. look i w k) (alike-same i (two parallel p r) (two parallel q s) (twos i parallel p q r s a z) (whole-seen i (two parallel p r) k see))
+  look-same _ _ _ (others i p q e out) k see = absurd (out (see (i + size p - 1) (asked-looked i p k)))
 
   pub question-same : (i : ℕ) (p q : Stmt) → Alike N i p q → (k : ℕ) → Seen N (question i p k) → question i q k ≡ question i p k
   question-same i p q a k = limited-same k (look i p k) (look i q k) (look-same i p q a k)

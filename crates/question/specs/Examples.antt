@@ -17,13 +17,25 @@ caught = one trap (two (present 5) (leaf (exit 0)) (leaf (exit 1)))
 abbrev pub nested : Stmt
 nested = one (signal 3) (one (suspend 4) (two sequence (leaf (emit 3)) fork))
 
+-- present 5 then pause else exit 0 end, and the other way round with exit 1
+abbrev pub leaves : Stmt
+leaves = two (present 5) (leaf pause) (leaf (exit 0))
+
+abbrev pub outer : Stmt
+outer = two (present 5) (leaf (exit 1)) (leaf (exit 0))
+
 pub record Examples : Type 0 where
   -- signal, suspend and loop pass the question to the child
   pub passed : question 0 nested 1 ≡ found true (6 ∷ 5 ∷ 4 ∷ 0 ∷ 3 ∷ 1 ∷ 2 ∷ [])
   pub loopPasses : question 0 (one loop (leaf pause)) 1 ≡ found true (1 ∷ 0 ∷ [])
+  -- which asks its own children in turn, and does not look at all of them
+  pub passedDown : question 0 nested 0 ≡ found true (6 ∷ 5 ∷ 4 ∷ 0 ∷ 3 ∷ 1 ∷ [])
+  pub loopAsks : question 0 (one loop leaves) 1 ≡ found true (3 ∷ 2 ∷ 0 ∷ [])
   -- and so does a trap asked for 1, as 1, and for 2, as 3
   pub trapPasses1 : question 0 caught 1 ≡ found false (3 ∷ 2 ∷ 0 ∷ 1 ∷ [])
   pub trapPasses2 : question 0 caught 2 ≡ found true (3 ∷ 2 ∷ 0 ∷ 1 ∷ [])
+  pub trapAsks1 : question 0 (one trap leaves) 1 ≡ found true (3 ∷ 2 ∷ 0 ∷ [])
+  pub trapAsks2 : question 0 (one trap outer) 2 ≡ found true (3 ∷ 2 ∷ 0 ∷ [])
   pub trapPasses62 : question 0 (one trap (leaf (exit 61))) 62 ≡ found true (1 ∷ 0 ∷ [])
   -- a loop asked for 0 looks no further
   pub loopEnds : question 0 (one loop fork) 0 ≡ found false (3 ∷ [])
@@ -31,6 +43,8 @@ pub record Examples : Type 0 where
   pub thenHas : question 0 fork 0 ≡ found true (2 ∷ 0 ∷ [])
   pub elseHas : question 0 fork 1 ≡ found true (2 ∷ 0 ∷ 1 ∷ [])
   pub neitherHas : question 0 fork 2 ≡ found false (2 ∷ 0 ∷ 1 ∷ [])
+  pub thenAsks : question 0 (two (present 6) fork fork) 0 ≡ found true (6 ∷ 2 ∷ 0 ∷ [])
+  pub elseAsks : question 0 (two (present 6) (leaf pause) fork) 0 ≡ found true (4 ∷ 0 ∷ 3 ∷ 1 ∷ [])
   -- a sequence whose first lacks 0
   pub firstStays : question 0 (two sequence (leaf pause) (leaf (exit 0))) 1 ≡ found true (2 ∷ 0 ∷ [])
   pub firstLacks : question 0 (two sequence (leaf pause) (leaf (exit 0))) 2 ≡ found false (2 ∷ 0 ∷ [])

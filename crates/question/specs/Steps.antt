@@ -14,9 +14,11 @@ use Rattle.question.specs.declared.Answer.{Answer}
 pub data Counted : Type 0 where
   counted : (member : Bool) (looked : ℕ) → Counted
 
+-- what is found, by the number of nodes
 abbrev pub countedOf : Found → Counted
 countedOf x = counted (memberOf x) (length (nodesOf x))
 
+-- what the code says
 abbrev pub saidBy : Answer → Counted
 saidBy r = counted (r .member) (r .looked)
 

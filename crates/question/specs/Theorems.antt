@@ -1,5 +1,5 @@
--- What is proved of the question and of the call (F-12): the statements alone. The proofs are in proofs/Answers.antt, Theorems.antt and
--- proofs/OfAsk.antt.
+-- What is proved of the question and of the call (F-12): the statements alone. The proofs are in proofs/Answers.antt, proofs/Theorems.antt
+-- and proofs/OfAsk.antt.
 use Prim.Native.Nat.{ℕ, _+_, _-_, _≤_, _<_}
 use mathlib.Core.Path.{_≡_}
 use mathlib.Core.Bool.{Bool, true, false}
@@ -32,13 +32,13 @@ abbrev pub NoneTwice : List ℕ → Type 0
 NoneTwice [] = Unit {0}
 NoneTwice (n ∷ ns) = (member n ns ≡ false) × NoneTwice ns
 
--- Two statements of one shape, the first node of which is i, that are alike at the nodes in N: there the kind and the field are the same.
+-- Two statements, the first node of which is i, that are alike at the nodes in N: in place of one whose own node is not in N there may
+-- stand any other of as many nodes.
 pub data Alike (N : ℕ → Type 0) : ℕ → Stmt → Stmt → Type 0 where
-  leaves : (i : ℕ) (l m : Leaf) → (N i → l ≡ m) → Alike N i (leaf l) (leaf m)
-  ones : (i : ℕ) (u v : Unary) (p q : Stmt) → Alike N i p q → (N (i + size p) → u ≡ v) → Alike N i (one u p) (one v q)
-  twos :
-      (i : ℕ) (b c : Binary) (p q r s : Stmt) →
-      Alike N i p q → Alike N (i + size p) r s → (N (i + (size p + size r)) → b ≡ c) → Alike N i (two b p r) (two c q s)
+  leaves : (i : ℕ) (l : Leaf) → Alike N i (leaf l) (leaf l)
+  ones : (i : ℕ) (u : Unary) (p q : Stmt) → Alike N i p q → Alike N i (one u p) (one u q)
+  twos : (i : ℕ) (b : Binary) (p q r s : Stmt) → Alike N i p q → Alike N (i + size p) r s → Alike N i (two b p r) (two b q s)
+  others : (i : ℕ) (p q : Stmt) → size q ≡ size p → (N (i + size p - 1) → ⊥) → Alike N i p q
 
 -- "the count is the nodes looked at": for any statement and any code
 pub record Looks : Type 0 where
@@ -48,9 +48,10 @@ pub record Looks : Type 0 where
   pub atMost : (i : ℕ) (p : Stmt) (k : ℕ) → length (nodesOf (question i p k)) ≤ size p
   -- "the asked one included", for a code up to 63; above it none
   pub asked : (i : ℕ) (p : Stmt) (k : ℕ) → k ≤ maxCode → member (i + size p - 1) (nodesOf (question i p k)) ≡ true
+  pub askedAt : (p : Stmt) (node k : ℕ) → node < size p → k ≤ maxCode → member node (nodesOf (questionAt p node k)) ≡ true
   pub atLeast : (i : ℕ) (p : Stmt) (k : ℕ) → k ≤ maxCode → 1 ≤ length (nodesOf (question i p k))
   pub above : (i : ℕ) (p : Stmt) (k : ℕ) → maxCode < k → nodesOf (question i p k) ≡ []
-  -- they suffice: whatever stands at the other nodes, the same nodes are looked at and the answer is the same
+  -- they suffice: whatever stands in the place of the others, the same nodes are looked at and the answer is the same
   pub suffice : (i : ℕ) (p q : Stmt) (k : ℕ) → Alike (λ n. member n (nodesOf (question i p k)) ≡ true) i p q → question i q k ≡ question i p k
 
 -- a refusal of `ask` is that of the table, whatever is asked, or 21 for a node outside an accepted table, whatever the code is

@@ -16,10 +16,6 @@ fn number_at(head: &[u8], at: usize) -> usize
     low + 4294967296 * high
 }
 
-fn digit(answer: bool) -> usize {
-    answer as usize
-}
-
 // Reads the table that follows the head, asks, and writes what came of it; false at the end of the input.
 fn run_case(table: &mut [u8], node: usize, code: usize) -> bool {
     if !input::read_full(table) {
@@ -29,7 +25,7 @@ fn run_case(table: &mut [u8], node: usize, code: usize) -> bool {
     let told = match asked {
         Asked::Known { answer, count } => {
             output::write_word(b"known")
-                && output::write_number(digit(answer))
+                && output::write_number(answer as usize)
                 && output::write_number(count)
         }
         Asked::Refused { number, node: at } => output::write_refusal(number, at),
