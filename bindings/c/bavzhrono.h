@@ -470,9 +470,9 @@ uint32_t bavzhrono_first_tick_answers(const uint8_t *table, size_t table_length,
  * loop asks the sequence, which looks at the pause and, as that has 1, not at the emit. Asked for 0
  * it gives (0, 1, 0).
  *
- * The count is not what a call costs: each call makes checks 1 to 11 of the whole table anew. A
- * caller with many questions about one table may rather call bavzhrono_analyse once and test bits
- * of the start sets.
+ * The count is not what a call costs: each call makes checks 1 to 11 of the whole table anew.
+ * bavzhrono_analyse takes about as long as one such call, so a caller with a second question about
+ * the same table may rather call that once and test bits of the start sets.
  */
 uint32_t bavzhrono_ask(const uint8_t *table, size_t table_length, uint64_t node, uint64_t code,
                        uint64_t *answer, size_t answer_length);

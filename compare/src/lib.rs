@@ -1,12 +1,12 @@
 //! Statement tables of pure Esterel, read from documents 01 and 02 alone: all of
 //! document 01, as F-5, F-7 and F-11 of document 02 amend it, the programs as text of F-1 in
-//! the dialect of F-9, the ticks of F-2, the blocks of F-4, the narrowed sets of F-8, and the
-//! greatest number of entries of a start of F-10.
+//! the dialect of F-9, the ticks of F-2, the blocks of F-4, the narrowed sets of F-8, the
+//! greatest number of entries of a start of F-10, and the questions of F-12.
 //!
 //! The specification is in `table`, `checks`, `sets`, `analysis`, `listing`, `held`,
-//! `instant`, `text`, `tick`, `blocks`, `narrow` and `first_tick`, with `best` for the lists of
-//! `tick` and `first_tick`. What F-6 says of runs is for tests to try: `reentry` and `account`
-//! tell what is entered again in an instant.
+//! `instant`, `text`, `tick`, `blocks`, `narrow`, `first_tick` and `question`, with `best` for
+//! the lists of `tick` and `first_tick`. What F-6 says of runs is for tests to try: `reentry`
+//! and `account` tell what is entered again in an instant.
 //! `support` serves the tests and the generators.
 
 pub mod account;
@@ -19,6 +19,7 @@ pub mod held;
 pub mod instant;
 pub mod listing;
 pub mod narrow;
+pub mod question;
 pub mod reentry;
 pub mod sets;
 pub mod support;
@@ -33,6 +34,7 @@ pub use held::{held_nodes, packed, Held, STATE_BYTES};
 pub use instant::{resume, resume_with_trail, start, start_with_trail, Closed, Entry, How};
 pub use listing::listing;
 pub use narrow::narrow;
+pub use question::{ask, Known};
 pub use text::place::Placed;
 pub use text::{read, read_place};
 pub use tick::{find_tick, tick_line, Tick};

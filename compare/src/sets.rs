@@ -20,17 +20,26 @@ pub fn fill_any_sets(tree: &Tree, any_sets: &mut [u64]) {
 
 fn fill_upward(tree: &Tree, pause: u64, sets: &mut [u64]) {
     for (node, &statement) in tree.statements.iter().enumerate() {
-        sets[node] = match statement {
-            Statement::Nothing | Statement::Emit { .. } => ENDED,
-            Statement::Pause => pause,
-            Statement::Exit { level } => CAUGHT << level,
-            Statement::Signal { body } | Statement::Suspend { body } => sets[body],
-            Statement::Present { then, otherwise } => sets[then] | sets[otherwise],
-            Statement::Loop { body } => sets[body] & !ENDED,
-            Statement::Sequence { first, second } => sequence(sets[first], sets[second]),
-            Statement::Parallel { left, right } => parallel(sets[left], sets[right]),
-            Statement::Trap { body } => trap(sets[body]),
-        };
+        sets[node] = set_of(statement, pause, |child| sets[child]);
+    }
+}
+
+/// The start set of a statement, from those of its children.
+pub fn start_set(statement: Statement, of: impl Fn(usize) -> u64) -> u64 {
+    set_of(statement, PAUSED, of)
+}
+
+fn set_of(statement: Statement, pause: u64, of: impl Fn(usize) -> u64) -> u64 {
+    match statement {
+        Statement::Nothing | Statement::Emit { .. } => ENDED,
+        Statement::Pause => pause,
+        Statement::Exit { level } => CAUGHT << level,
+        Statement::Signal { body } | Statement::Suspend { body } => of(body),
+        Statement::Present { then, otherwise } => of(then) | of(otherwise),
+        Statement::Loop { body } => of(body) & !ENDED,
+        Statement::Sequence { first, second } => sequence(of(first), of(second)),
+        Statement::Parallel { left, right } => parallel(of(left), of(right)),
+        Statement::Trap { body } => trap(of(body)),
     }
 }
 

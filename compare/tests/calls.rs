@@ -66,8 +66,14 @@ impl Lent {
         (COMPARE.first_tick_answers)(table, &mut self.answers, &mut self.answer)
     }
 
-    /// What analyse, start, resume, narrow, first_tick and first_tick_answers return.
-    fn judge(&mut self, table: &[u8]) -> [u32; 6] {
+    /// The last node for code 1.
+    fn ask(&mut self, table: &[u8]) -> u32 {
+        let last = (table.len() as u64 / 2).saturating_sub(1);
+        (COMPARE.ask)(table, last, 1, &mut self.answer)
+    }
+
+    /// What analyse, start, resume, narrow, first_tick, first_tick_answers and ask return.
+    fn judge(&mut self, table: &[u8]) -> [u32; 7] {
         [
             self.analyse(table),
             self.start(table),
@@ -75,6 +81,7 @@ impl Lent {
             self.narrow(table),
             self.first_tick(table),
             self.first_tick_answers(table),
+            self.ask(table),
         ]
     }
 }
@@ -101,6 +108,13 @@ fn figures_of_an_accepted_table() {
     let before = lent.clone();
     assert_eq!(lent.first_tick(W1), 0);
     assert_eq!(lent.answer, [3, 0, 0, 9]);
+    assert_eq!(lent.ask(W1), 0);
+    assert_eq!(lent.answer, [1, 3, 0, 9]);
+    assert_eq!((COMPARE.ask)(W1, 3, 0, &mut lent.answer), 0);
+    assert_eq!(lent.answer, [0, 1, 0, 9]);
+    assert_eq!((COMPARE.ask)(W1, 3, 64, &mut lent.answer), 0);
+    assert_eq!(lent.answer, [0, 0, 0, 9]);
+    assert_eq!((COMPARE.ask)(W1, 4, 64, &mut lent.answer), 21);
     assert_eq!(
         Lent {
             answer: before.answer.clone(),
@@ -119,7 +133,7 @@ fn a_refusal_is_its_number_and_node_and_changes_nothing() {
         let before = Lent::new(&edge.table, 4);
         let mut lent = before.clone();
         let expected = refusal.number + 256 * refusal.node as u32;
-        assert_eq!(lent.judge(&edge.table), [expected; 6], "{}", edge.name);
+        assert_eq!(lent.judge(&edge.table), [expected; 7], "{}", edge.name);
         assert_eq!(lent, before, "{}", edge.name);
     }
 }
@@ -165,7 +179,7 @@ fn a_short_answer_is_refused_by_3_in_its_place() {
         for (table, expected) in cases {
             let before = Lent::new(table, answer_length);
             let mut lent = before.clone();
-            assert_eq!(lent.judge(table), [expected; 6]);
+            assert_eq!(lent.judge(table), [expected; 7]);
             assert_eq!(lent.render(table), 3);
             assert_eq!(lent, before);
         }

@@ -10,8 +10,8 @@ use compare::support::older_texts::outcome_before_f9;
 use compare::support::programs::traps_around;
 use compare::support::starts::{greatest_of_starts, Alone};
 use compare::support::vectors::{
-    directory, read_blocks, read_instants, read_lines, read_listings, read_texts, read_ties,
-    BlockOutcome, InstantVector, LineVector, TextVector,
+    directory, read_blocks, read_instants, read_lines, read_listings, read_questions, read_texts,
+    read_ties, BlockOutcome, InstantVector, LineVector, TextVector,
 };
 use compare::table::{self, Statement};
 use compare::{
@@ -373,4 +373,17 @@ fn ties() {
         }
     }
     println!("{} programs with ties", vectors.len());
+}
+
+/// Also by the full listing and the sentences of F-12, one node after the other.
+#[test]
+fn questions() {
+    let vectors = read_questions(&vector_file("query_open.jsonl"));
+    assert_eq!(vectors.len(), 600);
+    for (line, vector) in vectors.iter().enumerate() {
+        assert_eq!(vector.case.run(), vector.outcome, "line {}", line + 1);
+        let by_sentences = vector.case.by_sentences();
+        assert_eq!(by_sentences, vector.outcome, "line {}", line + 1);
+    }
+    println!("{} questions", vectors.len());
 }

@@ -3,7 +3,7 @@ use crate::{raw, Refusal};
 /// The answer to a question, as [`ask`] gives it.
 #[derive(Clone, Copy, Debug, PartialEq, Eq, Hash)]
 pub struct Asked {
-    /// Whether the code is in the node's start set.
+    /// Whether the code is in the node's start set: the first figure in C.
     pub member: bool,
     /// The number of nodes looked at, the asked one included.
     pub count: usize,
@@ -31,8 +31,9 @@ pub struct Asked {
 /// and a trap asked for 63 counts itself only. For any other code the count is at least 1 and at
 /// most the nodes of the asked statement, itself included.
 ///
-/// The count is not what a call costs: each call makes the checks of the whole table anew. A caller
-/// with many questions about one table may rather make [`Sets`](crate::Sets) of it once.
+/// The count is not what a call costs: each call makes the checks of the whole table anew. To make
+/// [`Sets`](crate::Sets) of a table takes about as long as one such call, so a caller with a second
+/// question about the same table may rather do that once.
 ///
 /// ```
 /// use bavzhrono::{ask, Asked};

@@ -271,19 +271,7 @@ fn check_3_comes_after_1_and_2_and_before_the_kinds() {
 
 #[test]
 fn refusals() {
-    for (table, number, node) in [
-        (vec![12; 2050], 1, 0),
-        (vec![], 2, 0),
-        (last_kind_unknown(), 4, 1023),
-        (vec![2, 0, 8, 1], 5, 1),
-        (vec![9, 0], 6, 0),
-        ([W1, W1].concat(), 7, 0),
-        (around([1, 0], [5, 0], 256), 8, 0),
-        (around([1, 0], [11, 0], 63), 9, 1),
-        (W5.to_vec(), 10, 0),
-        (W8.to_vec(), 11, 7),
-        (full_table_of_nothing(), 11, 1023),
-    ] {
+    for (table, number, node) in refused_tables() {
         let mut lent = [FILL; TICK_ANSWERS];
         assert_eq!(first_tick(&table), refused(number, node));
         assert_eq!(first_tick_answers(&table, &mut lent), refused(number, node));

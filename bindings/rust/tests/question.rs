@@ -8,15 +8,6 @@ use std::thread;
 use bavzhrono::{ask, raw, table_of, CodeSet, Refusal, Sets, MAX_NODES};
 use common::*;
 
-/// Present 5: then nothing, else pause.
-const TEST: &[u8] = &[1, 0, 2, 0, 6, 5];
-
-/// Trap around a loop of present 0 then exit, and pause.
-const LOCK_REQUEST: &[u8] = &[4, 0, 1, 0, 6, 0, 2, 0, 9, 0, 8, 0, 11, 0];
-
-/// In two traps, present 1 then exit 0 else pause, beside present 2 then exit 1.
-const EXITS: &[u8] = &[4, 0, 2, 0, 6, 1, 4, 1, 1, 0, 6, 2, 10, 0, 11, 0, 11, 0];
-
 /// Numbers that no node and no code has, though a part of their bits is one.
 const LARGE: [u64; 9] = [
     1024,
@@ -279,20 +270,7 @@ fn check_21_a_node_outside_the_table() {
 /// A refused table is refused whatever is asked, by checks that come before 21.
 #[test]
 fn refusals() {
-    for (table, number, node) in [
-        (vec![12; 2050], 1, 0),
-        (vec![], 2, 0),
-        (W1[..7].to_vec(), 2, 0),
-        (last_kind_unknown(), 4, 1023),
-        (vec![2, 0, 8, 1], 5, 1),
-        (vec![9, 0], 6, 0),
-        ([W1, W1].concat(), 7, 0),
-        (around([1, 0], [5, 0], 256), 8, 0),
-        (around([1, 0], [11, 0], 63), 9, 1),
-        (W5.to_vec(), 10, 0),
-        (W8.to_vec(), 11, 7),
-        (full_table_of_nothing(), 11, 1023),
-    ] {
+    for (table, number, node) in refused_tables() {
         for asked in [0, 1, 7, 1023, 1024, usize::MAX] {
             for code in [0, 1, 63, 64, u32::MAX] {
                 assert_eq!(ask(&table, asked, code), refused(number, node));

@@ -9,15 +9,6 @@ use bavzhrono::Tie::{Absent, Present, Unknown};
 use bavzhrono::{narrow, narrowed_sets, table_of, CodeSet, Sets, Tie, MAX_NODES, SIGNALS};
 use common::*;
 
-/// Present 5: then nothing, else pause.
-const TEST: &[u8] = &[1, 0, 2, 0, 6, 5];
-
-/// Trap around a loop of present 0 then exit, and pause.
-const LOCK_REQUEST: &[u8] = &[4, 0, 1, 0, 6, 0, 2, 0, 9, 0, 8, 0, 11, 0];
-
-/// In two traps, present 1 then exit 0 else pause, beside present 2 then exit 1.
-const EXITS: &[u8] = &[4, 0, 2, 0, 6, 1, 4, 1, 1, 0, 6, 2, 10, 0, 11, 0, 11, 0];
-
 /// The byte of each signal, as F-8 has it.
 fn bytes(ties: &[(u8, Tie)]) -> Vec<u8> {
     let mut bytes = vec![0; SIGNALS];

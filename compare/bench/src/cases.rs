@@ -13,6 +13,7 @@ use ours::OURS;
 use two_pass::TWO_PASS;
 
 use crate::programs::{Shape, SHAPES};
+use crate::questions::{Question, QUESTIONS};
 use crate::{blocks, plans, texts, ticks, ties};
 
 /// Who makes a call.
@@ -57,10 +58,11 @@ pub enum Call {
     Narrow,
     FirstTick,
     FirstTickAnswers,
+    Ask,
 }
 
 impl Call {
-    pub const ALL: [Call; 11] = [
+    pub const ALL: [Call; 12] = [
         Call::Analyse,
         Call::Start,
         Call::Resume,
@@ -72,6 +74,7 @@ impl Call {
         Call::Narrow,
         Call::FirstTick,
         Call::FirstTickAnswers,
+        Call::Ask,
     ];
 
     pub fn name(self) -> &'static str {
@@ -87,6 +90,7 @@ impl Call {
             Call::Narrow => "narrow",
             Call::FirstTick => "first_tick",
             Call::FirstTickAnswers => "first_tick_answers",
+            Call::Ask => "ask",
         }
     }
 
@@ -136,6 +140,8 @@ pub struct Case {
     file: Vec<u8>,
     /// The edition and the part that are taken from the file.
     wanted: (u16, u8),
+    /// The node that is asked, and the code.
+    question: (u64, u64),
     text: Vec<u8>,
     table: Vec<u8>,
     ties: Vec<u8>,
@@ -194,6 +200,10 @@ pub fn of(call: Call) -> Box<dyn Iterator<Item = Case>> {
                 .flat_map(|shape| SIZES.map(|nodes| (shape.name, plans::program(shape, nodes))));
             let of_table = move |(name, table)| Case::of_first_tick(call, name, table);
             Box::new(programs.chain(bodies).map(of_table))
+        }
+        Call::Ask => {
+            let of_question = |question| SIZES.map(|nodes| Case::of_question(question, nodes));
+            Box::new(QUESTIONS.iter().flat_map(of_question))
         }
     }
 }
@@ -315,6 +325,20 @@ impl Case {
         case
     }
 
+    fn of_question(question: &Question, nodes: usize) -> Case {
+        let mut case = Case {
+            call: Call::Ask,
+            shape: question.name,
+            size: nodes,
+            question: ((question.node)(nodes) as u64, question.code),
+            table: question.shape.program(nodes),
+            answer: vec![0; FIGURES],
+            ..Case::default()
+        };
+        assert_eq!(case.run(&COMPARE), 0, "{} is refused", case.name());
+        case
+    }
+
     pub fn name(&self) -> String {
         format!("{}/{}/{}", self.call.name(), self.shape, self.size)
     }
@@ -336,6 +360,10 @@ impl Case {
             Call::FirstTick => return (calls.first_tick)(table, answer),
             Call::FirstTickAnswers => {
                 return (calls.first_tick_answers)(table, &mut self.answers, answer)
+            }
+            Call::Ask => {
+                let (node, code) = black_box(self.question);
+                return (calls.ask)(table, node, code, answer);
             }
             Call::Analyse => {
                 return (calls.analyse)(
@@ -364,6 +392,11 @@ impl Case {
             assert_eq!(again.run(&side.calls()), returned, "{name}");
             assert!(again == once, "{name}: differs from compare");
         }
+    }
+
+    /// The nodes that a question has looked at.
+    pub fn looked_at(&self) -> Option<usize> {
+        (self.call == Call::Ask).then(|| self.answer[1] as usize)
     }
 
     /// The nodes of a table, the entries of an instant, the bytes of a text or the blocks

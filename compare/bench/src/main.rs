@@ -23,6 +23,7 @@ mod cases;
 mod measure;
 mod plans;
 mod programs;
+mod questions;
 mod report;
 mod texts;
 mod ticks;

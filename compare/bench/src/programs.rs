@@ -37,13 +37,13 @@ pub const TRAPS: Shape = Shape {
     most_nodes: 256,
 };
 
-const LEFT: Shape = Shape {
+pub const LEFT: Shape = Shape {
     name: "left",
     part: left_sequences,
     most_nodes: 256,
 };
 
-const RIGHT: Shape = Shape {
+pub const RIGHT: Shape = Shape {
     name: "right",
     part: right_sequences,
     most_nodes: 256,
@@ -54,10 +54,23 @@ impl Shape {
         if nodes <= self.most_nodes {
             return (self.part)(nodes);
         }
-        let left = (nodes - 1) / 2;
+        let left = left_part(nodes);
         let right = nodes - 1 - left;
         [&self.program(left)[..], &self.program(right), PARALLEL].concat()
     }
+
+    /// The nodes of the first part of such a program, the last of which is the part's top.
+    pub fn first_part(&self, nodes: usize) -> usize {
+        match nodes <= self.most_nodes {
+            true => nodes,
+            false => self.first_part(left_part(nodes)),
+        }
+    }
+}
+
+/// How many of the nodes go to the left of two parts.
+fn left_part(nodes: usize) -> usize {
+    (nodes - 1) / 2
 }
 
 /// Not the signal of `SUSPEND`, as the shared one is: with one name for both, the text of
@@ -85,7 +98,7 @@ fn wide(nodes: usize) -> Vec<u8> {
 /// a choice between an exit and the next. A pause beside them keeps the loop from
 /// ending at once.
 fn traps(nodes: usize) -> Vec<u8> {
-    let count = ((nodes - 4) / 3).min(MOST_TRAPS);
+    let count = trap_count(nodes);
     let mut exits = Vec::new();
     let mut choices = PAUSE.to_vec();
     for around in 1..=count {
@@ -95,6 +108,11 @@ fn traps(nodes: usize) -> Vec<u8> {
     }
     let body = [&exits[..], &choices, PAUSE, PARALLEL, LOOP].concat();
     filled_up(body, nodes)
+}
+
+/// Each has two nodes more, its exit and its test.
+pub fn trap_count(nodes: usize) -> usize {
+    ((nodes - 4) / 3).min(MOST_TRAPS)
 }
 
 /// ((a; b); c); d and so on.

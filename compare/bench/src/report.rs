@@ -11,6 +11,7 @@ pub struct Line {
     shape: &'static str,
     size: usize,
     units: usize,
+    looked_at: Option<usize>,
     times: Times,
 }
 
@@ -21,6 +22,7 @@ impl Line {
             shape: case.shape,
             size: case.size,
             units: case.units(),
+            looked_at: case.looked_at(),
             times,
         }
     }
@@ -81,6 +83,9 @@ fn times(lines: &[Line], call: Call) -> Table {
             row.insert(2, line.units.to_string());
         }
     }
+    if call == Call::Ask {
+        add_analyses(&mut rows, &of_call, lines);
+    }
     if call.sides().contains(&Side::TwoPass) {
         let two_pass = ["two-pass, ns", "ours/two-pass"].map(String::from);
         rows[0].splice(5..5, two_pass);
@@ -88,6 +93,29 @@ fn times(lines: &[Line], call: Call) -> Table {
     Table {
         title: format!("{} ({})", call.name(), means(&of_call)),
         rows,
+    }
+}
+
+/// To each question the nodes looked at, and our analysis of the same table, which has the
+/// answers to all.
+fn add_analyses(rows: &mut [Vec<String>], questions: &[&Line], lines: &[Line]) {
+    rows[0].insert(2, "looked at".to_string());
+    rows[0].extend(["analyse, ns", "ask/analyse"].map(String::from));
+    for (row, question) in rows[1..].iter_mut().zip(questions) {
+        let looked_at = question.looked_at.expect("each question looks at nodes");
+        let ours = question.times.ours;
+        let shape = question.shape.split('-').next();
+        let analysis = lines
+            .iter()
+            .find(|line| {
+                line.call == Call::Analyse
+                    && line.size == question.size
+                    && Some(line.shape) == shape
+            })
+            .expect("an analysis of each program that is asked");
+        row.insert(2, looked_at.to_string());
+        row.push(format!("{:.0}", analysis.times.ours));
+        row.push(format!("{:.2}", ours / analysis.times.ours));
     }
 }
 

@@ -4,7 +4,7 @@ use compare::first_tick::reaches;
 use compare::instant::SIGNALS;
 use compare::support::calls::{Calls, FIGURES};
 use compare::support::cases::{Call, Case};
-use compare::support::narrowings;
+use compare::support::{narrowings, questions};
 use compare::table::MOST_BYTES;
 use compare::tick::TICK_ANSWERS;
 
@@ -533,6 +533,54 @@ impl Trial for Narrowing {
             ("table", self.table.hex()),
             ("ties", self.ties.hex()),
             ("sets", self.sets.hex()),
+            ("answer", self.answer.hex()),
+        ]
+    }
+}
+
+#[derive(Clone, PartialEq)]
+pub struct Asking {
+    pub table: Guarded<u8>,
+    /// Node and code.
+    question: (u64, u64),
+    pub answer: Guarded<u64>,
+}
+
+impl Asking {
+    pub fn new(table: &[u8], node: u64, code: u64) -> Asking {
+        Asking {
+            table: Guarded::with(table),
+            question: (node, code),
+            answer: Guarded::untouched(FIGURES),
+        }
+    }
+
+    pub fn of(case: &questions::Case) -> Asking {
+        Asking::new(&case.table, case.node, case.code)
+    }
+}
+
+impl Trial for Asking {
+    fn name(&self) -> &'static str {
+        "ask"
+    }
+
+    fn call(&mut self, calls: &Calls) -> u32 {
+        let (node, code) = self.question;
+        (calls.ask)(self.table.lent(), node, code, self.answer.lent())
+    }
+
+    fn with_answer(self, length: usize) -> Asking {
+        let answer = Guarded::untouched(length);
+        Asking { answer, ..self }
+    }
+
+    fn buffers(&self) -> Vec<(&'static str, String)> {
+        let (node, code) = self.question;
+        vec![
+            ("table", self.table.hex()),
+            ("node", node.to_string()),
+            ("code", code.to_string()),
             ("answer", self.answer.hex()),
         ]
     }

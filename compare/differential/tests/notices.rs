@@ -11,8 +11,8 @@ use compare::{packed, sets, table, Sets, STATE_BYTES};
 use differential::groups::{refusals, texts};
 use differential::tally::{Difference, Tally};
 use differential::trials::{
-    Analysis, Fetching, Finding, Instant, Narrowing, Placing, Planning, Reading, Rendering, Taking,
-    Trial,
+    Analysis, Asking, Fetching, Finding, Instant, Narrowing, Placing, Planning, Reading, Rendering,
+    Taking, Trial,
 };
 
 fn assert_noticed(wrong: Calls, trial: &impl Trial) {
@@ -163,6 +163,9 @@ fn told_by<T: Telling>() -> Calls {
                 (COMPARE.first_tick_answers)(table, answers, answer)
             })
         },
+        ask: |table, node, code, answer| {
+            T::tell(answer, |answer| (COMPARE.ask)(table, node, code, answer))
+        },
     }
 }
 
@@ -185,6 +188,7 @@ fn a_fourth_figure() {
     assert_noticed(wrong, &narrowing(W1).with_answer(4));
     assert_noticed(wrong, &Planning::new(W1).with_answer(4));
     assert_noticed(wrong, &Finding::new(W1).of_most_entries().with_answer(4));
+    assert_noticed(wrong, &Asking::new(W1, 3, 1).with_answer(4));
     let fetching = Fetching::new(&stored_w1(), PROGRAM);
     assert_noticed(wrong, &fetching.with_answer(4));
     let taking = Taking::new(&stored_w1(), (PROGRAM, 1), 0);
@@ -215,6 +219,8 @@ fn an_answer_written_on_a_refusal() {
     assert_noticed(wrong, &narrowing(W2));
     assert_noticed(wrong, &Planning::new(W2));
     assert_noticed(wrong, &Finding::new(W2).of_most_entries());
+    assert_noticed(wrong, &Asking::new(W2, 0, 0));
+    assert_noticed(wrong, &Asking::new(W1, 4, 1));
     assert_noticed_by(refusals::edges, wrong);
 }
 
@@ -233,6 +239,7 @@ fn a_node_that_is_lost() {
     assert_noticed(wrong, &narrowing(W8));
     assert_noticed(wrong, &Planning::new(W8));
     assert_noticed(wrong, &Finding::new(W8).of_most_entries());
+    assert_noticed(wrong, &Asking::new(W8, 0, 0));
     assert_noticed_by(refusals::edges, wrong);
     assert_noticed_by(texts::edges, wrong);
 }
@@ -270,6 +277,7 @@ fn a_short_answer_refused_before_1_and_2() {
     assert_noticed(wrong, &narrowing(&[]).with_answer(2));
     assert_noticed(wrong, &Planning::new(&[]).with_answer(2));
     assert_noticed(wrong, &Finding::new(&[]).of_most_entries().with_answer(2));
+    assert_noticed(wrong, &Asking::new(&[], 0, 0).with_answer(2));
     for call in [Call::Start, Call::Resume] {
         assert_noticed(
             wrong,
@@ -308,6 +316,8 @@ fn a_short_answer_refused_after_all_other_checks() {
     assert_noticed(wrong, &narrowing(W2).with_answer(2));
     assert_noticed(wrong, &Planning::new(W2).with_answer(2));
     assert_noticed(wrong, &Finding::new(W2).of_most_entries().with_answer(2));
+    assert_noticed(wrong, &Asking::new(W2, 0, 0).with_answer(2));
+    assert_noticed(wrong, &Asking::new(W1, 4, 0).with_answer(2));
     assert_noticed(wrong, &Fetching::new(&[], PROGRAM).with_answer(2));
     assert_noticed_by(refusals::edges, wrong);
 }
@@ -336,6 +346,7 @@ fn a_short_answer_that_is_accepted() {
     assert_noticed(wrong, &narrowing(W1).with_answer(2));
     assert_noticed(wrong, &Planning::new(W1).with_answer(2));
     assert_noticed(wrong, &Finding::new(W1).of_most_entries().with_answer(2));
+    assert_noticed(wrong, &Asking::new(W1, 3, 1).with_answer(2));
     let fetching = Fetching::new(&stored_w1(), PROGRAM);
     assert_noticed(wrong, &fetching.with_answer(2));
     let taking = Taking::new(&stored_w1(), (PROGRAM, 1), 0);

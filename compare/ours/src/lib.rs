@@ -1,8 +1,8 @@
 //! The proved code's calls, from its archive, as the bindings for Rust have them.
 
 use bavzhrono::raw::{
-    analyse, fetch, first_tick, first_tick_answers, narrow, part, read, read_place, render, resume,
-    start, tick,
+    analyse, ask, fetch, first_tick, first_tick_answers, narrow, part, read, read_place, render,
+    resume, start, tick,
 };
 use compare::support::calls::Calls;
 
@@ -20,4 +20,5 @@ pub const OURS: Calls = Calls {
     narrow,
     first_tick,
     first_tick_answers,
+    ask,
 };

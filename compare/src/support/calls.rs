@@ -27,6 +27,8 @@ pub type Narrow = fn(&[u8], &[u8], &mut [u64], &mut [u64]) -> u32;
 pub type FirstTick = fn(&[u8], &mut [u64]) -> u32;
 /// Table, answers, answer.
 pub type FirstTickAnswers = fn(&[u8], &mut [u8], &mut [u64]) -> u32;
+/// Table, node, code, answer.
+pub type Ask = fn(&[u8], u64, u64, &mut [u64]) -> u32;
 
 #[derive(Clone, Copy)]
 pub struct Calls {
@@ -42,6 +44,7 @@ pub struct Calls {
     pub narrow: Narrow,
     pub first_tick: FirstTick,
     pub first_tick_answers: FirstTickAnswers,
+    pub ask: Ask,
 }
 
 /// The calls of this implementation.
@@ -58,6 +61,7 @@ pub const COMPARE: Calls = Calls {
     narrow,
     first_tick,
     first_tick_answers,
+    ask,
 };
 
 /// The figures of an answer, and the entries that its buffer must have.
@@ -207,6 +211,16 @@ fn first_tick_answers(table: &[u8], answers: &mut [u8], answer: &mut [u64]) -> u
         let front = front_after_length(table, answer)?;
         let (entries, length) = crate::first_tick_answers(table, answers)?;
         *front = [entries as u64, length as u64, 0];
+        Ok(())
+    })
+}
+
+/// The figures are 1 if the code is in the set, else 0, the nodes looked at and 0.
+fn ask(table: &[u8], node: u64, code: u64, answer: &mut [u64]) -> u32 {
+    returned(|| {
+        let front = front_after_length(table, answer)?;
+        let known = crate::ask(table, node, code)?;
+        *front = [u64::from(known.is_in), known.count as u64, 0];
         Ok(())
     })
 }

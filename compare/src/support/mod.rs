@@ -1,6 +1,6 @@
 //! What the tests, the generators and the comparisons share: hexadecimal,
-//! random numbers, vector files, tables, instants, starts, runs, files of blocks and
-//! ties to try, and how the generators write them.
+//! random numbers, vector files, tables, instants, starts, runs, files of blocks,
+//! ties and questions to try, and how the generators write them.
 
 pub mod answers;
 pub mod arguments;
@@ -33,6 +33,8 @@ pub mod plan_edges;
 pub mod plans;
 pub mod printer;
 pub mod programs;
+pub mod question_edges;
+pub mod questions;
 pub mod random;
 pub mod reentries;
 pub mod runs;
@@ -49,6 +51,7 @@ pub mod vectors;
 pub mod wrong_blocks;
 pub mod wrong_marks;
 pub mod wrong_plans;
+pub mod wrong_questions;
 pub mod wrong_readers;
 pub mod wrong_states;
 pub mod wrong_ties;

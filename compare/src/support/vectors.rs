@@ -6,10 +6,10 @@ use std::path::{Path, PathBuf};
 
 use super::byte_states::packed;
 use super::cases::Call;
-use super::hex;
+use super::{hex, questions};
 use crate::held::Held;
 use crate::instant::admitted;
-use crate::{table, Closed, Refusal};
+use crate::{table, Closed, Known, Refusal};
 
 pub struct ListingVector {
     pub table: Vec<u8>,
@@ -101,6 +101,11 @@ pub struct TiedVector {
     pub ties: Vec<u8>,
     /// The narrowed start sets.
     pub outcome: Result<Vec<u64>, Refusal>,
+}
+
+pub struct QuestionVector {
+    pub case: questions::Case,
+    pub outcome: Result<Known, Refusal>,
 }
 
 /// A run from the fresh start.
@@ -213,6 +218,32 @@ pub fn read_ties(file: &Path) -> Vec<TiedVector> {
         .collect()
 }
 
+/// The node of a case is the one asked about; that of a refusal is "at".
+pub fn read_questions(file: &Path) -> Vec<QuestionVector> {
+    read_objects(file)
+        .iter()
+        .map(|object| QuestionVector {
+            case: questions::Case {
+                table: bytes(object, "table"),
+                node: number(object, "node"),
+                code: number(object, "code"),
+            },
+            outcome: or_refusal_at("at", object, known),
+        })
+        .collect()
+}
+
+fn known(object: &Object) -> Known {
+    Known {
+        is_in: match number(object, "answer") {
+            0 => false,
+            1 => true,
+            other => panic!("this should be 0 or 1: {other}"),
+        },
+        count: number(object, "count") as usize,
+    }
+}
+
 fn sets(object: &Object) -> Vec<u64> {
     let sets = list(object, "sets").iter();
     let set = |value: &Value| u64::from_str_radix(value.text(), 16).expect("a hexadecimal set");
@@ -250,12 +281,21 @@ fn closed(object: &Object) -> VectorClosed {
 }
 
 fn or_refusal<T>(object: &Object, outcome: impl FnOnce(&Object) -> T) -> Result<T, Refusal> {
+    or_refusal_at("node", object, outcome)
+}
+
+/// The outcome, or the refusal with its node under this key.
+fn or_refusal_at<T>(
+    node: &str,
+    object: &Object,
+    outcome: impl FnOnce(&Object) -> T,
+) -> Result<T, Refusal> {
     if !object.contains_key("refused") {
         return Ok(outcome(object));
     }
     Err(Refusal {
         number: number(object, "refused") as u32,
-        node: number(object, "node") as usize,
+        node: number(object, node) as usize,
     })
 }
 

@@ -22,6 +22,13 @@ pub const W8: &[u8] = &[2, 0, 1, 0, 6, 5, 1, 0, 2, 0, 6, 5, 9, 0, 8, 0];
 /// The lock program of F-5.
 pub const LOCK: &[u8] = &[2, 0, 8, 0, 2, 0, 4, 0, 9, 0, 10, 0, 11, 0, 8, 0];
 
+/// Present 5: then nothing, else pause.
+pub const TEST: &[u8] = &[1, 0, 2, 0, 6, 5];
+/// Trap around a loop of present 0 then exit, and pause.
+pub const LOCK_REQUEST: &[u8] = &[4, 0, 1, 0, 6, 0, 2, 0, 9, 0, 8, 0, 11, 0];
+/// In two traps, present 1 then exit 0 else pause, beside present 2 then exit 1.
+pub const EXITS: &[u8] = &[4, 0, 2, 0, 6, 1, 4, 1, 1, 0, 6, 2, 10, 0, 11, 0, 11, 0];
+
 /// Tables, and what each is refused with where a lent buffer is too short: 3 comes after 1 and 2 and
 /// before the kinds are read.
 pub const WITH_SHORT_BUFFERS: [(&[u8], u32); 8] = [
@@ -37,6 +44,24 @@ pub const WITH_SHORT_BUFFERS: [(&[u8], u32); 8] = [
 
 pub const W1_LISTING: &str =
     "ok 4 1 8\n0 2 0 2 3 1 1\n1 3 7 1 1 0 0\n2 9 0 2 3 1 1\n3 8 0 2 2 0 0\n";
+
+/// A table for each check of a table, with the number and the node that it is refused with.
+pub fn refused_tables() -> Vec<(Vec<u8>, u32, usize)> {
+    vec![
+        (vec![12; 2050], 1, 0),
+        (vec![], 2, 0),
+        (W1[..7].to_vec(), 2, 0),
+        (last_kind_unknown(), 4, 1023),
+        (vec![2, 0, 8, 1], 5, 1),
+        (vec![9, 0], 6, 0),
+        ([W1, W1].concat(), 7, 0),
+        (around([1, 0], [5, 0], 256), 8, 0),
+        (around([1, 0], [11, 0], 63), 9, 1),
+        (W5.to_vec(), 10, 0),
+        (W8.to_vec(), 11, 7),
+        (full_table_of_nothing(), 11, 1023),
+    ]
+}
 
 /// The bytes of the table that a text is read into.
 pub const TABLE_NEED: usize = 2 * MAX_NODES;

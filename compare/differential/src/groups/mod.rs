@@ -12,6 +12,7 @@ pub mod instants;
 pub mod lengths;
 pub mod narrowings;
 pub mod plans;
+pub mod questions;
 pub mod refusals;
 pub mod runs;
 mod tables;
@@ -26,7 +27,7 @@ pub struct Group {
     pub random: bool,
 }
 
-pub const GROUPS: [Group; 58] = [
+pub const GROUPS: [Group; 66] = [
     Group {
         name: "Table W and the edges",
         run: tables::edges,
@@ -315,6 +316,46 @@ pub const GROUPS: [Group; 58] = [
     Group {
         name: "ties, narrowed sets and answers of all lengths",
         run: narrowings::lengths,
+        random: true,
+    },
+    Group {
+        name: "questions at the edges, with answers of 0 to 8 entries",
+        run: questions::edges,
+        random: false,
+    },
+    Group {
+        name: questions::ALL,
+        run: questions::all,
+        random: false,
+    },
+    Group {
+        name: questions::LONGER,
+        run: questions::longer,
+        random: false,
+    },
+    Group {
+        name: "questions for every code of all nodes of programs up to 60 nodes",
+        run: questions::small,
+        random: true,
+    },
+    Group {
+        name: "questions for every code of all nodes under up to 62 traps",
+        run: questions::traps,
+        random: true,
+    },
+    Group {
+        name: "questions of programs up to 1,024 nodes",
+        run: questions::larger,
+        random: true,
+    },
+    Group {
+        name: "questions of damaged tables",
+        run: questions::damaged,
+        random: true,
+    },
+    Group {
+        name: "questions of huge numbers",
+        run: questions::huge,
         random: true,
     },
 ];
