@@ -57,14 +57,18 @@ whole i p k = found (startSet p k) (range i (size p))
 
 -- The statement whose first node is i, asked for a code up to 63. Its own node is its last.
 abbrev pub look : (first : ℕ) → Stmt → (code : ℕ) → Found
+-- signal, suspend and loop pass the question to the child, and so does a trap for a code above 0: 1 as 1, k from 2 as k + 1
 look i (one (signal s) p) k = asking (i + size p) (look i p k)
 look i (one (suspend s) p) k = asking (i + size p) (look i p k)
 look i (one loop p) (suc k) = asking (i + size p) (look i p (suc k))
 look i (one trap p) (suc zero) = asking (i + size p) (look i p 1)
 look i (one trap p) (suc (suc k)) = asking (i + size p) (limited (suc (suc (suc k))) (look i p (suc (suc (suc k)))))
+-- a loop asked for 0 looks no further
 look i (one loop p) zero = asking (i + size p) (found false [])
 look i (two (present s) p q) k = asking (i + (size p + size q)) (orElse (look i p k) (look (i + size p) q k))
+-- a sequence has every node of its first child looked at
 look i (two sequence p q) k = asking (i + (size p + size q)) (after (range i (size p)) (andThen (startSet p) k (look (i + size p) q k)))
+-- under a parallel, and under a trap asked for 0, every node is looked at; a statement without children has only its own
 look i (two parallel p q) k = whole i (two parallel p q) k
 look i (one trap p) zero = whole i (one trap p) 0
 look i (leaf l) k = whole i (leaf l) k
