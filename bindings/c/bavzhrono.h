@@ -3,8 +3,9 @@
  * that makes such a table from text and finds where a refused text is at fault, the finder of the
  * tick in which a refused loop's body ends at once, the fetcher of tables that are stored in blocks
  * on the service partition, the narrower of start sets by signals that are known for certain, the
- * planner of the first tick, to the entry, and the answerer of single questions about start sets,
- * for C (C99) and C++. Link with libabi.a (x86-64), which needs nothing but the C library.
+ * planner of the first tick, to the entry, the answerer of single questions about start sets, and
+ * the finder of a start set by trial, for C (C99) and C++. Link with libabi.a (x86-64), which needs
+ * nothing but the C library.
  *
  * The table
  *
@@ -159,6 +160,7 @@
  *         19  a signal's tie is none of 0, 1 and 2                              no
  *         20  the text leaves the grammar at immediate, every, case or a count  no
  *         21  the node that is asked about is outside the table                 no
+ *         22  more than 12 present statements stand in the node that is tried   no
  *
  * 4 to 6 are decided node by node: the first faulty node counts, with its lowest number. Each of
  * 8 to 11 covers the whole table before the next begins. 11 is not returned by bavzhrono_tick,
@@ -168,7 +170,7 @@
  * byte with which it can't go on to a text of the grammar is one of the three words or a count.
  * bavzhrono_read_place has the refusals of bavzhrono_read in its figures and returns only 3. 17 and
  * 18 are for bavzhrono_fetch, whose check 1 is of the parts, joined. 19 is for bavzhrono_narrow and
- * 21 for bavzhrono_ask, each after 11.
+ * 21 for bavzhrono_ask and bavzhrono_trial, each after 11. 22 is for bavzhrono_trial, after 21.
  *
  * Buffers
  *
@@ -189,6 +191,7 @@
  * bavzhrono_tick, bavzhrono_first_tick_answers: up to about 520 KiB
  * bavzhrono_first_tick: up to about 40 KiB
  * bavzhrono_ask: up to about 45 KiB
+ * bavzhrono_trial: as bavzhrono_start, up to about 110 KiB
  */
 #ifndef BAVZHRONO_H
 #define BAVZHRONO_H
@@ -209,6 +212,9 @@
 /* The bytes of answers that bavzhrono_tick and bavzhrono_first_tick_answers need: any list fits. It
    is no limit of the instants. */
 #define BAVZHRONO_TICK_ANSWERS 512
+/* The answers of each list with which bavzhrono_trial starts a node, and so the most present
+   statements of a node that can be tried. */
+#define BAVZHRONO_TRIAL_ANSWERS 12
 /* The bytes of ties. Not for answers, among which 0 is absent and any other byte present. */
 #define BAVZHRONO_TIE_UNKNOWN 0
 #define BAVZHRONO_TIE_ABSENT 1
@@ -476,6 +482,32 @@ uint32_t bavzhrono_first_tick_answers(const uint8_t *table, size_t table_length,
  */
 uint32_t bavzhrono_ask(const uint8_t *table, size_t table_length, uint64_t node, uint64_t code,
                        uint64_t *answer, size_t answer_length);
+
+/*
+ * A start set by trial: the codes that a node gives when it is started alone with every list of
+ * BAVZHRONO_TRIAL_ANSWERS answers of 0 or 1; checks 1 to 11, 21 and 22.
+ *
+ * In:  the table and the number of the node, which may be any: one from n on is refused by 21. Then
+ *      22 refuses a node with more than 12 present statements in it, its own included. Suspends do
+ *      not count, since starting one takes no answer, nor do presents elsewhere in the table.
+ * Out: answer  (set, presents, 0). The set has bit k if one of the starts gave code k. Presents is
+ *              the number of present statements in the node, its own included.
+ *
+ * The runner is that of bavzhrono_start, for each of the 4,096 lists. 12 answers suffice, since a
+ * start takes at most as many as there are present statements in the node. The traps around the
+ * node are not entered, so that an exit to one of them gives its code, 2 + level. No state and no
+ * emissions are written. It is proved that the set is the start_sets[node] that bavzhrono_analyse
+ * writes.
+ *
+ * Of the table 4 0 2 0 6 1 11 0, a trap around a present with an exit and a pause, node 2 gives
+ * (6, 1, 0), codes 1 and 2, and node 3, which catches the exit, (3, 1, 0), codes 0 and 1.
+ *
+ * The call is for a reviewer who wants to see the set found by running. It takes up to about 30 ms,
+ * for a node of 1,000 statements; whoever just wants the set calls bavzhrono_analyse, which takes
+ * microseconds.
+ */
+uint32_t bavzhrono_trial(const uint8_t *table, size_t table_length, uint64_t node,
+                         uint64_t *answer, size_t answer_length);
 
 #ifdef __cplusplus
 }

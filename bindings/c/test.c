@@ -5,8 +5,8 @@
  * as F-5 and F-7 amend them, give by hand; the sets of W3 are those of the implementation in
  * compare/. The tables of texts and the places of their faults, the lists of ticks, what files of
  * blocks give, what ties leave of start sets, the entries of first ticks and their lists, the bits
- * of held pauses, and the answers to questions and their counts are by hand, from F-1, F-2, F-4 and
- * F-8 to F-12 of document 02 and their readings.
+ * of held pauses, the answers to questions and their counts, and the sets and tests of trials are
+ * by hand, from F-1, F-2, F-4 and F-8 to F-13 of document 02 and their readings.
  */
 #include "bavzhrono.h"
 #include "bavzhrono.h" /* twice, for the include guard */
@@ -189,6 +189,11 @@ static uint32_t ask(const uint8_t *table, size_t length, uint64_t node, uint64_t
     return bavzhrono_ask(table, length, node, code, actual.answer, lent.answer);
 }
 
+static uint32_t trial(const uint8_t *table, size_t length, uint64_t node, lengths lent)
+{
+    return bavzhrono_trial(table, length, node, actual.answer, lent.answer);
+}
+
 static void tie_signal(size_t signal, uint8_t byte)
 {
     actual.ties[signal] = expected.ties[signal] = byte;
@@ -202,6 +207,28 @@ static void tie_none(void)
 }
 
 /* Accepted tables: the sets of each node. */
+
+/* Of a long table every 16th node is tried, from the last on, since each costs 4,096 starts. */
+static size_t tried_step(size_t nodes)
+{
+    return nodes > 128 ? 16 : 1;
+}
+
+/* The start sets once more, by trial. None of these tables has a test. */
+static void test_tried_sets(const char *name, const uint8_t *table, const node_sets *sets,
+                            size_t nodes)
+{
+    uint32_t returned = 0;
+    int same = 1;
+
+    for (size_t back = 0; returned == 0 && same && back < nodes; back += tried_step(nodes)) {
+        size_t node = nodes - 1 - back;
+        expect_answer(sets[node].start_set, 0, 0);
+        returned = trial(table, 2 * nodes, node, spare());
+        same = memcmp(&actual, &expected, sizeof actual) == 0;
+    }
+    check("trial of the nodes", name, returned, 0);
+}
 
 static void test_sets(const char *name, const uint8_t *table, const node_sets *sets, size_t nodes,
                       uint64_t loop_depth)
@@ -218,6 +245,7 @@ static void test_sets(const char *name, const uint8_t *table, const node_sets *s
         check(more ? "analyse, more lent" : "analyse", name,
               analyse(table, 2 * nodes, lent[more]), 0);
     }
+    test_tried_sets(name, table, sets, nodes);
 }
 
 static void test_sets_of_table_w(void)
@@ -248,13 +276,18 @@ static size_t put(uint8_t *table, uint8_t kind, uint8_t field)
     return 2;
 }
 
-/* A leaf with a statement of one child around it so many times. */
-static size_t around(uint8_t *table, uint8_t leaf, uint8_t field, uint8_t kind, size_t times)
+/* A statement of one child around what is written so far, so many times. The length of all. */
+static size_t wrap(uint8_t *table, size_t length, uint8_t kind, size_t times)
 {
-    size_t length = put(table, leaf, field);
     while (times-- > 0)
         length += put(table + length, kind, 0);
     return length;
+}
+
+/* A leaf with a statement of one child around it so many times. */
+static size_t around(uint8_t *table, uint8_t leaf, uint8_t field, uint8_t kind, size_t times)
+{
+    return wrap(table, put(table, leaf, field), kind, times);
 }
 
 /* A sequence of sequences and so on, down to 2 to the power of `height` pauses; or another
@@ -333,8 +366,8 @@ static void test_code_63_in_all_sets(void)
     test_sets("code 63 in K, A and S", table, sets, 68, 1);
 }
 
-/* Refused tables: by number and node in eight functions, as a line of text in the ninth. What 11
-   refuses is shown by one of the eight, and is tested with the ticks. */
+/* Refused tables: by number and node in nine functions, as a line of text in the tenth. What 11
+   refuses is shown by one of the nine, and is tested with the ticks. */
 
 /* Refused whatever the ties, since 19 comes last. */
 static void test_not_narrowed(const char *name, const uint8_t *table, size_t length, lengths lent,
@@ -354,6 +387,15 @@ static void test_not_asked(const char *name, const uint8_t *table, size_t length
     check("ask, no such code", name, ask(table, length, 0, UINT64_MAX, lent), refused);
 }
 
+/* Refused whatever is tried, since 21 and 22 come last. */
+static void test_not_tried(const char *name, const uint8_t *table, size_t length, lengths lent,
+                           uint32_t refused)
+{
+    check("trial", name, trial(table, length, 0, lent), refused);
+    check("trial, the last node", name, trial(table, length, length / 2 - 1, lent), refused);
+    check("trial, no such node", name, trial(table, length, UINT64_MAX, lent), refused);
+}
+
 static void test_refused(const char *name, const uint8_t *table, size_t length, uint32_t number,
                          uint32_t node)
 {
@@ -370,6 +412,7 @@ static void test_refused(const char *name, const uint8_t *table, size_t length, 
     check("first_tick", name, first_tick(table, length, spare()), refused);
     check("first_tick_answers", name, first_tick_answers(table, length, spare()), refused);
     test_not_asked(name, table, length, spare(), refused);
+    test_not_tried(name, table, length, spare(), refused);
     memcpy(expected.text, line, (size_t)line_length);
     expect_answer((uint64_t)line_length, 0, 0);
     check("render", name, render(table, length, needed(0, (size_t)line_length)), 0);
@@ -434,6 +477,7 @@ static void test_macros(void)
            "macros", "ties");
     report(BAVZHRONO_STATE_BYTES == 128 && 8 * BAVZHRONO_STATE_BYTES == BAVZHRONO_MAX_NODES,
            "macros", "a bit for each node");
+    report(BAVZHRONO_TRIAL_ANSWERS == 12, "macros", "answers of a trial");
 }
 
 /* Short buffers: refused with 3, and nothing is written. */
@@ -504,6 +548,7 @@ static void test_short_answer(size_t answer_length, const char *table_name, cons
     check("first_tick", name, first_tick(table, length, lent), number);
     check("first_tick_answers", name, first_tick_answers(table, length, lent), number);
     test_not_asked(name, table, length, lent, number);
+    test_not_tried(name, table, length, lent, number);
     check("render", name, render(table, length, lent), 3);
 }
 
@@ -1543,18 +1588,28 @@ static void test_ticks_by_hand(void)
     }
 }
 
-/* A statement that ends with the first so many answers of the list and pauses with any others. */
-static size_t ending_with(uint8_t *table, const char *list, size_t answers)
+/* Nested tests. With the first so many answers of the list they lead to the one leaf, with any
+   others to the other. */
+static size_t leading_to(uint8_t *table, const char *list, size_t answers, const uint8_t *leaf,
+                         const uint8_t *other)
 {
     size_t length = 0;
     if (answers == 0)
-        return put(table, 1, 0);
+        return put(table, leaf[0], leaf[1]);
     if (*list == '0')
-        length += put(table, 2, 0);
-    length += ending_with(table + length, list + 1, answers - 1);
+        length += put(table, other[0], other[1]);
+    length += leading_to(table + length, list + 1, answers - 1, leaf, other);
     if (*list == '1')
-        length += put(table + length, 2, 0);
+        length += put(table + length, other[0], other[1]);
     return length + put(table + length, 6, 0);
+}
+
+static const uint8_t nothing[] = {1, 0}, one_pause[] = {2, 0};
+
+/* A statement that ends with the first so many answers of the list and pauses with any others. */
+static size_t ending_with(uint8_t *table, const char *list, size_t answers)
+{
+    return leading_to(table, list, answers, nothing, one_pause);
 }
 
 static void test_ticks_of_edges(void)
@@ -1590,8 +1645,7 @@ static void test_ticks_of_edges(void)
     length = put(table, 2, 0);
     length += put(table + length, 4, 61);
     length += put(table + length, 6, 0);
-    for (int trap = 0; trap < 62; trap++)
-        length += put(table + length, 11, 0);
+    length = wrap(table, length, 11, 62);
     length += put(table + length, 8, 0);
     test_tick("level 61 under 62 traps", table, length, 65, "0");
 }
@@ -2582,6 +2636,13 @@ static void test_list_reaches(const char *name, const uint8_t *table, size_t len
     prepare();
 }
 
+/* The list of this number among all of so many answers, in the order in which absent comes first. */
+static void put_list(uint8_t *answers, size_t count, unsigned number)
+{
+    for (size_t at = 0; at < count; at++)
+        answers[at] = number >> (count - 1 - at) & 1;
+}
+
 #define MOST_TESTS 8
 
 /* Starts the program with all answers that its tests can take, those with absent at the first
@@ -2598,8 +2659,7 @@ static void test_no_list_exceeds(const char *name, const uint8_t *table, size_t 
     if (tests > MOST_TESTS)
         return;
     for (unsigned number = 0; number < 1u << tests; number++) {
-        for (size_t at = 0; at < tests; at++)
-            answers[at] = number >> (tests - 1 - at) & 1;
+        put_list(answers, tests, number);
         passed = passed &&
                  instant(bavzhrono_start, table, length, answers, tests, spare()) == 0 &&
                  actual.answer[2] <= entries;
@@ -2733,8 +2793,7 @@ static void test_first_ticks_of_edges(void)
     length += put(table + length, 5, 0);
     length += put(table + length, 4, 61);
     length += put(table + length, 6, 0);
-    for (int trap = 0; trap < 62; trap++)
-        length += put(table + length, 11, 0);
+    length = wrap(table, length, 11, 62);
     test_first_tick("level 61 under 62 traps", table, length, 65, "1");
     length += put(table + length, 1, 0);
     length += put(table + length, 5, 0);
@@ -2952,20 +3011,20 @@ typedef struct {
     size_t length;
     uint64_t start_sets[NODE_ROOM];
     uint64_t nodes[NODE_ROOM]; /* of each statement, its own included */
-} questioned;
+} listed;
 
 /* Of two children; the second, or an only child, ends right before its parent. */
-static size_t first_child(const questioned *of, size_t node)
+static size_t first_child(const listed *of, size_t node)
 {
     return node - 1 - (size_t)of->nodes[node - 1];
 }
 
-static int is_in_set(const questioned *of, size_t node, uint64_t code)
+static int is_in_set(const listed *of, size_t node, uint64_t code)
 {
     return code < 64 && (of->start_sets[node] >> code & 1) != 0;
 }
 
-static void count_nodes(questioned *of)
+static void count_nodes(listed *of)
 {
     for (size_t node = 0; 2 * node < of->length; node++) {
         const uint8_t kind = of->table[2 * node];
@@ -2977,9 +3036,9 @@ static void count_nodes(questioned *of)
     }
 }
 
-static uint64_t count_by_rule(const questioned *of, size_t node, uint64_t code);
+static uint64_t count_by_rule(const listed *of, size_t node, uint64_t code);
 
-static uint64_t count_of_present(const questioned *of, size_t node, uint64_t code)
+static uint64_t count_of_present(const listed *of, size_t node, uint64_t code)
 {
     const size_t then = first_child(of, node);
     const uint64_t count = 1 + count_by_rule(of, then, code);
@@ -2987,7 +3046,7 @@ static uint64_t count_of_present(const questioned *of, size_t node, uint64_t cod
     return is_in_set(of, then, code) ? count : count + count_by_rule(of, node - 1, code);
 }
 
-static uint64_t count_of_sequence(const questioned *of, size_t node, uint64_t code)
+static uint64_t count_of_sequence(const listed *of, size_t node, uint64_t code)
 {
     const size_t first = first_child(of, node);
     const uint64_t count = 1 + of->nodes[first];
@@ -2997,7 +3056,7 @@ static uint64_t count_of_sequence(const questioned *of, size_t node, uint64_t co
     return count + count_by_rule(of, node - 1, code);
 }
 
-static uint64_t count_by_rule(const questioned *of, size_t node, uint64_t code)
+static uint64_t count_by_rule(const listed *of, size_t node, uint64_t code)
 {
     if (code > 63)
         return 0;
@@ -3020,7 +3079,7 @@ static uint64_t count_by_rule(const questioned *of, size_t node, uint64_t code)
     }
 }
 
-static int is_answered(const questioned *of, size_t node, uint64_t code)
+static int is_answered(const listed *of, size_t node, uint64_t code)
 {
     uint64_t written[4] = {7, 7, 7, 7};
     const uint64_t in_set = is_in_set(of, node, code) ? 1 : 0;
@@ -3030,15 +3089,23 @@ static int is_answered(const questioned *of, size_t node, uint64_t code)
            memcmp(written, right, sizeof right) == 0;
 }
 
+/* Whether the table is accepted. */
+static int list_sets(listed *of, const uint8_t *table, size_t length)
+{
+    int accepted = analyse(table, length, spare()) == 0;
+
+    of->table = table;
+    of->length = length;
+    memcpy(of->start_sets, actual.start_sets, sizeof of->start_sets);
+    count_nodes(of);
+    return accepted;
+}
+
 static void test_every_question(const char *name, const uint8_t *table, size_t length)
 {
-    static questioned of;
-    int passed = analyse(table, length, spare()) == 0;
+    static listed of;
+    int passed = list_sets(&of, table, length);
 
-    of.table = table;
-    of.length = length;
-    memcpy(of.start_sets, actual.start_sets, sizeof of.start_sets);
-    count_nodes(&of);
     for (size_t node = 0; passed && 2 * node < length; node++)
         for (uint64_t code = 0; code <= 65; code++)
             passed = passed && is_answered(&of, node, code);
@@ -3046,33 +3113,36 @@ static void test_every_question(const char *name, const uint8_t *table, size_t l
     prepare();
 }
 
-static void test_every_question_of_tables(void)
+typedef void table_test(const char *, const uint8_t *, size_t);
+
+/* Accepted tables, of which each node is asked about and tried. */
+static void test_accepted_tables(table_test *test)
 {
     static uint8_t table[2 * BAVZHRONO_MAX_NODES];
     static const uint8_t exits[] = {EXITS}, lock_request[] = {LOCK_REQUEST};
 
-    test_every_question("W1", w1, sizeof w1);
-    test_every_question("W3", w3, sizeof w3);
-    test_every_question("W6 without its loop", w6, sizeof w6 - 2);
-    test_every_question("W7", w7, sizeof w7);
-    test_every_question("W8 without its loop", w8, sizeof w8 - 2);
-    test_every_question("the lock program of F-5", lock, sizeof lock);
-    test_every_question("a present", present, sizeof present);
-    test_every_question("a suspend", suspend, sizeof suspend);
-    test_every_question("two pauses", pauses, sizeof pauses);
-    test_every_question("an await", awaited, sizeof awaited);
-    test_every_question("an abort", aborted, sizeof aborted);
-    test_every_question("a weak abort", weakly_aborted, sizeof weakly_aborted);
-    test_every_question("two awaits", granted, sizeof granted);
-    test_every_question("two exits", exits, sizeof exits);
-    test_every_question("a loop with an exit", lock_request, sizeof lock_request);
-    test_every_question("127 nodes, sequences", table, balanced(table, 9, 6));
-    test_every_question("127 nodes, tests", table, balanced(table, 6, 6));
-    test_every_question("127 nodes, parallels", table, balanced(table, 10, 6));
-    test_every_question("depth 256", table, around(table, 2, 0, 5, 255));
-    test_every_question("255 loops", table, around(table, 2, 0, 8, 255));
-    test_every_question("62 traps around a pause", table, around(table, 2, 0, 11, 62));
-    test_every_question("level 61 under 62 traps", table, around(table, 4, 61, 11, 62));
+    test("W1", w1, sizeof w1);
+    test("W3", w3, sizeof w3);
+    test("W6 without its loop", w6, sizeof w6 - 2);
+    test("W7", w7, sizeof w7);
+    test("W8 without its loop", w8, sizeof w8 - 2);
+    test("the lock program of F-5", lock, sizeof lock);
+    test("a present", present, sizeof present);
+    test("a suspend", suspend, sizeof suspend);
+    test("two pauses", pauses, sizeof pauses);
+    test("an await", awaited, sizeof awaited);
+    test("an abort", aborted, sizeof aborted);
+    test("a weak abort", weakly_aborted, sizeof weakly_aborted);
+    test("two awaits", granted, sizeof granted);
+    test("two exits", exits, sizeof exits);
+    test("a loop with an exit", lock_request, sizeof lock_request);
+    test("127 nodes, sequences", table, balanced(table, 9, 6));
+    test("127 nodes, tests", table, balanced(table, 6, 6));
+    test("127 nodes, parallels", table, balanced(table, 10, 6));
+    test("depth 256", table, around(table, 2, 0, 5, 255));
+    test("255 loops", table, around(table, 2, 0, 8, 255));
+    test("62 traps around a pause", table, around(table, 2, 0, 11, 62));
+    test("level 61 under 62 traps", table, around(table, 4, 61, 11, 62));
 }
 
 /* Numbers that no node and no code has, though a part of their bits is one. */
@@ -3124,7 +3194,9 @@ static void test_no_such_codes(void)
         test_no_such_code(large_numbers[i].name, large_numbers[i].number);
 }
 
-/* 21 names no node. It comes before the rule on codes above 63, so that each code is refused. */
+/* 21 names no node. It comes before the rule on codes above 63, so that each code is refused. 21 and
+   22 never fit the same trial, since a node outside the table has no statement: where a table has
+   too many tests, a node outside is refused by 21. */
 static void test_no_such_node(const char *table_name, const uint8_t *table, size_t length,
                               const char *node_name, uint64_t node)
 {
@@ -3136,12 +3208,12 @@ static void test_no_such_node(const char *table_name, const uint8_t *table, size
         returned = ask(table, length, node, codes[i], spare());
     sprintf(name, "21, node %s of %s", node_name, table_name);
     check("ask", name, returned, 21);
+    check("trial", name, trial(table, length, node, spare()), 21);
 }
 
 static void test_no_such_nodes(void)
 {
     static uint8_t table[2 * BAVZHRONO_MAX_NODES];
-    static const uint8_t nothing[] = {1, 0};
     size_t full = full_table(table);
 
     test_no_such_node("nothing", nothing, sizeof nothing, "1", 1);
@@ -3155,6 +3227,10 @@ static void test_no_such_nodes(void)
         test_no_such_node("W1", w1, sizeof w1, node->name, node->number);
         test_no_such_node("1,024 nodes", table, full, node->name, node->number);
     }
+    full = balanced(table, 6, 9);
+    test_no_such_node("511 tests", table, full, "1,023", 1023);
+    test_no_such_node("511 tests", table, full, "1,024", 1024);
+    test_no_such_node("511 tests", table, full, "2^64 - 1", UINT64_MAX);
     check("ask", "answer NULL", bavzhrono_ask(w1, sizeof w1, 3, 1, NULL, 0), 3);
     check("ask", "all NULL", bavzhrono_ask(NULL, 0, 0, 0, NULL, 0), 2);
 }
@@ -3179,10 +3255,368 @@ static void test_questions(void)
     test_questions_by_hand();
     test_questions_of_table_w();
     test_questions_of_edges();
-    test_every_question_of_tables();
+    test_accepted_tables(test_every_question);
     test_no_such_codes();
     test_no_such_nodes();
     test_read_then_ask();
+}
+
+/* Trials: the codes that a node gives when it is started alone with every list of 12 answers, and
+   its tests, that is, the present statements in it, its own included. */
+
+static void test_trial(const char *name, const uint8_t *table, size_t length, uint64_t node,
+                       uint64_t set, uint64_t tests)
+{
+    lengths lent[2] = {needed(0, 0), spare()};
+    for (int more = 0; more < 2; more++) {
+        expect_answer(set, tests, 0);
+        check(more ? "trial, more lent" : "trial", name, trial(table, length, node, lent[more]), 0);
+    }
+}
+
+/* Refused by 22, which names no node, and after 3: the node has more than 12 tests. */
+static void test_too_many(const char *name, const uint8_t *table, size_t length, uint64_t node)
+{
+    lengths lent = needed(0, 0);
+
+    check("trial, 22", name, trial(table, length, node, lent), 22);
+    check("trial, 22, more lent", name, trial(table, length, node, spare()), 22);
+    lent.answer -= 1;
+    check("trial, 3", name, trial(table, length, node, lent), 3);
+}
+
+/* At every node. */
+typedef struct {
+    const char *name;
+    size_t nodes;
+    uint8_t table[24];
+    uint64_t sets[12], tests[12];
+} trial_test;
+
+static const trial_test trial_tests[] = {
+    {"nothing", 1, {1, 0}, {1}, {0}},
+    {"a pause", 1, {2, 0}, {2}, {0}},
+    {"an emit", 1, {3, 7}, {1}, {0}},
+    {"exits, whose traps are not entered", 5,
+     {4, 0, 4, 1, 9, 0, 11, 0, 11, 0}, {4, 8, 4, 1, 1}, {0}},
+
+    {"W4 without its loop", 2, {4, 0, 11, 0}, {4, 1}, {0}},
+    {"W6 without its loop", 3, {1, 0, 2, 0, 6, 5}, {1, 2, 3}, {0, 0, 1}},
+    {"W8 without its loop", 7, {2, 0, 1, 0, 6, 5, 1, 0, 2, 0, 6, 5, 9, 0},
+     {2, 1, 3, 1, 2, 3, 3}, {0, 0, 1, 0, 0, 1, 2}},
+
+    {"a test in a signal", 4, {TEST, 5, 1}, {1, 2, 3, 3}, {0, 0, 1, 1}},
+    {"a test in a suspend", 4, {TEST, 7, 1}, {1, 2, 3, 3}, {0, 0, 1, 1}},
+    {"a test in a trap", 5, {4, 1, 2, 0, 6, 1, 11, 0, 11, 0}, {8, 2, 10, 6, 3}, {0, 0, 1, 1, 1}},
+    {"a test in a loop", 5, {4, 0, 2, 0, 6, 1, 8, 0, 11, 0}, {4, 2, 6, 6, 3}, {0, 0, 1, 1, 1}},
+    {"a loop with an exit", 7, {LOCK_REQUEST}, {4, 1, 5, 2, 6, 6, 3}, {0, 0, 1, 0, 1, 1, 1}},
+
+    {"a test, then nothing", 5, {TEST, 1, 0, 9, 0}, {1, 2, 3, 1, 3}, {0, 0, 1, 0, 1}},
+    {"a test, then a pause", 5, {TEST, 2, 0, 9, 0}, {1, 2, 3, 2, 2}, {0, 0, 1, 0, 1}},
+    {"a pause, then a test", 5, {2, 0, TEST, 9, 0}, {2, 1, 2, 3, 2}, {0, 0, 0, 1, 1}},
+    {"a test beside nothing", 5, {TEST, 1, 0, 10, 0}, {1, 2, 3, 1, 3}, {0, 0, 1, 0, 1}},
+    {"a test beside a pause", 5, {TEST, 2, 0, 10, 0}, {1, 2, 3, 2, 2}, {0, 0, 1, 0, 1}},
+    {"a test in each branch of a test", 7, {TEST, TEST, 6, 2},
+     {1, 2, 3, 1, 2, 3, 3}, {0, 0, 1, 0, 0, 1, 3}},
+    {"two exits", 9, {EXITS}, {4, 2, 6, 8, 1, 9, 14, 7, 3}, {0, 0, 1, 0, 0, 1, 2, 2, 2}},
+};
+
+static void test_trials_by_hand(void)
+{
+    char name[64];
+
+    for (size_t i = 0; i < sizeof trial_tests / sizeof trial_tests[0]; i++) {
+        const trial_test *test = &trial_tests[i];
+        for (size_t node = 0; node < test->nodes; node++) {
+            sprintf(name, "%s, node %u", test->name, (unsigned)node);
+            test_trial(name, test->table, 2 * test->nodes, node, test->sets[node],
+                       test->tests[node]);
+        }
+    }
+}
+
+static const char thirteen_1s[] = "1111111111111";
+
+/* 12 nested tests. One list of the 4,096 leads to the innermost leaf, whose code no other gives. */
+static void test_one_list(const char *list)
+{
+    static const uint8_t exit_0[] = {4, 0};
+    uint8_t table[2 * 26];
+    char name[64];
+    size_t length = leading_to(table, list, 12, one_pause, nothing);
+
+    sprintf(name, "a pause with %s alone", list);
+    test_trial(name, table, length, 24, 3, 12);
+    length = ending_with(table, list, 12);
+    sprintf(name, "an end with %s alone", list);
+    test_trial(name, table, length, 24, 3, 12);
+    length = wrap(table, leading_to(table, list, 12, exit_0, nothing), 11, 1);
+    sprintf(name, "an exit with %s alone", list);
+    test_trial(name, table, length, 24, 5, 12);
+    sprintf(name, "a trap around an exit with %s alone", list);
+    test_trial(name, table, length, 25, 1, 12);
+}
+
+static void test_nested_tests(void)
+{
+    static uint8_t table[2 * BAVZHRONO_MAX_NODES];
+    char name[64];
+    size_t length = ending_with(table, thirteen_1s, 13);
+
+    test_one_list("111111111111");
+    test_one_list("000000000000");
+    test_one_list("100000000000");
+    test_one_list("000000000001");
+    test_one_list("010011010111");
+    for (size_t tests = 1; tests <= 12; tests++) {
+        sprintf(name, "13 nested tests, that with %u", (unsigned)tests);
+        test_trial(name, table, length, 2 * tests, 3, tests);
+    }
+    test_trial("13 nested tests, the innermost leaf", table, length, 0, 1, 0);
+    test_trial("13 nested tests, the outermost leaf", table, length, 25, 2, 0);
+    test_too_many("13 nested tests", table, length, 26);
+    test_too_many("13 nested tests in a signal", table, wrap(table, length, 5, 1), 27);
+    test_too_many("13 nested tests in a trap", table, wrap(table, length, 11, 1), 27);
+}
+
+/* Tests with an exit each, to a farther trap in each, and joined by a statement of two children. */
+static size_t exits_joined(uint8_t *table, uint8_t kind, size_t count)
+{
+    size_t length = 0;
+
+    for (size_t level = 0; level < count; level++) {
+        length += put(table + length, 4, (uint8_t)level);
+        length += put(table + length, 1, 0);
+        length += put(table + length, 6, (uint8_t)level);
+        if (level > 0)
+            length += put(table + length, kind, 0);
+    }
+    return length;
+}
+
+/* The set of the codes 0 and 2 to the last one. */
+static uint64_t ends_and_exits(size_t last)
+{
+    return (((uint64_t)2 << last) - 1) & ~(uint64_t)2;
+}
+
+/* Each exit has a code of its own, and 0 is given by twelve absent alone. Every trap catches the
+   lowest exit. */
+static void test_joined_tests(const char *how, uint8_t kind)
+{
+    uint8_t table[2 * (51 + 13)];
+    char name[64];
+    size_t length = wrap(table, exits_joined(table, kind, 12), 11, 12);
+
+    for (size_t tests = 2; tests <= 12; tests++) {
+        sprintf(name, "%u tests %s", (unsigned)tests, how);
+        test_trial(name, table, length, 4 * tests - 2, ends_and_exits(1 + tests), tests);
+    }
+    for (size_t trap = 1; trap <= 12; trap++) {
+        sprintf(name, "12 tests %s, trap %u", how, (unsigned)trap);
+        test_trial(name, table, length, 46 + trap, ends_and_exits(13 - trap), 12);
+    }
+    length = wrap(table, exits_joined(table, kind, 13), 11, 13);
+    sprintf(name, "12 of 13 tests %s", how);
+    test_trial(name, table, length, 46, ends_and_exits(13), 12);
+    sprintf(name, "13 tests %s", how);
+    test_too_many(name, table, length, 50);
+    sprintf(name, "13 tests %s, the outermost trap", how);
+    test_too_many(name, table, length, 63);
+}
+
+/* A test whose branches have so many tests. */
+static size_t test_of_tests(uint8_t *table, size_t then, size_t otherwise)
+{
+    size_t length = ending_with(table, thirteen_1s, then);
+    length += ending_with(table + length, thirteen_1s, otherwise);
+    return length + put(table + length, 6, 0);
+}
+
+static void test_what_counts(void)
+{
+    static uint8_t table[2 * BAVZHRONO_MAX_NODES];
+    size_t length = test_of_tests(table, 6, 6);
+
+    test_too_many("its own test and 6 in each branch", table, length, 26);
+    test_trial("6 in the then branch", table, length, 12, 3, 6);
+    test_trial("6 in the else branch", table, length, 25, 3, 6);
+    length = test_of_tests(table, 6, 5);
+    test_trial("its own test, 6 and 5", table, length, 24, 3, 12);
+    length = test_of_tests(table, 5, 6);
+    test_trial("its own test, 5 and 6", table, length, 24, 3, 12);
+    test_too_many("its own test and 12", table, test_of_tests(table, 0, 12), 26);
+
+    test_trial("13 suspends", table, around(table, 2, 0, 7, 13), 13, 2, 0);
+    length = wrap(table, ending_with(table, thirteen_1s, 12), 7, 20);
+    test_trial("12 tests in 20 suspends", table, length, 44, 3, 12);
+    length = wrap(table, ending_with(table, thirteen_1s, 13), 7, 20);
+    test_too_many("13 tests in 20 suspends", table, length, 46);
+
+    /* Halves of halves, so that a node with t tests has 2t + 1 nodes. */
+    length = balanced(table, 6, 9);
+    test_trial("511 tests, the first leaf", table, length, 0, 2, 0);
+    test_trial("511 tests, the first", table, length, 2, 2, 1);
+    test_trial("511 tests, the first 7", table, length, 14, 2, 7);
+    test_too_many("511 tests, the first 15", table, length, 30);
+    test_trial("511 tests, the last leaf", table, length, 1013, 2, 0);
+    test_trial("511 tests, the last 7 of those within", table, length, 1016, 2, 7);
+    test_too_many("511 tests, the last 15 of those within", table, length, 1017);
+    test_too_many("511 tests", table, length, 1022);
+    test_too_many("511 tests in a loop", table, wrap(table, length, 8, 1), 1023);
+}
+
+/* 1,024 nodes: 12 tests of exits beside pauses, with a signal and 12 traps around them. Whatever
+   the answers, all but a leaf of each test are entered. */
+static size_t twelve_among_1024(uint8_t *table)
+{
+    static const size_t heights[] = {8, 7, 6, 5, 1};
+    size_t length = exits_joined(table, 10, 12);
+
+    for (size_t i = 0; i < sizeof heights / sizeof heights[0]; i++) {
+        length += balanced(table + length, 10, heights[i]);
+        length += put(table + length, 10, 0);
+    }
+    return wrap(table, wrap(table, length, 5, 1), 11, 12);
+}
+
+static void test_trials_of_edges(void)
+{
+    static uint8_t table[2 * BAVZHRONO_MAX_NODES];
+    static const uint8_t exit_61[] = {4, 61};
+    static const uint64_t exited = (uint64_t)1 << 63;
+    char list[255];
+    size_t length = twelve_among_1024(table);
+
+    test_trial("1,024 nodes, 12 tests", table, length, 1023, 3, 12);
+    test_trial("1,012 nodes, codes 1 to 13", table, length, 1011, 0x3ffe, 12);
+    length = full_table(table);
+    pauses_to_nothing(table);
+    put(table + length - 2, 5, 0);
+    test_trial("1,024 nodes that end", table, length, 1023, 1, 0);
+
+    length = wrap(table, ending_with(table, thirteen_1s, 12), 5, 243);
+    test_trial("depth 256, 12 tests", table, length, 267, 3, 12);
+    test_trial("depth 256, suspends", table, around(table, 2, 0, 7, 255), 255, 2, 0);
+    memset(list, '1', sizeof list);
+    length = ending_with(table, list, 255);
+    test_trial("depth 256, the innermost 12 tests", table, length, 24, 3, 12);
+    test_too_many("depth 256, the innermost 13 tests", table, length, 26);
+    test_too_many("depth 256, 255 tests", table, length, 510);
+
+    /* Code 63 comes down by one at each trap, and the outermost catches it. */
+    length = wrap(table, leading_to(table, thirteen_1s, 12, exit_61, nothing), 11, 62);
+    test_trial("level 61, the exit", table, length, 0, exited, 0);
+    test_trial("level 61, 12 tests", table, length, 24, exited | 1, 12);
+    test_trial("level 61, trap 1", table, length, 25, exited >> 1 | 1, 12);
+    test_trial("level 61, trap 31", table, length, 55, exited >> 31 | 1, 12);
+    test_trial("level 61, trap 61", table, length, 85, 5, 12);
+    test_trial("level 61, trap 62", table, length, 86, 1, 12);
+}
+
+/* The checks of a table come before 22, whether or not the node at fault is in the one tried. */
+static void test_refused_before_22(void)
+{
+    static const uint8_t exit_0[] = {4, 0};
+    uint8_t table[2 * (27 + 243)];
+    size_t tests = ending_with(table, thirteen_1s, 13), length;
+
+    length = wrap(table, tests, 12, 1);
+    check("trial", "4 before 22", trial(table, length, 26, spare()), 4 + 256 * 27);
+    length = tests + put(table + tests, 8, 1);
+    check("trial", "5 before 22", trial(table, length, 26, spare()), 5 + 256 * 27);
+    length = tests + put(table + tests, 1, 0);
+    check("trial", "7 before 22", trial(table, length, 26, spare()), 7);
+    length = wrap(table, tests, 5, 243);
+    check("trial", "8 before 22", trial(table, length, 26, spare()), 8);
+    length = wrap(table, tests, 11, 63);
+    check("trial", "9 before 22", trial(table, length, 26, spare()), 9 + 256 * 27);
+    length = wrap(table, tests, 8, 1);
+    check("trial", "11 before 22", trial(table, length, 26, spare()), 11 + 256 * 27);
+    check("trial", "11 before 22, the loop", trial(table, length, 27, spare()), 11 + 256 * 27);
+    length = leading_to(table, thirteen_1s, 13, exit_0, one_pause);
+    check("trial", "10 before 22", trial(table, length, 26, spare()), 10);
+    check("trial", "answer NULL", bavzhrono_trial(w1, sizeof w1, 3, NULL, 0), 3);
+    check("trial", "all NULL", bavzhrono_trial(NULL, 0, 0, NULL, 0), 2);
+}
+
+/* Each node of a table, by the start sets that bavzhrono_analyse writes. */
+
+static uint64_t tests_in(const listed *of, size_t node)
+{
+    uint64_t tests = 0;
+    for (size_t at = node + 1 - (size_t)of->nodes[node]; at <= node; at++)
+        tests += of->table[2 * at] == 6;
+    return tests;
+}
+
+static int is_tried(const listed *of, size_t node)
+{
+    uint64_t written[4] = {7, 7, 7, 7};
+    const uint64_t tests = tests_in(of, node);
+    const uint64_t right[4] = {of->start_sets[node], tests, 0, 7}, stays[4] = {7, 7, 7, 7};
+    uint32_t returned = bavzhrono_trial(of->table, of->length, node, written, 4);
+
+    if (tests > 12)
+        return returned == 22 && memcmp(written, stays, sizeof stays) == 0;
+    return returned == 0 && memcmp(written, right, sizeof right) == 0;
+}
+
+/* The codes of the program, started with every list of 12 answers by bavzhrono_start. */
+static uint64_t codes_of_starts(const listed *of)
+{
+    uint8_t answers[12];
+    uint64_t set = 0;
+
+    for (unsigned number = 0; number < 4096; number++) {
+        put_list(answers, sizeof answers, number);
+        if (instant(bavzhrono_start, of->table, of->length, answers, sizeof answers, spare()) != 0)
+            return 0;
+        set |= (uint64_t)1 << actual.answer[0];
+    }
+    return set;
+}
+
+static void test_every_trial(const char *name, const uint8_t *table, size_t length)
+{
+    static listed of;
+    const size_t nodes = length / 2;
+    int passed = list_sets(&of, table, length);
+
+    for (size_t back = 0; passed && back < nodes; back += tried_step(nodes))
+        passed = is_tried(&of, nodes - 1 - back);
+    report(passed, "trial of each node", name);
+    if (tests_in(&of, nodes - 1) <= 12)
+        report(codes_of_starts(&of) == of.start_sets[nodes - 1], "start with every list", name);
+    prepare();
+}
+
+/* A text that is read and then tried: its loop is left, or pauses. */
+static void test_read_then_trial(void)
+{
+    static const char text[] = "trap Locked in\n"
+                               "    loop present LockRequest then exit Locked end; pause end\n"
+                               "end\n";
+    static const uint8_t table[] = {4, 0, 1, 0, 6, 0, 2, 0, 9, 0, 8, 0, 11, 0};
+
+    if (read_text(text, strlen(text), spare()) != 0 || actual.answer[0] != sizeof table / 2)
+        report(0, "read", "a text that is tried then");
+    memcpy(expected.table, table, sizeof table);
+    expect_answer(6, 1, 0);
+    check("trial", "a table that was read", trial(actual.table, sizeof table, 5, spare()), 0);
+}
+
+static void test_trials(void)
+{
+    test_trials_by_hand();
+    test_nested_tests();
+    test_joined_tests("in sequence", 9);
+    test_joined_tests("in parallel", 10);
+    test_what_counts();
+    test_trials_of_edges();
+    test_refused_before_22();
+    test_accepted_tables(test_every_trial);
+    test_read_then_trial();
 }
 
 int main(void)
@@ -3225,5 +3659,6 @@ int main(void)
     test_narrowed_sets();
     test_first_ticks();
     test_questions();
+    test_trials();
     return failures != 0;
 }

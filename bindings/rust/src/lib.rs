@@ -2,8 +2,8 @@
 //! reader that makes a table from text and finds where a refused text is at fault, the proved finder
 //! of the tick in which a refused loop's body ends at once, the proved fetcher of tables that are
 //! stored in blocks on the service partition, the proved narrower of start sets by signals that are
-//! known for certain, the proved planner of the first tick, to the entry, and the proved answerer of
-//! single questions about start sets.
+//! known for certain, the proved planner of the first tick, to the entry, the proved answerer of
+//! single questions about start sets, and the proved finder of a start set by trial.
 //!
 //! A table has two bytes a node, kind then field, children before parents. Nodes are numbered
 //! from 0, and the last is the whole program. Below, n is the number of nodes, half the table's
@@ -28,12 +28,12 @@
 //! be longer than needed: what lies past the needed length is neither looked at nor changed. A
 //! refused call changes no buffer. [`Sets::of`], [`listing`], [`table_of`], [`Fault::of`],
 //! [`table_in`], [`narrowed_sets`] and [`Plan::of`] bring their own buffers. [`read_place`],
-//! [`part`], [`first_tick`] and [`ask`] need none: they hand back a place of the lent text, a part
-//! of the lent file, a number, and an answer. The pauses that a program holds between two instants
-//! are a [`State`] of [`STATE_BYTES`] bytes, which can be stored as they are. The calls keep nothing
-//! of their own, and any number of threads may make them at once; [`raw`] has the exported functions
-//! as they are. How much stack they need, [`read`] and [`read_place`] the most, is said in the
-//! header for C, `bindings/c/bavzhrono.h`.
+//! [`part`], [`first_tick`], [`ask`] and [`trial`] need none: they hand back a place of the lent
+//! text, a part of the lent file, a number, an answer, and a set. The pauses that a program holds
+//! between two instants are a [`State`] of [`STATE_BYTES`] bytes, which can be stored as they are.
+//! The calls keep nothing of their own, and any number of threads may make them at once; [`raw`] has
+//! the exported functions as they are. How much stack they need, [`read`] and [`read_place`] the
+//! most, is said in the header for C, `bindings/c/bavzhrono.h`.
 //!
 //! A loop of pause and emit 7, analysed and run for two instants:
 //!
@@ -205,6 +205,25 @@
 //! assert_eq!(ask(&table, 5, 0)?, Asked { member: false, count: 1 });
 //! # Ok::<(), bavzhrono::Refusal>(())
 //! ```
+//!
+//! The start set of that node, found by running it with every list of answers:
+//!
+//! ```
+//! use bavzhrono::{table_of, trial, Sets};
+//!
+//! let table = table_of(
+//!     b"trap Locked in
+//!         loop present LockRequest then exit Locked end; pause end
+//!       end",
+//! )?;
+//!
+//! // It has one test. With the lock request it is left, and without it pauses.
+//! let tried = trial(&table, 5)?;
+//! assert_eq!(tried.presents, 1);
+//! assert_eq!(tried.set.to_string(), "{1, 2}");
+//! assert_eq!(tried.set, Sets::of(&table)?.start_sets[5]);
+//! # Ok::<(), bavzhrono::Refusal>(())
+//! ```
 
 #![deny(missing_docs)]
 #![deny(unsafe_code)]
@@ -223,6 +242,7 @@ mod state;
 mod text;
 mod tick;
 mod ties;
+mod trial;
 
 pub use analysis::{analyse, Analysis, Mark, Sets};
 pub use blocks::{fetch, part, table_in, Fetched};
@@ -236,6 +256,7 @@ pub use state::{Held, State};
 pub use text::{read, read_place, table_of, Placed, Reading};
 pub use tick::{tick, Fault, Tick};
 pub use ties::{narrow, narrowed_sets, Tie};
+pub use trial::{trial, Trial};
 
 /// The most nodes of a table, of two bytes each.
 pub const MAX_NODES: usize = 1024;
@@ -261,3 +282,7 @@ pub const MAX_BLOCKS: usize = 64;
 /// The bytes of answers that [`tick`] and [`first_tick_answers`] need: any list fits. It is no limit
 /// of the instants.
 pub const TICK_ANSWERS: usize = 512;
+
+/// The answers of each list with which [`trial`] starts a node, and so the most present statements
+/// of a node that can be tried.
+pub const TRIAL_ANSWERS: usize = 12;

@@ -152,6 +152,14 @@ extern "C" {
         answer: *mut u64,
         answer_length: usize,
     ) -> u32;
+
+    fn bavzhrono_trial(
+        table: *const u8,
+        table_length: usize,
+        node: u64,
+        answer: *mut u64,
+        answer_length: usize,
+    ) -> u32;
 }
 
 /// The figures are the nodes, the loop depth and 0.
@@ -348,6 +356,21 @@ pub fn ask(table: &[u8], node: u64, code: u64, answer: &mut [u64]) -> u32 {
             table.len(),
             node,
             code,
+            answer.as_mut_ptr(),
+            answer.len(),
+        )
+    }
+}
+
+/// The figures are the set of the codes that the starts of the node gave, the number of present
+/// statements in the node, and 0. The node may be any number.
+pub fn trial(table: &[u8], node: u64, answer: &mut [u64]) -> u32 {
+    // SAFETY: each pointer is followed by the length of its own slice.
+    unsafe {
+        bavzhrono_trial(
+            table.as_ptr(),
+            table.len(),
+            node,
             answer.as_mut_ptr(),
             answer.len(),
         )

@@ -13,9 +13,9 @@ use std::fmt;
 /// ```
 #[derive(Clone, Copy, Debug, PartialEq, Eq, Hash)]
 pub struct Refusal {
-    /// The number of the check, 1 to 21.
+    /// The number of the check, 1 to 22.
     pub number: u32,
-    /// The lowest node that the check fits; 0 for checks 1, 2, 3, 7 and 12 to 21, which name none.
+    /// The lowest node that the check fits; 0 for checks 1, 2, 3, 7 and 12 to 22, which name none.
     pub node: usize,
 }
 
@@ -44,6 +44,7 @@ impl Refusal {
             19 => "a signal's tie is none of 0, 1 and 2",
             20 => "the text leaves the grammar at immediate, every, case or a count",
             21 => "the node that is asked about is outside the table",
+            22 => "more than 12 present statements stand in the node that is tried",
             _ => "there is no check of this number",
         }
     }

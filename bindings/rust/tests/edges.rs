@@ -2,7 +2,8 @@
 
 mod common;
 
-use bavzhrono::{ask, first_tick, listing, Analysis, CodeSet, Completion, Mark, Sets, MAX_NODES};
+use bavzhrono::MAX_NODES;
+use bavzhrono::{ask, first_tick, listing, trial, Analysis, CodeSet, Completion, Mark, Sets};
 use common::*;
 
 const ENDED: CodeSet = CodeSet(1 << 0);
@@ -40,6 +41,7 @@ fn the_longest_table_is_listed_and_run() {
     assert_eq!(lent.state, holding(&[0]));
     // Loop, sequence, and the 511 nodes of its first child.
     assert_eq!(ask(&table, MAX_NODES - 1, 1), asked(true, 513));
+    assert_eq!(trial(&table, MAX_NODES - 1), tried(PAUSED.0, 0));
 }
 
 #[test]
@@ -53,6 +55,7 @@ fn depth_256() {
     assert_eq!(lent.start(&table, &[]), closed(Completion::Paused, 0, 256));
     assert_eq!(first_tick(&table), Ok(256));
     assert_eq!(ask(&table, 255, 1), asked(true, 256));
+    assert_eq!(trial(&table, 255), tried(PAUSED.0, 0));
     assert_eq!(
         lent.resume(&table, &[]),
         closed(Completion::Terminated, 0, 256)
@@ -72,6 +75,7 @@ fn sixty_two_traps() {
     let table = around([2, 0], [11, 0], 62);
     assert_eq!(Sets::of(&table).unwrap().start_sets, [PAUSED; 63]);
     assert_eq!(ask(&table, 62, 1), asked(true, 63));
+    assert_eq!(trial(&table, 62), tried(PAUSED.0, 0));
 }
 
 #[test]
@@ -86,6 +90,9 @@ fn level_61_under_62_traps() {
     assert_eq!(ask(&table, 0, 63), asked(true, 1));
     assert_eq!(ask(&table, 61, 2), asked(true, 62));
     assert_eq!(ask(&table, 62, 0), asked(true, 63));
+    for (node, set) in expected.iter().enumerate() {
+        assert_eq!(trial(&table, node), tried(set.0, 0));
+    }
 }
 
 /// The set of the codes from 0 to the given one.
@@ -119,6 +126,9 @@ fn code_63_in_all_sets() {
     assert_eq!(sets.any_sets[65..], [EITHER, EITHER, PAUSED]);
     assert_eq!(sets.contexts[65..], [up_to(1), ENDED, CodeSet::EMPTY]);
     assert_eq!(sets.marks[..67], [Mark(1); 67]);
+    for (node, set) in sets.start_sets.iter().enumerate() {
+        assert_eq!(trial(&exit_beside_a_pause(), node), tried(set.0, 0));
+    }
     assert_eq!(sets.marks[67], Mark(0));
 }
 

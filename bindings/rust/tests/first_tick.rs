@@ -5,13 +5,9 @@ mod common;
 
 use std::thread;
 
-use bavzhrono::{first_tick, first_tick_answers, start, table_of, FirstTick, Plan};
-use bavzhrono::{Closed, Refusal, State, MAX_NODES, SIGNALS, TICK_ANSWERS};
+use bavzhrono::{first_tick, first_tick_answers, table_of, FirstTick, Plan};
+use bavzhrono::{MAX_NODES, TICK_ANSWERS};
 use common::*;
-
-fn started(table: &[u8], answers: &[u8]) -> Result<Closed, Refusal> {
-    start(table, answers, &mut State::default(), &mut [0; SIGNALS])
-}
 
 /// Into answers that just suffice and into longer ones, of which only the front changes.
 fn assert_first(table: &[u8], entries: usize, list: &[u8]) {
@@ -122,19 +118,8 @@ fn a_text_is_read_and_planned() {
     assert_first(&table_of(text).unwrap(), 6, &[0]);
 }
 
-/// A chain of tests that goes on with each answer of the list, and with any other enters a leaf, as
-/// the last test does either way.
-fn chain(list: &[u8]) -> Vec<u8> {
-    list.iter().rev().fold(vec![1, 0], |inner, answer| {
-        let (then, otherwise) = match answer {
-            0 => (&[2, 0][..], &inner[..]),
-            _ => (&inner[..], &[2, 0][..]),
-        };
-        [then, otherwise, &[6, 0]].concat()
-    })
-}
-
-/// So many answers of both kinds, of which the last is 0.
+/// So many answers of both kinds, of which the last is 0, since the last of nested tests enters a
+/// leaf either way.
 fn some_answers(count: usize) -> Vec<u8> {
     (1..=count)
         .map(|left| u8::from(left % 3 == 0))
@@ -146,7 +131,7 @@ fn some_answers(count: usize) -> Vec<u8> {
 /// in one they would be too deep.
 fn longest() -> (Vec<u8>, usize, Vec<u8>) {
     let lists = [170, 170, 169].map(some_answers);
-    let [left, middle, right] = [0, 1, 2].map(|at| chain(&lists[at]));
+    let [left, middle, right] = [0, 1, 2].map(|at| ending_with(&lists[at]));
     let table = [&left[..], &middle, &[10, 0], &right, &[10, 0, 5, 0]].concat();
     (table, 171 + 171 + 170 + 3, lists.concat())
 }
@@ -154,7 +139,7 @@ fn longest() -> (Vec<u8>, usize, Vec<u8>) {
 /// A program of depth 256, its entries, and its list of 254 answers.
 fn deepest() -> (Vec<u8>, usize, Vec<u8>) {
     let list = some_answers(254);
-    ([&chain(&list)[..], &[5, 0]].concat(), 256, list)
+    ([&ending_with(&list)[..], &[5, 0]].concat(), 256, list)
 }
 
 #[test]
@@ -217,11 +202,7 @@ fn by_trial(table: &[u8]) -> Option<(usize, Vec<u8>)> {
     if tests > 10 {
         return None;
     }
-    for number in 0..1 << tests {
-        let answers: Vec<u8> = (0..tests)
-            .rev()
-            .map(|bit| (number >> bit & 1) as u8)
-            .collect();
+    for answers in lists(tests) {
         let closed = started(table, &answers).unwrap();
         if best
             .as_ref()

@@ -8,19 +8,6 @@ use std::thread;
 use bavzhrono::{ask, raw, table_of, CodeSet, Refusal, Sets, MAX_NODES};
 use common::*;
 
-/// Numbers that no node and no code has, though a part of their bits is one.
-const LARGE: [u64; 9] = [
-    1024,
-    (1 << 16) + 1,
-    1 << 31,
-    1 << 32,
-    (1 << 32) + 1,
-    (1 << 33) + 2,
-    1 << 63,
-    (1 << 63) + 1,
-    u64::MAX,
-];
-
 /// Whether the last node, which is the program, has the code, and the count.
 fn assert_program(table: &[u8], code: u32, member: bool, count: usize) {
     assert_node(table, table.len() / 2 - 1, code, member, count);
@@ -383,21 +370,10 @@ struct Listed<'a> {
 
 impl Listed<'_> {
     fn of(table: &[u8]) -> Result<Listed<'_>, Refusal> {
-        let start_sets = Sets::of(table)?.start_sets;
-        let mut sizes = vec![];
-        for kind in table.iter().step_by(2) {
-            let children = match kind {
-                1..=4 => 0,
-                6 | 9 | 10 => 2,
-                _ => 1,
-            };
-            let size = (0..children).fold(0, |size, _| size + sizes[sizes.len() - 1 - size]);
-            sizes.push(1 + size);
-        }
         Ok(Listed {
             table,
-            start_sets,
-            sizes,
+            start_sets: Sets::of(table)?.start_sets,
+            sizes: sizes_of(table),
         })
     }
 
@@ -456,26 +432,6 @@ impl Listed<'_> {
         assert_node(self.table, node, code, self.has(node, code), count);
         assert!(count <= self.sizes[node] && (count > 0) == (code <= 63));
     }
-}
-
-/// Accepted tables, for which every question is asked.
-fn accepted() -> Vec<Vec<u8>> {
-    vec![
-        vec![1, 0],
-        W1.to_vec(),
-        W3.to_vec(),
-        W7.to_vec(),
-        W8[..14].to_vec(),
-        LOCK.to_vec(),
-        LOCK_REQUEST.to_vec(),
-        EXITS.to_vec(),
-        table_of(b"abort sustain S when T end; await S").unwrap(),
-        table_of(b"[await A; emit B || weak abort halt when C end]").unwrap(),
-        around([2, 0], [8, 0], 60),
-        around([4, 61], [11, 0], 62),
-        [vec![4, 61, 2, 0, 6, 0], [11, 0].repeat(62)].concat(),
-        [vec![4, 61, 2, 0, 10, 0], [11, 0].repeat(62)].concat(),
-    ]
 }
 
 #[test]

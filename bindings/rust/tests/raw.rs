@@ -3,7 +3,7 @@
 mod common;
 
 use bavzhrono::{raw, BLOCK, MAX_BLOCKS, MAX_NODES, MAX_SOURCE, MAX_TEXT, SIGNALS};
-use bavzhrono::{STATE_BYTES, TICK_ANSWERS};
+use bavzhrono::{STATE_BYTES, TICK_ANSWERS, TRIAL_ANSWERS};
 use common::*;
 
 const FILL_NUMBER: u64 = FILL_SET.0;
@@ -111,13 +111,24 @@ impl Lent {
     fn ask_outside(&mut self, table: &[u8]) -> u32 {
         raw::ask(table, u64::MAX, u64::MAX, &mut self.answer)
     }
+
+    /// The last node, which is the program.
+    fn trial(&mut self, table: &[u8]) -> u32 {
+        let program = (table.len() as u64 / 2).saturating_sub(1);
+        raw::trial(table, program, &mut self.answer)
+    }
+
+    /// A node that no table has.
+    fn trial_outside(&mut self, table: &[u8]) -> u32 {
+        raw::trial(table, u64::MAX, &mut self.answer)
+    }
 }
 
 /// It takes a table, a text if it reads one, or a file.
 type Function = fn(&mut Lent, &[u8]) -> u32;
 
 /// The functions that make the table's checks.
-const CHECKING: [Function; 9] = [
+const CHECKING: [Function; 11] = [
     Lent::analyse,
     Lent::start,
     Lent::resume,
@@ -127,10 +138,12 @@ const CHECKING: [Function; 9] = [
     Lent::first_tick_answers,
     Lent::ask,
     Lent::ask_outside,
+    Lent::trial,
+    Lent::trial_outside,
 ];
 
 /// Of these, the ones that return 11.
-const RETURNING_11: [Function; 8] = [
+const RETURNING_11: [Function; 10] = [
     Lent::analyse,
     Lent::start,
     Lent::resume,
@@ -139,6 +152,8 @@ const RETURNING_11: [Function; 8] = [
     Lent::first_tick_answers,
     Lent::ask,
     Lent::ask_outside,
+    Lent::trial,
+    Lent::trial_outside,
 ];
 
 /// Of these, the ones that need other buffers than the answer.
@@ -249,7 +264,7 @@ fn a_refused_file_is_a_number_and_leaves_table_and_answer() {
 }
 
 #[test]
-fn refusals_3_12_13_19_and_21_name_no_node_and_leave_the_answer() {
+fn refusals_3_12_13_19_21_and_22_name_no_node_and_leave_the_answer() {
     let mut short = Lent::with_answer(3);
     (short.marks, short.text) = (vec![FILL; 3], vec![FILL; 3]);
     short.state.truncate(STATE_BYTES - 1);
@@ -273,8 +288,13 @@ fn refusals_3_12_13_19_and_21_name_no_node_and_leave_the_answer() {
         assert_unchanged(wrong, Lent::narrow, &present, 19);
     }
 
+    let tests = ending_with(&[1; TRIAL_ANSWERS + 1]);
     for entries in [3, 4, 8] {
-        assert_unchanged(Lent::with_answer(entries), Lent::ask_outside, &present, 21);
+        let lent = Lent::with_answer(entries);
+        assert_unchanged(lent.clone(), Lent::ask_outside, &present, 21);
+        assert_unchanged(lent.clone(), Lent::trial_outside, &present, 21);
+        assert_unchanged(lent.clone(), Lent::trial_outside, &tests, 21);
+        assert_unchanged(lent, Lent::trial, &tests, 22);
     }
 }
 
@@ -282,6 +302,7 @@ fn refusals_3_12_13_19_and_21_name_no_node_and_leave_the_answer() {
 fn a_short_answer_is_refused_by_3_after_1_and_2() {
     let mut tables = refused_tables();
     tables.push((W1.to_vec(), 0, 0));
+    tables.push((ending_with(&[1; TRIAL_ANSWERS + 1]), 0, 0));
     for (table, number, _) in tables {
         let expected = if matches!(number, 1 | 2) { number } else { 3 };
         for entries in 0..3 {
@@ -376,6 +397,8 @@ fn three_entries_of_the_answer_are_written_and_no_more() {
         assert_figures(&mut lent, Lent::first_tick_answers, &W8[..14], [5, 2, 0]);
         assert_figures(&mut lent, Lent::ask, W1, [1, 1, 0]);
         assert_figures(&mut lent, Lent::ask, W7, [0, 1, 0]);
+        assert_figures(&mut lent, Lent::trial, W1, [2, 0, 0]);
+        assert_figures(&mut lent, Lent::trial, &W8[..14], [3, 2, 0]);
     }
 }
 

@@ -1,7 +1,7 @@
 //! Each check refuses with its number and node, and says why. Check 3 is in `buffers.rs` and, for a
 //! state, with more of check 12, in `held_bits.rs`; checks of a text are in `text.rs`, checks of a
-//! file are in `blocks.rs`, that of ties is in `ties.rs`, and that of a node that is asked about is
-//! in `question.rs`.
+//! file are in `blocks.rs`, that of ties is in `ties.rs`, that of a node that is asked about is in
+//! `question.rs`, and that of a node that is tried is in `trial.rs`.
 
 mod common;
 
@@ -125,10 +125,10 @@ fn check_13_a_suspend_without_an_answer() {
 
 #[test]
 fn each_number_has_an_explanation_of_its_own() {
-    let lines: HashSet<_> = (0..=21)
+    let lines: HashSet<_> = (0..=22)
         .map(|number| Refusal { number, node: 0 }.explanation())
         .collect();
-    assert_eq!(lines.len(), 22);
+    assert_eq!(lines.len(), 23);
     assert!(lines
         .iter()
         .all(|line| !line.is_empty() && !line.contains('\n')));
@@ -137,7 +137,7 @@ fn each_number_has_an_explanation_of_its_own() {
 #[test]
 fn a_node_is_written_only_where_the_check_names_one() {
     let with_node = [4, 5, 6, 8, 9, 10, 11];
-    for number in 1..=21 {
+    for number in 1..=22 {
         let refusal = Refusal { number, node: 0 };
         let error: &dyn std::error::Error = &refusal;
         let node = if with_node.contains(&number) {

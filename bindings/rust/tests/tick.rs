@@ -143,18 +143,6 @@ fn a_text_is_read_and_its_tick_shown() {
     assert_program_ends(&table, &[1, 1]);
 }
 
-/// A statement that ends with the list alone, and pauses with any other.
-fn ending_with(list: &[u8]) -> Vec<u8> {
-    let nothing = vec![1, 0];
-    list.iter().rev().fold(nothing, |inner, answer| {
-        let (then, otherwise) = match answer {
-            0 => (&[2, 0][..], &inner[..]),
-            _ => (&inner[..], &[2, 0][..]),
-        };
-        [then, otherwise, &[6, 0]].concat()
-    })
-}
-
 /// So many answers of both kinds.
 fn some_answers(count: usize) -> Vec<u8> {
     (0..count).map(|at| u8::from(at % 3 == 0)).collect()

@@ -52,7 +52,12 @@ use Rattle.question.specs.declared.Asked.{Asked}
 use Rattle.question.specs.declared.Asked.the-variants.{Known}
 use Rattle.question.specs.declared.Asked.the-variants.{Refused as RefusedQuestion}
 use Rattle.question.proofs.OfAsk.{numbered}
-use Rattle.abi.specs.Exported.{returned, answerAfter, Small, Tells, tellAnalysed, tellReaction, tellRendered, tellReading, tellPlace, tellTick, tellFetched, tellNarrowed, tellPlanned, tellLongest, tellAsked, shortAnswer, Exported}
+use Rattle.trial.specs.Calls.{triedOf}
+use Rattle.trial.specs.declared.Tried.{Tried}
+use Rattle.trial.specs.declared.Tried.the-variants.{Gathered}
+use Rattle.trial.specs.declared.Tried.the-variants.{Refused as RefusedTrial}
+use Rattle.trial.proofs.OfTrial.{numbered as trial-numbered}
+use Rattle.abi.specs.Exported.{returned, answerAfter, Small, Tells, tellAnalysed, tellReaction, tellRendered, tellReading, tellPlace, tellTick, tellFetched, tellNarrowed, tellPlanned, tellLongest, tellAsked, tellTried, shortAnswer, Exported}
 use Rattle.abi.specs.declared.Told.{Told}
 
 pub three : (l : List ℕ) (a b c : ℕ) → 3 ≤ length l → set (set (set l 0 a) 1 b) 2 c ≡ (a ∷ b ∷ c ∷ []) ++ drop 3 l
@@ -114,6 +119,10 @@ small-longest t old new (RefusedLongest number node) o = omega (arith, ofFindLon
 pub small-asked : (t : List ℕ) (node code : ℕ) (r : Asked) → r ≡ askedOf (verdict t) node code → Small (tellAsked r)
 small-asked t node code (Known b n) o = tt
 small-asked t node code (RefusedQuestion number at) o = omega (arith, numbered t node code number at o .2)
+
+pub small-tried : (t : List ℕ) (node : ℕ) (r : Tried) → r ≡ triedOf (verdict t) node → Small (tellTried r)
+small-tried t node (Gathered set n) o = tt
+small-tried t node (RefusedTrial number at) o = omega (arith, trial-numbered t node number at o .2)
 
 -- it changes no answer
 short-same : (before : Check) (answer : List ℕ) → answer ≡ answerAfter (shortAnswer before) answer

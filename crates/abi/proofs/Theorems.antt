@@ -64,7 +64,12 @@ use Rattle.question.specs.declared.Asked.{Asked}
 use Rattle.question.specs.declared.Asked.the-variants.{Known as KnownAnswer}
 use Rattle.question.specs.declared.Asked.the-variants.{Refused as RefusedQuestion}
 use Rattle.question.proofs.OfAsk.{numbered}
-use Rattle.abi.specs.Exported.{returned, answerAfter, Tells, tellAnalysed, tellReaction, tellRendered, tellReading, tellPlace, tellTick, tellFetched, tellSpan, tellNarrowed, tellPlanned, tellLongest, tellAsked, shortAnswer, Exported, ReadingC, PlacedAs, PlacingC, LocatingC}
+use Rattle.trial.specs.Calls.{triedOf}
+use Rattle.trial.specs.declared.Tried.{Tried}
+use Rattle.trial.specs.declared.Tried.the-variants.{Gathered}
+use Rattle.trial.specs.declared.Tried.the-variants.{Refused as RefusedTrial}
+use Rattle.trial.proofs.OfTrial.{numbered as trial-numbered}
+use Rattle.abi.specs.Exported.{returned, answerAfter, Tells, tellAnalysed, tellReaction, tellRendered, tellReading, tellPlace, tellTick, tellFetched, tellSpan, tellNarrowed, tellPlanned, tellLongest, tellAsked, tellTried, shortAnswer, Exported, ReadingC, PlacedAs, PlacingC, LocatingC}
 use Rattle.abi.specs.Theorems.{Ran, TickShown, NoTick, AnswerOf, PlaceShown, NoPlace, SameRefusal, IsRefused, Demand1OfExports}
 use Rattle.abi.specs.declared.Told.{Told}
 use Rattle.abi.specs.declared.Told.the-variants.{Refusal}
@@ -147,6 +152,9 @@ plan-known t = first-known 11 (omega arith) t
 
 ask-known : (t : List ℕ) → Known 21 (shortAnswer (lengthCheck t))
 ask-known t = first-known 21 (omega arith) t
+
+trial-known : (t : List ℕ) → Known 22 (shortAnswer (lengthCheck t))
+trial-known t = first-known 22 (omega arith) t
 
 none-known : (most : ℕ) → 3 ≤ most → Known most (shortAnswer Passed)
 none-known most m = short-known most m Passed (λ number node e. (let z : _≡_ {A = ℕ} 0 1 = cc in absurd (omega arith)))
@@ -321,6 +329,20 @@ module _ (t : List ℕ) (node code : ℕ) (answer answer′ : List ℕ) where
   ask-done (KnownAnswer b n) o z e = (b, n, o, e)
   ask-done (RefusedQuestion number at) o z e = absurd (omega (arith, numbered t node code number at o .0))
 
+module _ (t : List ℕ) (node : ℕ) (answer answer′ : List ℕ) where
+  abbrev Tries : Tried → Type 0
+  Tries x = x ≡ triedOf (verdict t) node
+
+  trial-own : (x : Tried) → Tries x → 0 < returned (tellTried x) → Own (lengthCheck t) (Unit {0}) Tries tellTried (λ number at. Tries (RefusedTrial number at)) answer answer′ 22 (trial-known t) x
+  trial-own (Gathered set n) o h = absurd (omega arith)
+  trial-own (RefusedTrial number at) o h =
+      let (some, known, below) = trial-numbered t node number at o in
+      record { known = record { number = number; node = at; is = refl; some = some; known = known; within = below }; refuses = o; same = tt }
+
+  trial-done : (x : Tried) → Tries x → returned (tellTried x) ≡ 0 → answer′ ≡ answerAfter (tellTried x) answer → (set n : ℕ) × Tries (Gathered set n) × (answer′ ≡ onto (set ∷ n ∷ 0 ∷ []) answer)
+  trial-done (Gathered set n) o z e = (set, n, o, e)
+  trial-done (RefusedTrial number at) o z e = absurd (omega (arith, trial-numbered t node number at o .0))
+
 part-refused : (file : List ℕ) (p e k : ℕ) (answer answer′ : List ℕ) (r : ℕ) → LocatingC file p e k answer answer′ r → 0 < r → (length answer < 3) × (r ≡ returned (Refusal 3 0)) × (answer′ ≡ answer)
 part-refused file p e k answer answer′ r o h = go (decLt (length answer) 3)
   where
@@ -428,6 +450,11 @@ demand1OfExports =
       askDone = λ t node code answer answer′ o.
           (let (x, call, z, e) = done-told (lengthCheck t) _ _ tellAsked (λ number at. Unit {0}) answer answer′ 21 (ask-known t) o in
           ask-done t node code answer answer′ x call z e);
+      trialRefused = λ t node answer answer′ r o h.
+          refused-is (lengthCheck t) _ _ tellTried _ answer answer′ 22 (trial-known t) (trial-own t node answer answer′) r o h .1;
+      trialDone = λ t node answer answer′ o.
+          (let (x, call, z, e) = done-told (lengthCheck t) _ _ tellTried (λ number at. Unit {0}) answer answer′ 22 (trial-known t) o in
+          trial-done t node answer answer′ x call z e);
       partRefused = part-refused;
       partDone = λ file p e k answer answer′ o.
           (let (x, call, z, a) = done-told Passed _ _ tellSpan (λ number node. Unit {0}) answer answer′ 3 (none-known 3 (omega arith)) o in (x, call, a));

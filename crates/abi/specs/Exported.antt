@@ -51,6 +51,10 @@ use Rattle.question.specs.Calls.{askedOf}
 use Rattle.question.specs.declared.Asked.{Asked}
 use Rattle.question.specs.declared.Asked.the-variants.{Known}
 use Rattle.question.specs.declared.Asked.the-variants.{Refused as RefusedQuestion}
+use Rattle.trial.specs.Calls.{triedOf}
+use Rattle.trial.specs.declared.Tried.{Tried}
+use Rattle.trial.specs.declared.Tried.the-variants.{Gathered}
+use Rattle.trial.specs.declared.Tried.the-variants.{Refused as RefusedTrial}
 use Rattle.abi.specs.declared.Told.{Told}
 use Rattle.abi.specs.declared.Told.the-variants.{Figures, Refusal}
 
@@ -131,6 +135,11 @@ abbrev pub tellAsked : Asked → Told
 tellAsked (Known answer count) = Figures (bit answer) count 0
 tellAsked (RefusedQuestion number node) = Refusal number node
 
+-- F-13: the set, and the number of presents
+abbrev pub tellTried : Tried → Told
+tellTried (Gathered set presents) = Figures set presents 0
+tellTried (RefusedTrial number node) = Refusal number node
+
 -- an answer of fewer than three entries fails check 3, which comes after the call's checks before it
 abbrev pub shortAnswer : (before : Check) → Told
 shortAnswer Passed = Refusal 3 0
@@ -194,3 +203,6 @@ HandingC t answers answer answers′ answer′ r = Exported (lengthCheck t) (ans
 -- no other buffer is written
 abbrev pub AskingC : (t : List ℕ) (node code : ℕ) (answer answer′ : List ℕ) → ℕ → Type 0
 AskingC t node code answer answer′ r = Exported (lengthCheck t) (Unit {0}) (λ x. x ≡ askedOf (verdict t) node code) tellAsked answer answer′ r
+
+abbrev pub TryingC : (t : List ℕ) (node : ℕ) (answer answer′ : List ℕ) → ℕ → Type 0
+TryingC t node answer answer′ r = Exported (lengthCheck t) (Unit {0}) (λ x. x ≡ triedOf (verdict t) node) tellTried answer answer′ r

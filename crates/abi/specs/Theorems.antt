@@ -44,7 +44,10 @@ use Rattle.planning.specs.declared.Longest.the-variants.{Refused as RefusedLong
 use Rattle.question.specs.Calls.{askedOf}
 use Rattle.question.specs.declared.Asked.the-variants.{Known}
 use Rattle.question.specs.declared.Asked.the-variants.{Refused as RefusedQuestion}
-use Rattle.abi.specs.Exported.{returned, shortAnswer, Analysing, StartingC, ResumingC, RenderingC, ReadingC, PlacedAs, PlacingC, TickingC, FetchingC, LocatingC, NarrowingC, PlanningC, HandingC, AskingC}
+use Rattle.trial.specs.Calls.{triedOf}
+use Rattle.trial.specs.declared.Tried.the-variants.{Gathered}
+use Rattle.trial.specs.declared.Tried.the-variants.{Refused as RefusedTrial}
+use Rattle.abi.specs.Exported.{returned, shortAnswer, Analysing, StartingC, ResumingC, RenderingC, ReadingC, PlacedAs, PlacingC, TickingC, FetchingC, LocatingC, NarrowingC, PlanningC, HandingC, AskingC, TryingC}
 use Rattle.abi.specs.declared.Told.the-variants.{Refusal}
 
 -- after 0 the call has closed with these figures
@@ -152,6 +155,10 @@ pub record Demand1OfExports : Type 0 where
       (t : List ℕ) (node code : ℕ) (answer answer′ : List ℕ) (r : ℕ) →
       AskingC t node code answer answer′ r → 0 < r →
       IsRefused 21 (lengthCheck t) (λ number at. RefusedQuestion number at ≡ askedOf (verdict t) node code) answer answer′ r
+  pub trialRefused :
+      (t : List ℕ) (node : ℕ) (answer answer′ : List ℕ) (r : ℕ) →
+      TryingC t node answer answer′ r → 0 < r →
+      IsRefused 22 (lengthCheck t) (λ number at. RefusedTrial number at ≡ triedOf (verdict t) node) answer answer′ r
   -- where 0 is returned, the call was not refused, and its figures stand in the answer
   pub analyseDone :
       (t k a s m answer k′ a′ s′ m′ answer′ : List ℕ) →
@@ -207,3 +214,7 @@ pub record Demand1OfExports : Type 0 where
       (t : List ℕ) (node code : ℕ) (answer answer′ : List ℕ) →
       AskingC t node code answer answer′ 0 →
       (b : Bool) × (n : ℕ) × (Known b n ≡ askedOf (verdict t) node code) × (answer′ ≡ onto (bit b ∷ n ∷ 0 ∷ []) answer)
+  pub trialDone :
+      (t : List ℕ) (node : ℕ) (answer answer′ : List ℕ) →
+      TryingC t node answer answer′ 0 →
+      (set n : ℕ) × (Gathered set n ≡ triedOf (verdict t) node) × (answer′ ≡ onto (set ∷ n ∷ 0 ∷ []) answer)

@@ -6,7 +6,7 @@ ghost use Prim.Native.Nat.{_≤_, _<_};
 ghost use lib.ListN.{length};
 ghost use Rattle.table.specs.Check.{lengthCheck};
 ghost use Rattle.analysis.specs.Passes.{onto};
-ghost use Rattle.abi.specs.Exported.{maxNode, returned, Small, Tells, tellAnalysed, tellReaction, tellRendered, tellReading, tellPlace, tellTick, tellFetched, tellSpan, tellNarrowed, tellPlanned, tellLongest, tellAsked, shortAnswer, Analysing, StartingC, ResumingC, RenderingC, ReadingC, PlacingC, TickingC, FetchingC, LocatingC, NarrowingC, PlanningC, HandingC, AskingC};
+ghost use Rattle.abi.specs.Exported.{maxNode, returned, Small, Tells, tellAnalysed, tellReaction, tellRendered, tellReading, tellPlace, tellTick, tellFetched, tellSpan, tellNarrowed, tellPlanned, tellLongest, tellAsked, tellTried, shortAnswer, Analysing, StartingC, ResumingC, RenderingC, ReadingC, PlacingC, TickingC, FetchingC, LocatingC, NarrowingC, PlanningC, HandingC, AskingC, TryingC};
 use analysis::Analysed;
 use blocks::Fetched;
 use blocks::Span;
@@ -18,6 +18,7 @@ use question::Asked;
 use table::Check;
 use text::Reading;
 use tied::Narrowed;
+use trial::Tried;
 use witness::Tick;
 
 // What a call tells: three figures, or the number and the node of a refusal.
@@ -271,6 +272,19 @@ fn tell_asked(asked: Asked) -> Told
     }
 }
 
+fn tell_tried(tried: Tried) -> Told
+    ensures { λ r. ⌜ r ≡ tellTried tried ⌝ }
+{
+    match tried {
+        Tried::Gathered { set, presents } => Told::Figures {
+            first: set as usize,
+            second: presents,
+            third: 0,
+        },
+        Tried::Refused { number, node } => Told::Refusal { number, node },
+    }
+}
+
 #[no_mangle]
 pub extern "C" fn bavzhrono_analyse(
     table: &[u8],
@@ -463,4 +477,16 @@ pub extern "C" fn bavzhrono_ask(table: &[u8], node: u64, code: u64, answer: &mut
     }
     let asked = question::ask(table, node as usize, code as usize);
     tell(tell_asked(asked), answer)
+}
+
+// The start set of a node by trial, and the number of presents in it.
+#[no_mangle]
+pub extern "C" fn bavzhrono_trial(table: &[u8], node: u64, answer: &mut [u64]) -> u32
+    ensures { λ r. ⌜ TryingC (now (table .entry)) node (now (answer .entry)) (now (answer .exit)) r ⌝ }
+{
+    if answer.len() < FIGURES {
+        return short_answer(table);
+    }
+    let tried = trial::trial(table, node as usize);
+    tell(tell_tried(tried), answer)
 }

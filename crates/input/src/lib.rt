@@ -93,6 +93,15 @@ pub fn length_at(head: &[u8], at: usize) -> usize
     wide(head[at]) + 256 * wide(head[at + 1])
 }
 
+// A number in eight bytes, lowest first.
+pub fn number_at(head: &[u8], at: usize) -> usize
+    requires { ⌜ at + 7 < length (now head) ⌝ }
+{
+    let low = length_at(head, at) + 65536 * length_at(head, at + 2);
+    let high = length_at(head, at + 4) + 65536 * length_at(head, at + 6);
+    low + 4294967296 * high
+}
+
 // Reads a length and then as many bytes, to the buffer's front. It fails where the input ends before, or they do not fit.
 pub fn read_counted(buffer: &mut [u8]) -> Input
     ensures { λ r. ⌜ Within r (length (now (buffer .exit))) ⌝ }

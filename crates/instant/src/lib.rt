@@ -1,6 +1,6 @@
 // One instant of an accepted program: start and resume.
 mod admission;
-mod run;
+pub mod run;
 mod steps;
 
 ghost use mathlib.Core.Path.{_≡_};

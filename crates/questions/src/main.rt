@@ -1,20 +1,9 @@
 // Asks many questions about the nodes of tables: standard input holds them with their tables one after the other, laid out as
 // compare/src/bin/questions.rs says. Each answer is written as a line. The expected output comes from compare/.
-ghost use Prim.Native.Nat.{_+_, _<_};
-ghost use lib.ListN.{length};
 use question::Asked;
 
 // The bytes of the head of a case: the table's length, the node and the code.
 const HEAD: usize = 18;
-
-// A number of eight bytes, least first.
-fn number_at(head: &[u8], at: usize) -> usize
-    requires { ⌜ at + 7 < length (now head) ⌝ }
-{
-    let low = input::length_at(head, at) + 65536 * input::length_at(head, at + 2);
-    let high = input::length_at(head, at + 4) + 65536 * input::length_at(head, at + 6);
-    low + 4294967296 * high
-}
 
 // Reads the table that follows the head, asks, and writes what came of it; false at the end of the input.
 fn run_case(table: &mut [u8], node: usize, code: usize) -> bool {
@@ -40,8 +29,8 @@ fn run_next() -> bool {
         return false;
     }
     let t = input::length_at(&head, 0);
-    let node = number_at(&head, 2);
-    let code = number_at(&head, 10);
+    let node = input::number_at(&head, 2);
+    let code = input::number_at(&head, 10);
     let mut table = io::large_buffer();
     run_case(&mut table[..t], node, code)
 }

@@ -3,10 +3,10 @@
 #![allow(dead_code)] // each test file uses a part of this
 
 use bavzhrono::{analyse, narrow, read, read_place, render, resume, start, table_of, tick};
-use bavzhrono::{ask, first_tick, first_tick_answers};
+use bavzhrono::{ask, first_tick, first_tick_answers, trial};
 use bavzhrono::{
     Analysis, Asked, Closed, CodeSet, Completion, FirstTick, Mark, Placed, Reading, Refusal, State,
-    Tick, BLOCK, MAX_NODES, MAX_TEXT, SIGNALS, STATE_BYTES, TICK_ANSWERS,
+    Tick, Trial, BLOCK, MAX_NODES, MAX_TEXT, SIGNALS, STATE_BYTES, TICK_ANSWERS,
 };
 
 pub const W1: &[u8] = &[2, 0, 3, 7, 9, 0, 8, 0];
@@ -42,6 +42,19 @@ pub const WITH_SHORT_BUFFERS: [(&[u8], u32); 8] = [
     (W8, 3),
 ];
 
+/// Numbers that no node and no code has, though a part of their bits is one.
+pub const LARGE: [u64; 9] = [
+    1024,
+    (1 << 16) + 1,
+    1 << 31,
+    1 << 32,
+    (1 << 32) + 1,
+    (1 << 33) + 2,
+    1 << 63,
+    (1 << 63) + 1,
+    u64::MAX,
+];
+
 pub const W1_LISTING: &str =
     "ok 4 1 8\n0 2 0 2 3 1 1\n1 3 7 1 1 0 0\n2 9 0 2 3 1 1\n3 8 0 2 2 0 0\n";
 
@@ -60,6 +73,26 @@ pub fn refused_tables() -> Vec<(Vec<u8>, u32, usize)> {
         (W5.to_vec(), 10, 0),
         (W8.to_vec(), 11, 7),
         (full_table_of_nothing(), 11, 1023),
+    ]
+}
+
+/// Accepted tables, of which each node is asked about and tried.
+pub fn accepted() -> Vec<Vec<u8>> {
+    vec![
+        vec![1, 0],
+        W1.to_vec(),
+        W3.to_vec(),
+        W7.to_vec(),
+        W8[..14].to_vec(),
+        LOCK.to_vec(),
+        LOCK_REQUEST.to_vec(),
+        EXITS.to_vec(),
+        table_of(b"abort sustain S when T end; await S").unwrap(),
+        table_of(b"[await A; emit B || weak abort halt when C end]").unwrap(),
+        around([2, 0], [8, 0], 60),
+        around([4, 61], [11, 0], 62),
+        [vec![4, 61, 2, 0, 6, 0], [11, 0].repeat(62)].concat(),
+        [vec![4, 61, 2, 0, 10, 0], [11, 0].repeat(62)].concat(),
     ]
 }
 
@@ -152,6 +185,22 @@ pub fn asked(member: bool, count: usize) -> Result<Asked, Refusal> {
     Ok(Asked { member, count })
 }
 
+pub fn tried(set: u64, presents: usize) -> Result<Trial, Refusal> {
+    let set = CodeSet(set);
+    Ok(Trial { set, presents })
+}
+
+/// Starts the program with these answers.
+pub fn started(table: &[u8], answers: &[u8]) -> Result<Closed, Refusal> {
+    start(table, answers, &mut State::default(), &mut [0; SIGNALS])
+}
+
+/// All lists of so many answers, in the order in which absent comes first.
+pub fn lists(answers: usize) -> impl Iterator<Item = Vec<u8>> {
+    let list = move |number| (0..answers).rev().map(move |bit| (number >> bit & 1) as u8);
+    (0..1_u64 << answers).map(move |number| list(number).collect())
+}
+
 /// The state that holds these nodes, by bits that are set here.
 pub fn holding(nodes: &[usize]) -> State {
     let mut bytes = [0; STATE_BYTES];
@@ -159,6 +208,21 @@ pub fn holding(nodes: &[usize]) -> State {
         bytes[node / 8] |= 1 << (node % 8);
     }
     State::from_bytes(bytes)
+}
+
+/// The number of nodes of each statement.
+pub fn sizes_of(table: &[u8]) -> Vec<usize> {
+    let mut sizes = vec![];
+    for kind in table.iter().step_by(2) {
+        let children = match kind {
+            1..=4 => 0,
+            6 | 9 | 10 => 2,
+            _ => 1,
+        };
+        let size = (0..children).fold(0, |size, _| size + sizes[sizes.len() - 1 - size]);
+        sizes.push(1 + size);
+    }
+    sizes
 }
 
 /// The nodes of the table that are pauses.
@@ -190,6 +254,7 @@ pub fn assert_refused(table: &[u8], number: u32, node: usize) {
         for code in [1, u32::MAX] {
             assert_eq!(ask(table, asked, code), refused(number, node));
         }
+        assert_eq!(trial(table, asked), refused(number, node));
     }
     assert_eq!(lent, before);
     assert_eq!(
@@ -241,6 +306,23 @@ pub fn right_sequences(sequences: usize) -> Vec<u8> {
 /// The leaf with the given node after it so many times.
 pub fn around(leaf: [u8; 2], node: [u8; 2], times: usize) -> Vec<u8> {
     [leaf.to_vec(), node.repeat(times)].concat()
+}
+
+/// Nested tests. With the answers of the list they lead to the one leaf, with any others to the
+/// other.
+pub fn leading_to(list: &[u8], leaf: [u8; 2], other: [u8; 2]) -> Vec<u8> {
+    list.iter().rev().fold(leaf.to_vec(), |inner, answer| {
+        let (then, otherwise) = match answer {
+            0 => (&other[..], &inner[..]),
+            _ => (&inner[..], &other[..]),
+        };
+        [then, otherwise, &[6, 0]].concat()
+    })
+}
+
+/// A statement that ends with the list alone, and pauses with any other.
+pub fn ending_with(list: &[u8]) -> Vec<u8> {
+    leading_to(list, [1, 0], [2, 0])
 }
 
 /// 2,048 bytes: a loop around sequences of sequences, down to 512 pauses.

@@ -1,0 +1,7 @@
+pub mod Examples
+pub mod Lists
+pub mod Theorems
+pub mod Presents
+pub mod Runs
+pub mod Calling
+pub mod OfTrial

@@ -1,0 +1,100 @@
+-- The presents of a statement, counted over its nodes.
+use mathlib.Core.Path.{_≡_, refl, sym, ap, ap₂, _∙_}
+use mathlib.Core.List.{List, [], _∷_, _++_}
+use Prim.Native.Nat.{ℕ, zero, suc, _+_, _-_, _*_, _≤_, _<_}
+use native.Mathlib.Omega.{arith}
+use lib.ListN.{length, getD, take, drop, length-drop}
+use lib.Seq.{take-suc, getD-drop, take-at, drop-at}
+use Rattle.codes.specs.Codes.{bit}
+use Rattle.esterel.specs.Statement.{nothing, pause, emit, exit, signal, suspend, loop, trap, present, sequence, parallel, Stmt, leaf, one, two, kind, size, nodes}
+use Rattle.esterel.specs.Outcome.{statementAt}
+use Rattle.esterel.proofs.Sizes.{length-nodes}
+use Rattle.esterel.proofs.Subtrees.{subtrees}
+use Rattle.table.specs.Kinds.{kindOf, isPresent}
+use Rattle.table.specs.Program.{programOf}
+use Rattle.table.specs.Columns.{stmtAt, firstAt}
+use Rattle.table.specs.declared.Kind.{Kind}
+use Rattle.table.proofs.Bytes.{kind-byte}
+use Rattle.table.proofs.Said.{bit-small}
+use Rattle.table.proofs.Views.{spans}
+use Rattle.starts.specs.Ticks.{presents}
+use Rattle.trial.specs.Steps.{Countable}
+
+-- 1 for a present
+pub own : Stmt → ℕ
+own w = bit (isPresent (kindOf (kind w)))
+
+-- of a list of nodes
+pub tests : List Stmt → ℕ
+tests [] = 0
+tests (w ∷ ws) = own w + tests ws
+
+tests-append : (a b : List Stmt) → tests (a ++ b) ≡ tests a + tests b
+unfolding tests
+tests-append [] b = omega arith
+tests-append (w ∷ a) b = omega (arith, tests-append a b)
+
+tests-last : (a : List Stmt) (w : Stmt) → tests (a ++ (w ∷ [])) ≡ tests a + own w
+unfolding tests
+tests-last a w = omega (arith, tests-append a (w ∷ []))
+
+tests-nodes : (p : Stmt) → tests (nodes p) ≡ presents p
+unfolding tests own kindOf
+tests-nodes (leaf nothing) = refl
+tests-nodes (leaf pause) = refl
+tests-nodes (leaf (emit s)) = refl
+tests-nodes (leaf (exit level)) = refl
+tests-nodes (one (signal s) p) = tests-last (nodes p) (one (signal s) p) ∙ omega (arith, tests-nodes p)
+tests-nodes (one (suspend s) p) = tests-last (nodes p) (one (suspend s) p) ∙ omega (arith, tests-nodes p)
+tests-nodes (one loop p) = tests-last (nodes p) (one loop p) ∙ omega (arith, tests-nodes p)
+tests-nodes (one trap p) = tests-last (nodes p) (one trap p) ∙ omega (arith, tests-nodes p)
+tests-nodes (two (present s) p q) = tests-last (nodes p ++ nodes q) (two (present s) p q) ∙ omega (arith, tests-append (nodes p) (nodes q), tests-nodes p, tests-nodes q)
+tests-nodes (two sequence p q) = tests-last (nodes p ++ nodes q) (two sequence p q) ∙ omega (arith, tests-append (nodes p) (nodes q), tests-nodes p, tests-nodes q)
+tests-nodes (two parallel p q) = tests-last (nodes p ++ nodes q) (two parallel p q) ∙ omega (arith, tests-append (nodes p) (nodes q), tests-nodes p, tests-nodes q)
+
+own-few : (w : Stmt) → own w ≤ 1
+unfolding own
+own-few w = bit-small (isPresent (kindOf (kind w)))
+
+-- the nodes from the first of the statement at `node` up to i are counted
+pub record Counting (t : List ℕ) (node i count : ℕ) : Type 0 where
+  pub from : firstAt t node ≤ i
+  pub to : i ≤ node + 1
+  pub is : count ≡ tests (take (i - firstAt t node) (drop (firstAt t node) (nodes (programOf t))))
+  pub few : count ≤ i
+
+module _ {t sizes : List ℕ} {node : ℕ} (w : Countable t sizes node) where
+  -- the nodes of the statement are those from its first on
+  its-nodes : take (size (stmtAt t node)) (drop (firstAt t node) (nodes (programOf t))) ≡ nodes (stmtAt t node)
+  its-nodes =
+      let (pre, post, is, len) = subtrees .piece (programOf t) node (w .within) in
+      let first : length pre ≡ firstAt t node = omega arith in
+      ap (λ l. take (size (stmtAt t node)) (drop (firstAt t node) l)) is ∙ ap (take (size (stmtAt t node))) (drop-at pre (nodes (stmtAt t node) ++ post) (firstAt t node) first) ∙ take-at (nodes (stmtAt t node)) post (size (stmtAt t node)) (length-nodes (stmtAt t node))
+
+  pub counting-starts : (i : ℕ) → i ≡ firstAt t node → Counting t node i 0
+  unfolding tests
+  counting-starts i e =
+      let none : i - firstAt t node ≡ 0 = omega arith in
+      record { from = omega arith; to = omega (arith, spans t node (w .within)); is = sym (ap (λ n. tests (take n (drop (firstAt t node) (nodes (programOf t))))) none); few = omega arith }
+
+  module _ {i count : ℕ} (o : Counting t node i count) (h : i ≤ node) where
+    pub in-program : i < size (programOf t)
+    in-program = omega (arith, w .within)
+
+    pub counting-next : {k : Kind} {n : ℕ} → k ≡ kindOf (getD t (2 * i) 0) → n ≡ bit (isPresent k) → Counting t node (i + 1) (count + n)
+    unfolding own
+    counting-next {k} {n} ek en =
+        let f = firstAt t node in
+        let l = drop f (nodes (programOf t)) in
+        let inside : i - f < length l = omega (arith, o .from, in-program, length-drop f (nodes (programOf t)), length-nodes (programOf t)) in
+        let more : i + 1 - f ≡ suc (i - f) = omega (arith, o .from) in
+        let at : f + (i - f) ≡ i = omega (arith, o .from) in
+        let there : getD l (i - f) (leaf nothing) ≡ stmtAt t i = getD-drop f (nodes (programOf t)) (i - f) (leaf nothing) ∙ ap (statementAt (nodes (programOf t))) at in
+        let mine : n ≡ own (stmtAt t i) = en ∙ ap (λ j. bit (isPresent j)) (ek ∙ ap kindOf (kind-byte t (w .runnable .measured .readable) i in-program)) in
+        let whole : tests (take (i + 1 - f) l) ≡ tests (take (i - f) l) + own (stmtAt t i) = ap (λ j. tests (take j l)) more ∙ ap tests (take-suc l (i - f) (leaf nothing) inside) ∙ tests-last (take (i - f) l) (getD l (i - f) (leaf nothing)) ∙ ap (λ x. tests (take (i - f) l) + own x) there in
+        record { from = omega (arith, o .from); to = omega arith; is = ap₂ _+_ (o .is) mine ∙ sym whole; few = omega (arith, o .few, own-few (stmtAt t i)) }
+
+  pub counting-ends : {i count : ℕ} → Counting t node i count → node < i → count ≡ presents (stmtAt t node)
+  counting-ends {i} o h =
+      let all : i - firstAt t node ≡ size (stmtAt t node) = omega (arith, o .to, spans t node (w .within)) in
+      o .is ∙ ap (λ n. tests (take n (drop (firstAt t node) (nodes (programOf t))))) all ∙ ap tests its-nodes ∙ tests-nodes (stmtAt t node)

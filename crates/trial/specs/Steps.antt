@@ -1,0 +1,37 @@
+-- What the small functions answer.
+use Prim.Native.Nat.{ℕ, _≤_, _<_}
+use mathlib.Core.List.{List, []}
+use lib.ListN.{getD}
+use Rattle.codes.specs.Words.{singletonOf}
+use Rattle.esterel.specs.Statement.{size}
+use Rattle.table.specs.Program.{programOf}
+use Rattle.table.specs.Columns.{stmtAt}
+use Rattle.instant.specs.Run.{Runnable}
+use Rattle.instant.specs.declared.Ran.{Ran}
+use Rattle.instant.specs.declared.Ran.the-variants.{Closed, Starved}
+use Rattle.starts.specs.Ticks.{presents}
+use Rattle.trial.specs.Lists.{lists}
+use Rattle.trial.specs.Trials.{trialAnswers}
+
+-- a node of an accepted table
+pub record Countable (t sizes : List ℕ) (node : ℕ) : Type 0 where
+  pub runnable : Runnable t sizes
+  pub within : node < size (programOf t)
+
+-- that has no more presents than a list has answers
+pub record Triable (t sizes : List ℕ) (node : ℕ) : Type 0 where
+  pub countable : Countable t sizes node
+  pub few : presents (stmtAt t node) ≤ trialAnswers
+
+-- list number i of all lists of m answers, from 0 on
+abbrev pub listAt : (m i : ℕ) → List ℕ
+listAt m i = getD (lists m) i []
+
+-- the code of a run as a set, if it closed
+abbrev pub codeSet : Ran → ℕ
+codeSet (Closed code taken entries) = singletonOf code
+codeSet Starved = 0
+
+abbrev pub LowCode : Ran → Type 0
+LowCode (Closed code taken entries) = code < 64
+LowCode Starved = Unit {0}
