@@ -6,6 +6,7 @@ use native.Mathlib.Omega.{arith}
 use lib.ListN.{length, getD, take, drop, length-drop}
 use lib.Seq.{take-suc, getD-drop, take-at, drop-at}
 use Rattle.codes.specs.Codes.{bit}
+use Rattle.esterel.specs.Limits.{maxNodes}
 use Rattle.esterel.specs.Statement.{nothing, pause, emit, exit, signal, suspend, loop, trap, present, sequence, parallel, Stmt, leaf, one, two, kind, size, nodes}
 use Rattle.esterel.specs.Outcome.{statementAt}
 use Rattle.esterel.proofs.Sizes.{length-nodes}
@@ -14,8 +15,9 @@ use Rattle.table.specs.Kinds.{kindOf, isPresent}
 use Rattle.table.specs.Program.{programOf}
 use Rattle.table.specs.Columns.{stmtAt, firstAt}
 use Rattle.table.specs.declared.Kind.{Kind}
-use Rattle.table.proofs.Bytes.{kind-byte}
+use Rattle.table.proofs.Bytes.{kind-byte, table-length}
 use Rattle.table.proofs.Said.{bit-small}
+use Rattle.table.proofs.Surveying.{few-nodes as few-in}
 use Rattle.table.proofs.Views.{spans}
 use Rattle.starts.specs.Ticks.{presents}
 use Rattle.trial.specs.Steps.{Countable}
@@ -63,7 +65,7 @@ pub record Counting (t : List ℕ) (node i count : ℕ) : Type 0 where
   pub is : count ≡ tests (take (i - firstAt t node) (drop (firstAt t node) (nodes (programOf t))))
   pub few : count ≤ i
 
-module _ {t sizes : List ℕ} {node : ℕ} (w : Countable t sizes node) where
+module _ {t : List ℕ} {first node : ℕ} (w : Countable t first node) where
   -- the nodes of the statement are those from its first on
   its-nodes : take (size (stmtAt t node)) (drop (firstAt t node) (nodes (programOf t))) ≡ nodes (stmtAt t node)
   its-nodes =
@@ -71,15 +73,21 @@ module _ {t sizes : List ℕ} {node : ℕ} (w : Countable t sizes node) where
       let first : length pre ≡ firstAt t node = omega arith in
       ap (λ l. take (size (stmtAt t node)) (drop (firstAt t node) l)) is ∙ ap (take (size (stmtAt t node))) (drop-at pre (nodes (stmtAt t node) ++ post) (firstAt t node) first) ∙ take-at (nodes (stmtAt t node)) post (size (stmtAt t node)) (length-nodes (stmtAt t node))
 
-  pub counting-starts : (i : ℕ) → i ≡ firstAt t node → Counting t node i 0
+  pub few-nodes : node < maxNodes
+  few-nodes = omega (arith, w .within, few-in t (w .readable))
+
+  pub counting-starts : Counting t node first 0
   unfolding tests
-  counting-starts i e =
-      let none : i - firstAt t node ≡ 0 = omega arith in
-      record { from = omega arith; to = omega (arith, spans t node (w .within)); is = sym (ap (λ n. tests (take n (drop (firstAt t node) (nodes (programOf t))))) none); few = omega arith }
+  counting-starts =
+      let none : first - firstAt t node ≡ 0 = omega (arith, w .starts) in
+      record { from = omega (arith, w .starts); to = omega (arith, w .starts, spans t node (w .within)); is = sym (ap (λ n. tests (take n (drop (firstAt t node) (nodes (programOf t))))) none); few = omega arith }
 
   module _ {i count : ℕ} (o : Counting t node i count) (h : i ≤ node) where
-    pub in-program : i < size (programOf t)
+    in-program : i < size (programOf t)
     in-program = omega (arith, w .within)
+
+    pub in-table : 2 * i + 1 < length t
+    in-table = omega (arith, in-program, table-length t (w .readable))
 
     pub counting-next : {k : Kind} {n : ℕ} → k ≡ kindOf (getD t (2 * i) 0) → n ≡ bit (isPresent k) → Counting t node (i + 1) (count + n)
     unfolding own
@@ -90,7 +98,7 @@ module _ {t sizes : List ℕ} {node : ℕ} (w : Countable t sizes node) where
         let more : i + 1 - f ≡ suc (i - f) = omega (arith, o .from) in
         let at : f + (i - f) ≡ i = omega (arith, o .from) in
         let there : getD l (i - f) (leaf nothing) ≡ stmtAt t i = getD-drop f (nodes (programOf t)) (i - f) (leaf nothing) ∙ ap (statementAt (nodes (programOf t))) at in
-        let mine : n ≡ own (stmtAt t i) = en ∙ ap (λ j. bit (isPresent j)) (ek ∙ ap kindOf (kind-byte t (w .runnable .measured .readable) i in-program)) in
+        let mine : n ≡ own (stmtAt t i) = en ∙ ap (λ j. bit (isPresent j)) (ek ∙ ap kindOf (kind-byte t (w .readable) i in-program)) in
         let whole : tests (take (i + 1 - f) l) ≡ tests (take (i - f) l) + own (stmtAt t i) = ap (λ j. tests (take j l)) more ∙ ap tests (take-suc l (i - f) (leaf nothing) inside) ∙ tests-last (take (i - f) l) (getD l (i - f) (leaf nothing)) ∙ ap (λ x. tests (take (i - f) l) + own x) there in
         record { from = omega (arith, o .from); to = omega arith; is = ap₂ _+_ (o .is) mine ∙ sym whole; few = omega (arith, o .few, own-few (stmtAt t i)) }
 

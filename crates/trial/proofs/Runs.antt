@@ -31,7 +31,7 @@ use Rattle.instant.proofs.Nodes.{accepted}
 use Rattle.trial.specs.Lists.{lists}
 use Rattle.starts.proofs.Theorems.{takesFew}
 use Rattle.trial.specs.Trials.{codeOf, gathered, tried, trialAnswers}
-use Rattle.trial.specs.Steps.{Countable, Triable, listAt, codeSet, LowCode}
+use Rattle.trial.specs.Steps.{Triable, listAt, codeSet, LowCode}
 use Rattle.trial.proofs.Lists.{length-lists, list-long, list-at, half}
 
 -- ---- the answers
@@ -76,32 +76,32 @@ module _ {m number rest i : ℕ} {now : List ℕ} (l : number < 2 ^ m) (o : Writ
 pub low-of : {r : Ran} {code taken entries : ℕ} → r ≡ Closed code taken entries → LowCode r → code < 64
 low-of e l = rw e at l
 
-module _ {t sizes : List ℕ} {node : ℕ} (w : Countable t sizes node) where
+module _ {t sizes : List ℕ} {first node : ℕ} (w : Triable t sizes first node) where
   -- a code that a start gives is in K, and so below 64
   low : (answers : List ℕ) (k : ℕ) (u : List Entry) (h r : List ℕ) → start (firstAt t node) (stmtAt t node) answers ≡ closed k u h r → k < 64
   low answers k u h r e =
-      let x = lowCodes (programOf t) (accepted (w .runnable)) node (w .within) in
+      let x = lowCodes (programOf t) (accepted (w .runnable)) node (w .countable .within) in
       let in-k : startSet (stmtAt t node) k ≡ true = exactness (stmtAt t node) (firstAt t node) k .1 (answers, u, h, r, e) in
       omega (arith, x .fits, x .lowK k (rw (subtrees .placed (programOf t) node) in-k))
 
-  -- the sizes have the statement's own, and its nodes end at this one
-  pub its-first : {s : ℕ} → s ≡ getD sizes node 0 → (s ≤ node + 1) × (node + 1 - s ≡ firstAt t node)
-  its-first e = (omega (arith, w .runnable .measured .sized node (w .within), spans t node (w .within)), omega (arith, w .runnable .measured .sized node (w .within), spans t node (w .within)))
-
   pub few-places : size (programOf t) ≤ 1024
-  few-places = few-nodes t (w .runnable .measured .readable)
+  few-places = few-nodes t (w .countable .readable)
 
-  -- once its nodes' bytes are cleared, nothing is held beneath it
-  cleared : (held : List ℕ) (first : ℕ) → first ≡ firstAt t node → size (programOf t) ≤ length held → Clear t (sets held first (zeros (node + 1 - first))) node
+  -- its nodes' bytes, which are those from its first on
+  pub in-bytes : (first ≤ node + 1) × (node + 1 ≤ size (programOf t))
+  in-bytes = (omega (arith, w .countable .starts, spans t node (w .countable .within)), omega (arith, w .countable .within))
+
+  -- once they are cleared, nothing is held beneath it
+  cleared : (held : List ℕ) → size (programOf t) ≤ length held → Clear t (sets held first (zeros (node + 1 - first))) node
   unfolding Clear
-  cleared held first e long j lo hi =
-      sets-at held first (zeros (node + 1 - first)) j (omega arith) (omega (arith, length-replicate {A = ℕ} (node + 1 - first) 0)) (omega (arith, w .within))
-      ∙ getD-replicate (node + 1 - first) (j - first) 0 0 (omega arith)
+  cleared held long j lo hi =
+      sets-at held first (zeros (node + 1 - first)) j (omega (arith, w .countable .starts)) (omega (arith, length-replicate {A = ℕ} (node + 1 - first) 0)) (omega (arith, w .countable .within))
+      ∙ getD-replicate (node + 1 - first) (j - first) 0 0 (omega (arith, w .countable .starts))
 
-  pub run-call : (held : List ℕ) {answers held′ emissions : List ℕ} (first : ℕ) → first ≡ firstAt t node → held′ ≡ sets held first (zeros (node + 1 - first)) → size (programOf t) ≤ length held → 256 ≤ length emissions → Runnable t sizes × Room t answers held′ emissions node 0 × Clear t held′ node
-  run-call held first e cleans long wide =
+  pub run-call : (held : List ℕ) {answers held′ emissions : List ℕ} → held′ ≡ sets held first (zeros (node + 1 - first)) → size (programOf t) ≤ length held → signals ≤ length emissions → Runnable t sizes × Room t answers held′ emissions node 0 × Clear t held′ node
+  run-call held cleans long wide =
       let same : length (sets held first (zeros (node + 1 - first))) ≡ length held = length-sets held first (zeros (node + 1 - first)) in
-      (w .runnable, record { within = w .within; places = rw cleans (omega arith); marks = wide; lent = omega arith }, rw cleans (cleared held first e long))
+      (w .runnable, record { within = w .countable .within; places = rw cleans (omega arith); marks = wide; lent = omega arith }, rw cleans (cleared held long))
 
   pub run-low : {answers held held′ marks marks′ : List ℕ} (taken : ℕ) {r : Ran} → Started t answers held held′ marks marks′ node taken r → LowCode r
   run-low {answers} {held} {held′} {marks} {marks′} taken {r} o = go (start (firstAt t node) (stmtAt t node) (drop taken answers)) r o (low (drop taken answers))
@@ -117,13 +117,13 @@ module _ {t sizes : List ℕ} {node : ℕ} (w : Countable t sizes node) where
   pub run-returns : {answers held held′ marks marks′ : List ℕ} {s : ℕ} {r : Ran} → Started t answers held held′ marks marks′ node 0 r → s ≡ codeSet r → s ≡ word (codeOf (start (firstAt t node) (stmtAt t node) answers))
   run-returns o es = es ∙ set-is o
 
--- no run is starved of answers, so that the emissions are as long as they were
-pub run-kept : {t sizes : List ℕ} {node : ℕ} → Triable t sizes node → {answers held held′ marks marks′ : List ℕ} {r : Ran} → length answers ≡ trialAnswers → signals ≤ length marks → Started t answers held held′ marks marks′ node 0 r → signals ≤ length marks′
-run-kept {t} {node = node} w {answers} {held} {held′} {marks} {marks′} {r} many wide o = go (start (firstAt t node) (stmtAt t node) answers) refl r o
-  where
-    go : (x : Result) → start (firstAt t node) (stmtAt t node) answers ≡ x → (r : Ran) → RanIs t answers (firstAt t node) held held′ marks marks′ x r → signals ≤ length marks′
-    go x e (Closed code taken entries) o = omega (arith, em-length o)
-    go x e Starved starves = absurd (omega (arith, takesFew .starves (stmtAt t node) (firstAt t node) answers e, w .few))
+  -- no run is starved of answers, so that the emissions are as long as they were
+  pub run-kept : {answers held held′ marks marks′ : List ℕ} {r : Ran} → length answers ≡ trialAnswers → signals ≤ length marks → Started t answers held held′ marks marks′ node 0 r → signals ≤ length marks′
+  run-kept {answers} {held} {held′} {marks} {marks′} {r} many wide o = go (start (firstAt t node) (stmtAt t node) answers) refl r o
+    where
+      go : (x : Result) → start (firstAt t node) (stmtAt t node) answers ≡ x → (r : Ran) → RanIs t answers (firstAt t node) held held′ marks marks′ x r → signals ≤ length marks′
+      go x e (Closed code taken entries) o = omega (arith, em-length o)
+      go x e Starved starves = absurd (omega (arith, takesFew .starves (stmtAt t node) (firstAt t node) answers e, w .few))
 
 -- ---- all runs
 

@@ -1,11 +1,12 @@
 -- What the small functions answer.
 use Prim.Native.Nat.{ℕ, _≤_, _<_}
+use mathlib.Core.Path.{_≡_}
 use mathlib.Core.List.{List, []}
 use lib.ListN.{getD}
 use Rattle.codes.specs.Words.{singletonOf}
 use Rattle.esterel.specs.Statement.{size}
-use Rattle.table.specs.Program.{programOf}
-use Rattle.table.specs.Columns.{stmtAt}
+use Rattle.table.specs.Program.{programOf, Readable}
+use Rattle.table.specs.Columns.{stmtAt, firstAt}
 use Rattle.instant.specs.Run.{Runnable}
 use Rattle.instant.specs.declared.Ran.{Ran}
 use Rattle.instant.specs.declared.Ran.the-variants.{Closed, Starved}
@@ -13,14 +14,16 @@ use Rattle.starts.specs.Ticks.{presents}
 use Rattle.trial.specs.Lists.{lists}
 use Rattle.trial.specs.Trials.{trialAnswers}
 
--- a node of an accepted table
-pub record Countable (t sizes : List ℕ) (node : ℕ) : Type 0 where
-  pub runnable : Runnable t sizes
+-- a node of a table that was read, and the first node of its statement
+pub record Countable (t : List ℕ) (first node : ℕ) : Type 0 where
+  pub readable : Readable t
   pub within : node < size (programOf t)
+  pub starts : first ≡ firstAt t node
 
--- that has no more presents than a list has answers
-pub record Triable (t sizes : List ℕ) (node : ℕ) : Type 0 where
-  pub countable : Countable t sizes node
+-- of an accepted table, with no more presents than a list has answers
+pub record Triable (t sizes : List ℕ) (first node : ℕ) : Type 0 where
+  pub runnable : Runnable t sizes
+  pub countable : Countable t first node
   pub few : presents (stmtAt t node) ≤ trialAnswers
 
 -- list number i of all lists of m answers, from 0 on

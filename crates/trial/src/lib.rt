@@ -19,13 +19,13 @@ const ANSWERS: usize = 12;
 
 const LISTS: usize = 4096;
 
-// The number of presents in the statement at a node, its own included. Its nodes stand one after the other, and its own is the last.
-fn count_presents(table: &[u8], sizes: &[u16], node: usize) -> usize
-    requires { ⌜ Countable (now table) (now sizes) node ⌝ }
+// The number of presents in the statement at a node, its own included: its nodes are those from its first to this one.
+fn count_presents(table: &[u8], first: usize, node: usize) -> usize
+    requires { ⌜ Countable (now table) first node ⌝ }
     ensures { λ r. ⌜ r ≡ presents (stmtAt (now (table .entry)) node) ⌝ }
 {
     let mut count: usize = 0;
-    let mut i = node + 1 - table::size_at(sizes, node);
+    let mut i = first;
     while i <= node {
         count += table::is_present(table::kind_at(table, i)) as usize;
         i += 1;
@@ -70,23 +70,23 @@ fn try_list(
     table: &[u8],
     sizes: &[u16; esterel::MAX_NODES],
     answers: &[u8; ANSWERS],
+    first: usize,
     node: usize,
     held: &mut [u8; esterel::MAX_NODES],
     emissions: &mut [u8; esterel::SIGNALS],
 ) -> u64
-    requires { ⌜ Triable (now table) (now sizes) node × (signals ≤ length (now emissions)) ⌝ }
+    requires { ⌜ Triable (now table) (now sizes) first node × (signals ≤ length (now emissions)) ⌝ }
     ensures code { λ r. ⌜ r ≡ word (codeOf (start (firstAt (now (table .entry)) node) (stmtAt (now (table .entry)) node) (now (answers .entry)))) ⌝ }
     ensures kept { λ r. ⌜ signals ≤ length (now (emissions .exit)) ⌝ }
 {
-    let first = node + 1 - table::size_at(sizes, node);
     packing::clear(held, first, node + 1);
     let ran = instant::run::start_at(table, sizes, answers, node, 0, held, emissions);
     code_set(ran)
 }
 
 // And with every list, one after the other.
-fn gather(table: &[u8], sizes: &[u16; esterel::MAX_NODES], node: usize) -> u64
-    requires { ⌜ Triable (now table) (now sizes) node ⌝ }
+fn gather(table: &[u8], sizes: &[u16; esterel::MAX_NODES], first: usize, node: usize) -> u64
+    requires { ⌜ Triable (now table) (now sizes) first node ⌝ }
     ensures { λ r. ⌜ r ≡ word (tried trialAnswers (firstAt (now (table .entry)) node) (stmtAt (now (table .entry)) node)) ⌝ }
 {
     let mut held = [0u8; esterel::MAX_NODES];
@@ -95,7 +95,15 @@ fn gather(table: &[u8], sizes: &[u16; esterel::MAX_NODES], node: usize) -> u64
     let mut number: usize = 0;
     while number < LISTS {
         let answers = answers_of(number);
-        let own = try_list(table, sizes, &answers, node, &mut held, &mut emissions);
+        let own = try_list(
+            table,
+            sizes,
+            &answers,
+            first,
+            node,
+            &mut held,
+            &mut emissions,
+        );
         set = codes::union(set, own);
         number += 1;
     }
@@ -134,13 +142,14 @@ pub fn trial(table: &[u8], node: usize) -> Tried
             node: 0,
         };
     }
-    let presents = count_presents(table, &sizes, node);
+    let first = node + 1 - table::size_at(&sizes, node);
+    let presents = count_presents(table, first, node);
     if ANSWERS < presents {
         return Tried::Refused {
             number: 22,
             node: 0,
         };
     }
-    let set = gather(table, &sizes, node);
+    let set = gather(table, &sizes, first, node);
     Tried::Gathered { set, presents }
 }

@@ -14,10 +14,10 @@ use Rattle.trial.proofs.gather.Statement.{statement}
 use Rattle.trial.proofs.gather.Tie as tie
 
 abbrev Inv-loop : tie.InvT-loop
-Inv-loop table sizes node held₀ emissions₀ set₀ number₀ held emissions set number = (signals ≤ length emissions) × (set ≡ gatheredTo (start (firstAt table node) (stmtAt table node)) trialAnswers number)
+Inv-loop table sizes first node held₀ emissions₀ set₀ number₀ held emissions set number = (signals ≤ length emissions) × (set ≡ gatheredTo (start (firstAt table node) (stmtAt table node)) trialAnswers number)
 
 abbrev μ-loop : tie.MeasureT-loop
-μ-loop table sizes node held₀ emissions₀ set₀ number₀ held emissions set number = 4096 - number
+μ-loop table sizes first node held₀ emissions₀ set₀ number₀ held emissions set number = 4096 - number
 
 loop-holds : tie.Need-loop-holds Inv-loop μ-loop
 loop-holds c = (omega arith, gathered-starts (start (firstAt (now (c .before .args .table)) (c .before .args .node)) (stmtAt (now (c .before .args .table)) (c .before .args .node))) trialAnswers)

@@ -1,7 +1,7 @@
 -- `trial::trial` meets its contract: one law for each return.
 use borrow.Author.Needs.{needs}
 use native.Mathlib.Omega.{arith}
-use Rattle.trial.proofs.Calling.{table-refused, outside, countable, too-many, triable, found}
+use Rattle.trial.proofs.Calling.{table-refused, outside, has-size, size-fits, first-is, countable, triable, too-many, found}
 use Rattle.trial.proofs.trial.Statement.{statement}
 use Rattle.trial.proofs.trial.Tie as tie
 
@@ -26,22 +26,42 @@ returns c = table-refused (c .before .before .before .before .check-sized .ensur
 returns-2 : tie.Need-returns-2
 returns-2 c = outside (c .before .before .before .before .check-sized .ensures) (c .before .before .before .before .before .before .before .args .node) (c .before .enum-told .given .1) (c .if1 .taken)
 
-slice-aggregate-count-presents : tie.Need-slice-aggregate-count-presents
-slice-aggregate-count-presents c = search needs
+-- once check 21 has passed
+abbrev Within : Type 0
+Within = tie.Else1
+
+abbrev start : Within → tie.Start
+start p = p .before .before .before .before .before .before .before
+
+add-first : tie.Need-add-first
+add-first c = let p = c in omega (arith, has-size (p .before .before .before .before .check-sized .ensures) (start p .args .node) (p .before .enum-told .given .1) (p .if1 .left) .1)
+
+slice-aggregate-size-at : tie.Need-slice-aggregate-size-at
+slice-aggregate-size-at c = search needs
+
+size-at-requires : tie.Need-size-at-requires
+size-at-requires c κs = let p = c .before in has-size (p .before .before .before .before .check-sized .ensures) (start p .args .node) (p .before .enum-told .given .1) (p .if1 .left) .0
+
+sub-first : tie.Need-sub-first
+sub-first c = let p = c .before .before in size-fits (p .before .before .before .before .check-sized .ensures) (start p .args .node) (p .before .enum-told .given .1) (p .if1 .left) (c .size-at .ensures)
 
 count-presents-requires : tie.Need-count-presents-requires
-count-presents-requires c κs = countable (c .before .before .before .before .before .check-sized .ensures) (c .before .before .before .before .before .before .before .before .args .node) (c .before .before .enum-told .given .1) (c .before .if1 .left)
+count-presents-requires c κs = let p = c .before .before in countable (p .before .before .before .before .check-sized .ensures) (start p .args .node) (p .before .enum-told .given .1) (p .if1 .left) (omega (arith, first-is (p .before .before .before .before .check-sized .ensures) (start p .args .node) (p .before .enum-told .given .1) (p .if1 .left) (c .size-at .ensures)))
 
 returns-3 : tie.Need-returns-3
-returns-3 c = too-many (c .before .before .before .before .before .before .before .check-sized .ensures) (c .before .before .before .before .before .before .before .before .before .before .args .node) (c .before .before .before .before .enum-told .given .1) (c .before .before .before .if1 .left) (c .before .count-presents .ensures) (c .if2 .taken)
+returns-3 c = let p = c .before .before .before .before in too-many (p .before .before .before .before .check-sized .ensures) (start p .args .node) (p .before .enum-told .given .1) (p .if1 .left) (c .before .count-presents .ensures) (c .if2 .taken)
 
 gather-requires : tie.Need-gather-requires
-gather-requires c κs = triable (c .before .before .before .before .before .before .before .before .check-sized .ensures) (c .before .before .before .before .before .before .before .before .before .before .before .args .node) (c .before .before .before .before .before .enum-told .given .1) (c .before .before .before .before .if1 .left) (c .before .before .count-presents .ensures) (c .before .if2 .left)
+gather-requires c κs =
+    let p = c .before .before .before .before .before in
+    triable (p .before .before .before .before .check-sized .ensures) (start p .args .node) (p .before .enum-told .given .1) (p .if1 .left) (omega (arith, first-is (p .before .before .before .before .check-sized .ensures) (start p .args .node) (p .before .enum-told .given .1) (p .if1 .left) (c .before .before .before .size-at .ensures))) (c .before .before .count-presents .ensures) (c .before .if2 .left)
 
 returns-4 : tie.Need-returns-4
-returns-4 c = found (c .before .before .before .before .before .before .before .before .before .check-sized .ensures) (c .before .before .before .before .before .before .before .before .before .before .before .before .args .node) (c .before .before .before .before .before .before .enum-told .given .1) (c .before .before .before .before .before .if1 .left) (c .before .before .before .count-presents .ensures) (c .before .before .if2 .left) (c .gather .ensures)
+returns-4 c =
+    let p = c .before .before .before .before .before .before in
+    found (p .before .before .before .before .check-sized .ensures) (start p .args .node) (p .before .enum-told .given .1) (p .if1 .left) (c .before .before .before .count-presents .ensures) (c .before .before .if2 .left) (c .gather .ensures)
 
 pub trial-spec : {M : Type 1} → statement M
 trial-spec =
     tie.close
-    (tie.spec slice-aggregate-check-sized check-sized-requires enum-told enum-told-2 refused-requires returns returns-2 slice-aggregate-count-presents count-presents-requires returns-3 gather-requires returns-4)
+    (tie.spec slice-aggregate-check-sized check-sized-requires enum-told enum-told-2 refused-requires returns returns-2 add-first slice-aggregate-size-at size-at-requires sub-first count-presents-requires returns-3 gather-requires returns-4)
