@@ -2,11 +2,11 @@
 """Runs the theory's definitions on outside vectors and on edges of documents 01 and 02, and reports each difference.
 
     python3 tools/run_definitions.py [--vectors DIR] [--listings N] [--instants N] [--texts N] [--dialect N] [--ticks N] [--runs N]
-                                     [--blocks N] [--ties N] [--first N] [--questions N] [--seed S]
+                                     [--blocks N] [--ties N] [--first N] [--questions N] [--trials N] [--seed S]
 
 Each vector becomes a theorem `what the definitions give ≡ what is expected`, proved by refl, so that the checker has to
 compute the definitions. All is written to a temporary repository, which has copies of crates/codes, crates/esterel,
-crates/grammar, crates/starts, crates/blocks, crates/instant, crates/tied and crates/question, and of what they stand on. The theorem listing17 is the vector
+crates/grammar, crates/starts, crates/blocks, crates/instant, crates/tied, crates/question and crates/trial, and of what they stand on. The theorem listing17 is the vector
 in line 17 of the listings; edges are numbered as they stand below.
 
 A text's derivation cannot be computed: its tree is the one that the machine of crates/grammar finds, of which it is proved
@@ -18,17 +18,18 @@ Of a tick that is shown, the rules are run with its list (tick17); where table a
 it are run too, in their order, until one leads there (first17). Whether a list leads there is asked by a test here, which is
 proved to say what `Leads` does; so is the test whether a node stands at two places of a trail, which tells of each instant of
 a run (run17) what is entered twice. The greatest number of entries of a small program (most17) is found by starting it with all
-lists of as many answers as it has tests, and no start takes more, which crates/starts proves; larger ones are passed over. Of the 65,536 editions of a file of blocks (block17) only those that its blocks name are
+lists of as many answers as it has tests, and no start takes more, which crates/starts proves; larger ones are passed over. So is the set of a node that is tried (trial17): crates/trial proves that
+12 answers gather the same codes as so many. Of the 65,536 editions of a file of blocks (block17) only those that its blocks name are
 tried, from the highest down: no other is whole, which crates/blocks proves.
 """
 import argparse, collections, json, os, random, re, shutil, subprocess, sys, tempfile, time
 from pathlib import Path
 
 ROOT = Path(__file__).resolve().parent.parent
-COPIED = ("codes", "esterel", "grammar", "starts", "blocks", "table", "analysis", "packing", "instant", "tied", "question")
+COPIED = ("codes", "esterel", "grammar", "starts", "blocks", "table", "analysis", "packing", "instant", "tied", "question", "trial")
 CRATES_TXT = "codes:\nesterel: codes\ngrammar: esterel\nstarts: esterel codes\nblocks: esterel codes bytes\n" + (
-    "table: esterel\nanalysis: table esterel codes\npacking: table esterel codes\ninstant: packing analysis table esterel codes\ntied: analysis table esterel codes\nquestion: analysis table esterel codes\n") + "".join(
-    f"{name}: question tied instant packing analysis table blocks starts grammar esterel codes\n" for name in ("control", "vectors"))
+    "table: esterel\nanalysis: table esterel codes\npacking: table esterel codes\ninstant: packing analysis table esterel codes\ntied: analysis table esterel codes\nquestion: analysis table esterel codes\ntrial: starts instant packing analysis table esterel codes\n") + "".join(
+    f"{name}: trial question tied instant packing analysis table blocks starts grammar esterel codes\n" for name in ("control", "vectors"))
 
 # ---- the theorems in antt
 
@@ -43,7 +44,7 @@ use mathlib.Core.Option.{Option, none, some}
 use lib.ListN.{length, take, drop}
 use lib.Dec.{T, eqb, ltb, eqb→eq, eqb-refl}
 use Rattle.esterel.specs.Limits.{signals as maxSignals}
-use Rattle.esterel.specs.Codes.{bit}
+use Rattle.esterel.specs.Codes.{bit, word}
 use Rattle.esterel.specs.Statement.{Stmt, size, nodes, loopDepth}
 use Rattle.esterel.specs.Table.{Verdict, passed, refused, read, checkLength, postfix}
 use Rattle.esterel.specs.Checks.{verdict, listing, Line, planned}
@@ -65,6 +66,9 @@ use Rattle.tied.specs.Calls as N
 use Rattle.question.specs.Calls as Q
 use Rattle.question.specs.declared.Asked.{Asked}
 use Rattle.question.specs.declared.Asked.the-variants.{Known, Refused}
+use Rattle.trial.specs.Trials.{tried}
+use Rattle.trial.specs.Calls as T
+use Rattle.trial.specs.declared.Tried as TriedBy
 use Rattle.instant.specs.Calls as I
 
 pub data Shown : Type 0 where
@@ -74,6 +78,7 @@ pub data Shown : Type 0 where
   tick : (node : ℕ) (answers : List ℕ) → Shown
   made : (entries : ℕ) → Shown
   known : (answer count : ℕ) → Shown
+  gathered : (set presents : ℕ) → Shown
   went : (marks : List ℕ) (twice : List (List ℕ)) → Shown
   refusal : (number node : ℕ) → Shown
   refusedAt : (number place : ℕ) → Shown
@@ -316,6 +321,18 @@ askedAs (Refused number node) = refusal number node
 
 abbrev pub askOf : (bytes : List ℕ) (node code : ℕ) → Shown
 askOf bytes node code = askedAs (Q.askedOf (verdict bytes) node code)
+
+-- F-13: a refusal by the contract, and a set by its definition with as many answers as there are presents
+abbrev pub gatheredAt : (first : ℕ) → Stmt → Shown
+gatheredAt first q = gathered (word (tried (presents q) first q)) (presents q)
+
+abbrev pub triedAs : Verdict → ℕ → TriedBy.Tried → Shown
+triedAs v node (TriedBy.the-variants.Refused number at) = refusal number at
+triedAs (passed p) node (TriedBy.the-variants.Gathered set presents) = gatheredAt (suc node - size (statementAt (nodes p) node)) (statementAt (nodes p) node)
+triedAs (refused number at) node (TriedBy.the-variants.Gathered set presents) = noList
+
+abbrev pub trialOf : (bytes : List ℕ) (node : ℕ) → Shown
+trialOf bytes node = triedAs (verdict bytes) node (T.triedOf (verdict bytes) node)
 """
 HEAD = """
 use mathlib.Core.Path.{_≡_, refl}
@@ -324,7 +341,7 @@ use Rattle.esterel.specs.Codes.{word}
 use Rattle.esterel.specs.Checks.{verdict, line}
 use Rattle.esterel.specs.Instant.{started, resumed}
 use Rattle.grammar.specs.Tokens.{tokens, classOf, beginnings, byteOf}
-use Rattle.CRATE.proofs.Calls.{shown, figures, call, readText, readPlace, tickWith, firstTick, mostBy, runOf, fetchOf, partOf, narrowOf, askOf, ok, ran, written, tick, made, known, went, refusal, refusedAt}
+use Rattle.CRATE.proofs.Calls.{shown, figures, call, readText, readPlace, tickWith, firstTick, mostBy, runOf, fetchOf, partOf, narrowOf, askOf, trialOf, ok, ran, written, tick, made, known, gathered, went, refusal, refusedAt}
 use Rattle.blocks.specs.Block.{word as wordOf, firstCheck, secondCheck, checksMatch, lengthFits, zeroFilled, good}
 use Rattle.blocks.specs.Editions.{fileFits, blocksIn, blockAt, isFor, counted, partsOf, completes, whole, tableOf}
 use Rattle.blocks.specs.Fetching.{handed}
@@ -332,12 +349,15 @@ use Rattle.analysis.specs.Analysis.{checked}
 use Rattle.tied.specs.Narrowed.{wordsOf}
 use Rattle.tied.specs.Calls.{setsAfter}
 use Rattle.question.specs.Calls.{askedOf}
+use Rattle.trial.specs.Lists.{extended, lists}
+use Rattle.trial.specs.Trials.{gathered as gatheredBy, tried}
+use Rattle.trial.specs.Calls.{triedOf}
 use Rattle.codes.specs.Codes.{wordBelow}
 use Rattle.codes.specs.Words.{_∋_}
 use Rattle.packing.specs.Packing.{heldBit, column, unpack, bitsFrom, byteOf as packedByte, pack, isClearFrom}
 use Rattle.instant.specs.Calls.{startCall, resumeCall}
 """
-UNFOLDING = "unfolding word tokens classOf beginnings byteOf wordOf firstCheck secondCheck checksMatch lengthFits zeroFilled good fileFits blocksIn blockAt isFor counted partsOf completes whole tableOf handed checked wordsOf setsAfter askedOf wordBelow _∋_ heldBit column unpack bitsFrom packedByte pack isClearFrom startCall resumeCall"
+UNFOLDING = "unfolding word tokens classOf beginnings byteOf wordOf firstCheck secondCheck checksMatch lengthFits zeroFilled good fileFits blocksIn blockAt isFor counted partsOf completes whole tableOf handed checked wordsOf setsAfter askedOf extended lists gatheredBy tried triedOf wordBelow _∋_ heldBit column unpack bitsFrom packedByte pack isClearFrom startCall resumeCall"
 Theorem = collections.namedtuple("Theorem", "name left right")  # left: a call of the definitions; right: what is expected
 
 refused = "refusal {} {}".format  # number, node
@@ -457,6 +477,31 @@ def ask_of(table, node, code):
 def question_theorem(at, vector):
     right = refused(vector["refused"], vector["at"]) if "refused" in vector else f"known {vector['answer']} {vector['count']}"
     return Theorem(f"question{at}", ask_of(bytes.fromhex(vector["table"]), vector["node"], vector["code"]), right)
+
+def trial_of(table, node):
+    return f"trialOf {a_list(table)} {node}"
+
+def trial_theorem(at, vector):
+    table, node = bytes.fromhex(vector["table"]), vector["node"]
+    right = refused(vector["refused"], vector["at"]) if "refused" in vector else f"gathered {int(vector['set'], 16)} {nodes_at(table, node).count(6)}"
+    return Theorem(f"trial{at}", trial_of(table, node), right)
+
+CHILDREN = {5: 1, 6: 2, 7: 1, 8: 1, 9: 2, 10: 2, 11: 1}
+RUNS_TRIED = 100000  # for each of 64 codes every list is run, over all nodes of the statement
+
+def nodes_at(table, node):  # the kinds of the nodes of the statement at a node, from its own down
+    open_places, at = 1, node
+    while open_places:
+        open_places += CHILDREN.get(table[2 * at], 0) - 1
+        at -= 1
+    return list(table[2 * at + 2 : 2 * node + 2 : 2])
+
+def is_tried_whole(line):
+    vector = json.loads(line)
+    if "refused" in vector:
+        return True
+    kinds = nodes_at(bytes.fromhex(vector["table"]), vector["node"])
+    return 64 * 2 ** kinds.count(6) * len(kinds) <= RUNS_TRIED
 
 def vectors(file, wanted, chance, theorem, taken=lambda line: True):
     numbered = [(at, line) for at, line in enumerate(file.read_text().splitlines(), 1) if taken(line)]
@@ -654,6 +699,25 @@ def question_edges():
     for *asked, right in QUESTIONS:
         yield ask_of(*asked), right if isinstance(right, str) else "known {} {}".format(*right)
 
+def nested(count):  # presents within each other: only with present each time does it pause
+    return [2, 0] + [1, 0, 6, 5] * count
+
+TRIALS = [  # the node follows the table; what is expected was worked out by hand from F-13 of document 02
+    # the presents in the node, its own included, and no suspend; those of the rest of the table make no difference
+    (CHOICE, 2, (3, 1)), (CHOICE, 0, (1, 0)), (CHOICE, 1, (2, 0)), (CHOICE + [7, 5], 3, (3, 1)), ([2, 0, 7, 5, 7, 5, 7, 5], 3, (2, 0)),
+    (nested(3), 6, (3, 3)), (nested(13), 6, (3, 3)), (nested(13), 25, (1, 0)), (nested(14) + nested(1) + [9, 0], 31, (3, 1)),
+    # 22 for more than 12; it comes after 21 and the table's own checks
+    (nested(13), 26, refused(22, 0)), (nested(13), 27, refused(21, 0)), (nested(40), 26, refused(22, 0)), (nested(13) + [8, 0], 26, refused(11, 27)),
+    (nested(6) + nested(7) + [9, 0], 28, refused(22, 0)), (nested(6) + nested(7) + [10, 0], 28, refused(22, 0)), (nested(13) + [7, 1], 27, refused(22, 0)),
+    (W1, 4, refused(21, 0)), (W1, 2 ** 64 - 1, refused(21, 0)), ([], 0, refused(2, 0)), ([12, 0], 5, refused(4, 0)),
+    # exits: beside each other, caught and handed on
+    (ENDS, 4, (6, 1)), (ENDS, 5, (3, 1)), (MOST_TRAPS, 0, (2 ** 63, 0)), (MOST_TRAPS, 61, (4, 0)), (MOST_TRAPS, 62, (1, 0)), (W1, 3, (2, 0)),
+]
+
+def trial_edges():
+    for *lent, right in TRIALS:
+        yield trial_of(*lent), right if isinstance(right, str) else "gathered {} {}".format(*right)
+
 STAYS = [1, 0, 2, 0, 9, 0, 1, 0, 6, 1]  # present 1 then nothing; pause else nothing: the most entries are with code 1
 MOST = {  # what is expected was worked out by hand from the rules of document 01
     1: [[1, 0], [2, 0], [3, 9]],
@@ -672,7 +736,7 @@ def edge_theorems():
     edges += [(f"firstTick {a_list(table)} {len(key)}", f"tick {key[0]} {a_list(key[1:])}") for key, tables in TICKS.items() for table in tables]
     edges += [(most_of(table), f"made {most}") for most, tables in MOST.items() for table in tables]
     edges += [(ran_through(*lent), entered_twice(*right)) for *lent, right in ((table, steps, right) for table, steps, *right in RUNS)]
-    edges += [*block_edges(), *tied_edges(), *question_edges()]
+    edges += [*block_edges(), *tied_edges(), *question_edges(), *trial_edges()]
     return [Theorem(f"edge{at}", *edge) for at, edge in enumerate(edges, 1)]
 
 TEXTS = [  # what is expected was worked out by hand from F-1 of document 02
@@ -730,6 +794,7 @@ def control_theorems():
     edges += [(part_of(SHORT_BLOCK, 7, 2, 1), "written " + a_list(right)) for right in ([9], [])]
     edges += [(narrow_of(CHOICE, tied((5, 2)), [9] * 4), right) for right in ("written " + a_list([1, 2, 3, 9]), "written " + a_list([1, 2, 1]), refused(19, 0))]
     edges += [(ask_of(CHOICE, 2, 0), right) for right in ("known 1 3", "known 0 2", refused(21, 0))]
+    edges += [(trial_of(CHOICE, 2), right) for right in ("gathered 2 1", "gathered 3 0", refused(22, 0))]
     return [Theorem(f"control{at}", *edge) for at, edge in enumerate(edges)]
 
 # ---- the temporary repository
@@ -796,13 +861,14 @@ def run(repo, args):
     ties = vectors(args.vectors / "tied_open.jsonl", args.ties, chance, tied_theorem)
     first = vectors(args.vectors / "worst_open.jsonl", args.first, chance, most_theorem, is_tried)
     questions = vectors(args.vectors / "query_open.jsonl", args.questions, chance, question_theorem)
+    trials = vectors(args.vectors / "trial_open.jsonl", args.trials, chance, trial_theorem, is_tried_whole)
     edges, controls = edge_theorems(), control_theorems()
-    theorems = {x.name: x for x in edges + listings + instants + texts + dialect + ticks + runs + blocks + ties + first + questions}
+    theorems = {x.name: x for x in edges + listings + instants + texts + dialect + ticks + runs + blocks + ties + first + questions + trials}
     copy_crates(repo, args.whole)
     write_crate(repo, "control", controls, 1)
     write_crate(repo, "vectors", list(theorems.values()), 250)
     (repo / "crates.txt").write_text(CRATES_TXT)
-    for what, some in (("listings", listings), ("instants", instants), ("texts", texts), ("dialect", dialect), ("ticks", ticks), ("runs", runs), ("blocks", blocks), ("ties", ties), ("first ticks", first), ("questions", questions), ("edges", edges)):
+    for what, some in (("listings", listings), ("instants", instants), ("texts", texts), ("dialect", dialect), ("ticks", ticks), ("runs", runs), ("blocks", blocks), ("ties", ties), ("first ticks", first), ("questions", questions), ("trials", trials), ("edges", edges)):
         tally(what, some)
 
     proved, refusals, said = check(repo, "control")
@@ -832,6 +898,7 @@ def main():
     parser.add_argument("--ties", type=int, metavar="N", help="likewise")
     parser.add_argument("--first", type=int, metavar="N", help="likewise, of those that are tried")
     parser.add_argument("--questions", type=int, metavar="N", help="likewise")
+    parser.add_argument("--trials", type=int, metavar="N", help="likewise, of those that are tried")
     parser.add_argument("--seed", type=int, default=random.randrange(10**6), metavar="S")
     parser.add_argument("--keep", action="store_true", help="keep the temporary repository")
     parser.add_argument("--whole", action="store_true", help="prove the copied crates whole first; else their definitions and types alone are read")

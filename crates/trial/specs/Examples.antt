@@ -7,7 +7,7 @@ use Rattle.esterel.specs.Statement.{nothing, pause, emit, exit, signal, suspend
 use Rattle.esterel.specs.Sets.{startSet}
 use Rattle.starts.specs.Ticks.{presents}
 use Rattle.trial.specs.Lists.{lists}
-use Rattle.trial.specs.Trials.{tried}
+use Rattle.trial.specs.Trials.{tried, trialAnswers}
 
 -- present 5 then nothing else pause end
 abbrev pub fork : Stmt
@@ -22,7 +22,7 @@ nested (suc n) = two (present 5) (nested n) (leaf nothing)
 abbrev pub waits : Stmt
 waits = one (suspend 4) (two sequence (leaf pause) fork)
 
--- trap [ fork; exit || exit of an outer trap, or nothing ] end
+-- trap [ fork; exit 0 || present 6 then exit 1 else nothing end ] end
 abbrev pub exits : Stmt
 exits = one trap (two parallel (two sequence fork (leaf (exit 0))) (two (present 6) (leaf (exit 1)) (leaf nothing)))
 
@@ -43,6 +43,9 @@ pub record Examples : Type 0 where
   pub enough : tried 3 0 (nested 3) 1 ≡ true
   pub tooFew : tried 2 0 (nested 3) 1 ≡ false
   pub inK : startSet (nested 3) 1 ≡ true
+  -- so it is with the 4,096 lists of 12 answers
+  pub twelve : tried trialAnswers 0 (nested 12) 1 ≡ true
+  pub thirteen : tried trialAnswers 0 (nested 13) 1 ≡ false
   -- the exit is caught, beside an exit that is not, and beside a pause
   pub exitCaught : tried 2 0 exits 0 ≡ true
   pub exitPauses : tried 2 0 exits 1 ≡ true
