@@ -191,7 +191,7 @@
  * bavzhrono_tick, bavzhrono_first_tick_answers: up to about 520 KiB
  * bavzhrono_first_tick: up to about 40 KiB
  * bavzhrono_ask: up to about 45 KiB
- * bavzhrono_trial: as bavzhrono_start, up to about 110 KiB
+ * bavzhrono_trial: up to about 70 KiB
  */
 #ifndef BAVZHRONO_H
 #define BAVZHRONO_H

@@ -1,7 +1,6 @@
 -- The theorem `OfTrial` of specs/Theorems.antt: the contract of `trial` joined with the theory.
-use mathlib.Core.Path.{_≡_, refl, sym, ap, ap₂, subst, _∙_}
+use mathlib.Core.Path.{_≡_, refl, sym, ap, subst, _∙_}
 use mathlib.Core.Bool.{Bool, true, false, cond}
-use mathlib.Core.Logic.{_↔_}
 use mathlib.Core.List.{List}
 use Prim.Native.Nat.{ℕ, suc, _-_, _≤_, _<_}
 use native.Mathlib.Omega.{arith}
@@ -9,7 +8,6 @@ use lib.Dec.{leb, ltb}
 use lib.ListN.{getD}
 use borrow.Author.Tests.{lt-ltb, le-ltb, le-leb, lt-leb, ltb-true, ltb-false, leb-true, leb-false}
 use Rattle.codes.specs.Codes.{word}
-use Rattle.codes.specs.Words.{_∋_}
 use Rattle.codes.proofs.Laws.{word-same}
 use Rattle.codes.proofs.Theorems.{onSets}
 use Rattle.esterel.specs.Codes.{Represents}
@@ -19,7 +17,6 @@ use Rattle.esterel.specs.Sets.{startSet}
 use Rattle.esterel.specs.Table.{Verdict, passed, refused}
 use Rattle.esterel.specs.Checks.{verdict}
 use Rattle.esterel.specs.Outcome.{statementAt}
-use Rattle.esterel.specs.Theorems.{Accepted}
 use Rattle.esterel.proofs.Accepted.{acceptance}
 use Rattle.esterel.proofs.Caught.{lowCodes}
 use Rattle.esterel.proofs.Refusals.{refusals, one-program}
@@ -30,7 +27,7 @@ use Rattle.analysis.proofs.Theorems.{demand2OfCall}
 use Rattle.starts.specs.Ticks.{presents}
 use Rattle.trial.specs.Trials.{tried, trialAnswers}
 use Rattle.trial.specs.Calls.{trialAt, triedOf}
-use Rattle.trial.specs.Theorems.{Gives, Refusal, ofTable, outside, tooMany, Found, OfTrial}
+use Rattle.trial.specs.Theorems.{Refusal, ofTable, outside, tooMany, Found, OfTrial}
 use Rattle.trial.specs.declared.Tried.{Tried}
 use Rattle.trial.specs.declared.Tried.the-variants.{Gathered, Refused}
 use Rattle.trial.proofs.Theorems.{trials}

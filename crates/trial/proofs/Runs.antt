@@ -2,7 +2,7 @@
 use mathlib.Core.Path.{_≡_, refl, sym, ap, ap₂, _∙_}
 use mathlib.Core.Bool.{true, _||_, or-false, or-assoc}
 use mathlib.Core.List.{List, [], _∷_, _++_, append-nil}
-use Prim.Native.Nat.{ℕ, zero, suc, _+_, _-_, _/_, _%_, _^_, _≤_, _<_}
+use Prim.Native.Nat.{ℕ, suc, _+_, _-_, _/_, _%_, _^_, _≤_, _<_}
 use native.Mathlib.Numerals.{add-one}
 use native.Mathlib.Omega.{arith}
 use lib.ListN.{length, getD, set, take, drop, getD-replicate, length-replicate, drop-of-length-le}
@@ -10,7 +10,7 @@ use lib.Seq.{drop-cons, take-suc, take-all, length-sets, sets}
 use Rattle.codes.specs.Codes.{word}
 use Rattle.codes.specs.Words.{unionOf}
 use Rattle.codes.proofs.Laws.{singleton-word, union-word, word-empty, word-same}
-use Rattle.esterel.specs.Codes.{empty, union}
+use Rattle.esterel.specs.Codes.{empty}
 use Rattle.esterel.specs.Limits.{signals}
 use Rattle.esterel.specs.Statement.{Stmt, size}
 use Rattle.esterel.specs.Sets.{startSet}

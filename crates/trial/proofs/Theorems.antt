@@ -1,6 +1,6 @@
 -- The theorem `Trials` of specs/Theorems.antt.
-use mathlib.Core.Path.{_≡_, refl, sym, ap, _∙_}
-use mathlib.Core.Bool.{Bool, true, false, _||_}
+use mathlib.Core.Path.{_≡_, refl, ap, _∙_}
+use mathlib.Core.Bool.{true, false}
 use mathlib.Core.Logic.{_⊎_, inl, inr}
 use mathlib.Core.List.{List, [], _∷_, _++_, append-nil}
 use Prim.Native.Nat.{ℕ, zero, suc, _+_, _-_, _^_, _≤_, _<_}
@@ -8,7 +8,7 @@ use native.Mathlib.Omega.{arith}
 use lib.ListN.{length, getD, length-append, length-replicate}
 use Rattle.codes.proofs.Bools.{either, inl-true, inr-true, cannot-pass, same-test}
 use Rattle.codes.proofs.Members.{only-in, only-out}
-use Rattle.esterel.specs.Statement.{nothing, pause, present, Stmt, leaf, two, size}
+use Rattle.esterel.specs.Statement.{Stmt, size}
 use Rattle.esterel.specs.Sets.{startSet}
 use Rattle.esterel.specs.Instant.{started, Entry, Result, closed, starved, stuck, zeros, enter, thenZeros, start}
 use Rattle.esterel.proofs.Theorems.{exactness, leftOver}

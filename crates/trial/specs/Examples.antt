@@ -3,7 +3,7 @@ use Prim.Native.Nat.{ℕ, zero, suc}
 use mathlib.Core.Path.{_≡_}
 use mathlib.Core.Bool.{true, false}
 use mathlib.Core.List.{[], _∷_}
-use Rattle.esterel.specs.Statement.{nothing, pause, emit, exit, signal, suspend, loop, trap, present, sequence, parallel, Stmt, leaf, one, two}
+use Rattle.esterel.specs.Statement.{nothing, pause, exit, suspend, trap, present, sequence, parallel, Stmt, leaf, one, two}
 use Rattle.esterel.specs.Sets.{startSet}
 use Rattle.starts.specs.Ticks.{presents}
 use Rattle.trial.specs.Lists.{lists}

@@ -65,7 +65,7 @@ fn code_set(ran: Ran) -> u64
 }
 
 // The statement at a node is started with one list, by the runner that `start` uses. Nothing may be held beneath it, so what the run before
-// left there is cleared. Emissions are written and never read, and nobody asks for them.
+// left there is cleared. The emissions are not: a run writes them and never reads them.
 fn try_list(
     table: &[u8],
     sizes: &[u16; esterel::MAX_NODES],
@@ -84,7 +84,7 @@ fn try_list(
     code_set(ran)
 }
 
-// And with every list, one after the other.
+// And with every list, one after the other. The contract says what the runs give; that they are made it cannot say, since that is K.
 fn gather(table: &[u8], sizes: &[u16; esterel::MAX_NODES], first: usize, node: usize) -> u64
     requires { ⌜ Triable (now table) (now sizes) first node ⌝ }
     ensures { λ r. ⌜ r ≡ word (tried trialAnswers (firstAt (now (table .entry)) node) (stmtAt (now (table .entry)) node)) ⌝ }

@@ -1,5 +1,4 @@
 -- `trial::try_list` meets its contract: what the runner answers.
-use borrow.Author.Needs.{needs}
 use native.Mathlib.Omega.{arith}
 use denote.Ref.{now}
 use Rattle.trial.proofs.Runs.{few-places, in-bytes, run-call, run-low, run-returns, run-kept}
