@@ -208,17 +208,9 @@ fn a_text_is_read_and_asked_about() {
     assert_node(&table, 6, 2, false, 7);
 }
 
-/// What the function gives for any numbers. The answer has one entry more than needed, which stays.
+/// What the function gives for any numbers.
 fn asked_raw(table: &[u8], node: u64, code: u64) -> Result<[u64; 3], u32> {
-    let mut answer = [FILL_SET.0; 4];
-    let returned = raw::ask(table, node, code, &mut answer);
-    let [first, second, third, past] = answer;
-    assert_eq!(past, FILL_SET.0);
-    if returned != 0 {
-        assert_eq!([first, second, third], [FILL_SET.0; 3]);
-        return Err(returned);
-    }
-    Ok([first, second, third])
+    figures_of(|answer| raw::ask(table, node, code, answer))
 }
 
 #[test]

@@ -304,17 +304,9 @@ fn a_text_is_read_and_tried() {
     assert_program(&table, EITHER, 1);
 }
 
-/// What the function gives for any number. The answer has one entry more than needed, which stays.
+/// What the function gives for any number.
 fn tried_raw(table: &[u8], node: u64) -> Result<[u64; 3], u32> {
-    let mut answer = [FILL_SET.0; 4];
-    let returned = raw::trial(table, node, &mut answer);
-    let [first, second, third, past] = answer;
-    assert_eq!(past, FILL_SET.0);
-    if returned != 0 {
-        assert_eq!([first, second, third], [FILL_SET.0; 3]);
-        return Err(returned);
-    }
-    Ok([first, second, third])
+    figures_of(|answer| raw::trial(table, node, answer))
 }
 
 /// A node outside the table has no statement, so that 21 and 22 never fit the same call. Of the

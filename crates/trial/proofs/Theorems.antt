@@ -13,6 +13,7 @@ use Rattle.esterel.specs.Sets.{startSet}
 use Rattle.esterel.specs.Instant.{started, Entry, Result, closed, starved, stuck, zeros, enter, thenZeros, start}
 use Rattle.esterel.proofs.Theorems.{exactness, leftOver}
 use Rattle.starts.specs.Ticks.{Bits, presents}
+use Rattle.starts.proofs.Exact.{bits-append}
 use Rattle.starts.proofs.Theorems.{oneShown}
 use Rattle.trial.specs.Lists.{lists}
 use Rattle.trial.specs.Trials.{codeOf, gathered, tried}
@@ -67,10 +68,6 @@ module _ (m n : ℕ) (p : Stmt) (k : ℕ) where
 zeros-bits : (n : ℕ) → Bits (zeros n)
 zeros-bits zero = tt
 zeros-bits (suc n) = (omega arith, zeros-bits n)
-
-bits-append : (u v : List ℕ) → Bits u → Bits v → Bits (u ++ v)
-bits-append [] v a b = b
-bits-append (x ∷ u) v (h, a) b = (h, bits-append u v a b)
 
 pub sound : (m n : ℕ) (p : Stmt) (k : ℕ) → tried m n p k ≡ true → startSet p k ≡ true
 sound m n p k e = let o = gives m n p k e in exactness p n k .1 (o .answers, o .trail, o .held, o .rest, o .finishes)

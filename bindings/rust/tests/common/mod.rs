@@ -103,6 +103,20 @@ pub const TABLE_NEED: usize = 2 * MAX_NODES;
 pub const FILL: u8 = 0xa5;
 pub const FILL_SET: CodeSet = CodeSet(u64::from_ne_bytes([FILL; 8]));
 
+/// What a function gives that is lent nothing but the answer. The answer has one entry more than
+/// needed, which stays; after a refusal all do.
+pub fn figures_of(call: impl FnOnce(&mut [u64]) -> u32) -> Result<[u64; 3], u32> {
+    let mut answer = [FILL_SET.0; 4];
+    let returned = call(&mut answer);
+    let [first, second, third, past] = answer;
+    assert_eq!(past, FILL_SET.0);
+    if returned != 0 {
+        assert_eq!([first, second, third], [FILL_SET.0; 3]);
+        return Err(returned);
+    }
+    Ok([first, second, third])
+}
+
 /// One buffer for each that a call can write to.
 #[derive(Clone, Debug, PartialEq)]
 pub struct Buffers {
