@@ -46,6 +46,7 @@ vectors:
 	@compare/target/release/partitions --block-vectors $(VECTORS)/blocks_open.jsonl crates/partitions/stdin crates/partitions/stdout
 	@compare/target/release/narrowings --tied-vectors $(VECTORS)/tied_open.jsonl crates/narrowings/stdin crates/narrowings/stdout
 	@compare/target/release/questions --question-vectors $(VECTORS)/query_open.jsonl crates/questions/stdin crates/questions/stdout
+	@compare/target/release/trials --trial-vectors $(VECTORS)/trial_open.jsonl crates/trials/stdin crates/trials/stdout
 	@compare/target/release/plans --plan-vectors $(VECTORS)/worst_open.jsonl crates/plans/stdin crates/plans/stdout
 	@for t in examples/*.table; do compare/target/release/list < $$t > $${t%.table}.listing; compare/target/release/tick < $$t > $${t%.table}.tick; compare/target/release/first_tick < $$t > $${t%.table}.first_tick; done
 	@table=$$(mktemp); for t in examples/*.strl; do compare/target/release/translate < $$t > $$table; compare/target/release/list < $$table > $$t.listing; compare/target/release/tick < $$table > $$t.tick; compare/target/release/first_tick < $$table > $$t.first_tick; done; rm $$table

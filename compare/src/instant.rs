@@ -123,13 +123,9 @@ fn run(
     };
 
     let mut runner = Runner {
-        tree,
-        answers,
-        taken: 0,
-        entries: 0,
         held,
-        emissions: [0; SIGNALS],
         trail,
+        ..Runner::new(tree, answers)
     };
     let code = match how {
         How::Started => runner.start(tree.root())?,
@@ -139,6 +135,11 @@ fn run(
     emissions[..SIGNALS].copy_from_slice(&runner.emissions);
     let closed = Closed::new(code, runner.taken, runner.entries);
     Ok((closed, runner.trail))
+}
+
+/// Starts the statement of a node of an accepted program by itself: its code.
+pub fn start_alone(tree: &Tree, node: usize, answers: &[u8]) -> Result<Code, Refusal> {
+    Runner::new(tree, answers).start(node)
 }
 
 /// Whether the state is one to resume from. Bits from n on are no pauses.
@@ -180,7 +181,20 @@ struct Runner<'a> {
     trail: Option<Vec<Entry>>,
 }
 
-impl Runner<'_> {
+impl<'a> Runner<'a> {
+    /// Nothing is held or emitted yet, and no trail is kept.
+    fn new(tree: &'a Tree, answers: &'a [u8]) -> Runner<'a> {
+        Runner {
+            tree,
+            answers,
+            taken: 0,
+            entries: 0,
+            held: Held::default(),
+            emissions: [0; SIGNALS],
+            trail: None,
+        }
+    }
+
     fn start(&mut self, node: usize) -> Result<Code, Refusal> {
         let entry = self.enter(node, How::Started);
         let code = match self.tree.statements[node] {

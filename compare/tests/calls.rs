@@ -2,6 +2,7 @@
 
 use compare::support::calls::COMPARE;
 use compare::support::edges::{edges, W1, W2, W8};
+use compare::support::tried::pause_by;
 use compare::STATE_BYTES;
 
 /// What stands in every lent entry before a call.
@@ -72,8 +73,15 @@ impl Lent {
         (COMPARE.ask)(table, last, 1, &mut self.answer)
     }
 
-    /// What analyse, start, resume, narrow, first_tick, first_tick_answers and ask return.
-    fn judge(&mut self, table: &[u8]) -> [u32; 7] {
+    /// The last node.
+    fn trial(&mut self, table: &[u8]) -> u32 {
+        let last = (table.len() as u64 / 2).saturating_sub(1);
+        (COMPARE.trial)(table, last, &mut self.answer)
+    }
+
+    /// What analyse, start, resume, narrow, first_tick, first_tick_answers, ask and trial
+    /// return.
+    fn judge(&mut self, table: &[u8]) -> [u32; 8] {
         [
             self.analyse(table),
             self.start(table),
@@ -82,6 +90,7 @@ impl Lent {
             self.first_tick(table),
             self.first_tick_answers(table),
             self.ask(table),
+            self.trial(table),
         ]
     }
 }
@@ -115,6 +124,15 @@ fn figures_of_an_accepted_table() {
     assert_eq!((COMPARE.ask)(W1, 3, 64, &mut lent.answer), 0);
     assert_eq!(lent.answer, [0, 0, 0, 9]);
     assert_eq!((COMPARE.ask)(W1, 4, 64, &mut lent.answer), 21);
+    assert_eq!(lent.trial(W1), 0);
+    assert_eq!(lent.answer, [2, 0, 0, 9]);
+    assert_eq!((COMPARE.trial)(W1, 1, &mut lent.answer), 0);
+    assert_eq!(lent.answer, [1, 0, 0, 9]);
+    assert_eq!((COMPARE.trial)(W1, 4, &mut lent.answer), 21);
+    assert_eq!(lent.trial(&pause_by(&[0; 12])), 0);
+    assert_eq!(lent.answer, [3, 12, 0, 9]);
+    assert_eq!(lent.trial(&pause_by(&[0; 13])), 22);
+    assert_eq!(lent.answer, [3, 12, 0, 9]);
     assert_eq!(
         Lent {
             answer: before.answer.clone(),
@@ -133,7 +151,7 @@ fn a_refusal_is_its_number_and_node_and_changes_nothing() {
         let before = Lent::new(&edge.table, 4);
         let mut lent = before.clone();
         let expected = refusal.number + 256 * refusal.node as u32;
-        assert_eq!(lent.judge(&edge.table), [expected; 7], "{}", edge.name);
+        assert_eq!(lent.judge(&edge.table), [expected; 8], "{}", edge.name);
         assert_eq!(lent, before, "{}", edge.name);
     }
 }
@@ -179,7 +197,7 @@ fn a_short_answer_is_refused_by_3_in_its_place() {
         for (table, expected) in cases {
             let before = Lent::new(table, answer_length);
             let mut lent = before.clone();
-            assert_eq!(lent.judge(table), [expected; 7]);
+            assert_eq!(lent.judge(table), [expected; 8]);
             assert_eq!(lent.render(table), 3);
             assert_eq!(lent, before);
         }

@@ -11,7 +11,7 @@ use compare::support::programs::traps_around;
 use compare::support::starts::{greatest_of_starts, Alone};
 use compare::support::vectors::{
     directory, read_blocks, read_instants, read_lines, read_listings, read_questions, read_texts,
-    read_ties, BlockOutcome, InstantVector, LineVector, TextVector,
+    read_ties, read_tried, BlockOutcome, InstantVector, LineVector, TextVector,
 };
 use compare::table::{self, Statement};
 use compare::{
@@ -386,4 +386,19 @@ fn questions() {
         assert_eq!(by_sentences, vector.outcome, "line {}", line + 1);
     }
     println!("{} questions", vectors.len());
+}
+
+/// Also by K of the analysis, of which the trial knows nothing.
+#[test]
+fn start_sets_by_trial() {
+    let vectors = read_tried(&vector_file("trial_open.jsonl"));
+    assert_eq!(vectors.len(), 600);
+    for (line, vector) in vectors.iter().enumerate() {
+        let outcome = vector.case.run();
+        let set = outcome.map(|tried| tried.set);
+        assert_eq!(set, vector.outcome, "line {}", line + 1);
+        let by_start_sets = vector.case.by_start_sets();
+        assert_eq!(by_start_sets, outcome, "line {}", line + 1);
+    }
+    println!("{} nodes", vectors.len());
 }

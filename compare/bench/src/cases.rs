@@ -2,19 +2,22 @@
 
 use std::hint::black_box;
 
+use compare::by_trial::LISTS;
+use compare::first_tick::{greatest, most_of_nodes};
 use compare::held::STATE_BYTES;
 use compare::instant::SIGNALS;
 use compare::support::blocks::{Bytes, PROGRAM};
 use compare::support::calls::{Calls, COMPARE, FIGURES};
 use compare::support::printer::nodes_of;
-use compare::table::MOST_BYTES;
+use compare::table::{self, MOST_BYTES};
 use compare::tick::TICK_ANSWERS;
 use ours::OURS;
 use two_pass::TWO_PASS;
 
 use crate::programs::{Shape, SHAPES};
 use crate::questions::{Question, QUESTIONS};
-use crate::{blocks, plans, texts, ticks, ties};
+use crate::tried::{Tried, TRIED};
+use crate::{blocks, plans, texts, ticks, ties, tried};
 
 /// Who makes a call.
 #[derive(Clone, Copy, PartialEq, Eq)]
@@ -59,10 +62,11 @@ pub enum Call {
     FirstTick,
     FirstTickAnswers,
     Ask,
+    Trial,
 }
 
 impl Call {
-    pub const ALL: [Call; 12] = [
+    pub const ALL: [Call; 13] = [
         Call::Analyse,
         Call::Start,
         Call::Resume,
@@ -75,6 +79,7 @@ impl Call {
         Call::FirstTick,
         Call::FirstTickAnswers,
         Call::Ask,
+        Call::Trial,
     ];
 
     pub fn name(self) -> &'static str {
@@ -91,6 +96,7 @@ impl Call {
             Call::FirstTick => "first_tick",
             Call::FirstTickAnswers => "first_tick_answers",
             Call::Ask => "ask",
+            Call::Trial => "trial",
         }
     }
 
@@ -108,7 +114,17 @@ impl Call {
             Call::Start | Call::Resume => "an entry",
             Call::Read | Call::ReadPlace => "a byte",
             Call::Fetch | Call::Part => "a block",
+            Call::Trial => "a start",
             _ => "a node",
+        }
+    }
+
+    /// In one of so many rounds a sample is taken. A trial takes up to a hundred times as long
+    /// as a sample of other calls.
+    pub fn rounds_apart(self) -> usize {
+        match self {
+            Call::Trial => 40,
+            _ => 1,
         }
     }
 
@@ -140,7 +156,7 @@ pub struct Case {
     file: Vec<u8>,
     /// The edition and the part that are taken from the file.
     wanted: (u16, u8),
-    /// The node that is asked, and the code.
+    /// The node that is asked or tried, and the code.
     question: (u64, u64),
     text: Vec<u8>,
     table: Vec<u8>,
@@ -204,6 +220,10 @@ pub fn of(call: Call) -> Box<dyn Iterator<Item = Case>> {
         Call::Ask => {
             let of_question = |question| SIZES.map(|nodes| Case::of_question(question, nodes));
             Box::new(QUESTIONS.iter().flat_map(of_question))
+        }
+        Call::Trial => {
+            let of_node = |tried| tried::SIZES.map(|nodes| Case::of_trial(tried, nodes));
+            Box::new(TRIED.iter().flat_map(of_node))
         }
     }
 }
@@ -339,6 +359,21 @@ impl Case {
         case
     }
 
+    fn of_trial(tried: &Tried, nodes: usize) -> Case {
+        let mut case = Case {
+            call: Call::Trial,
+            shape: tried.name,
+            size: nodes,
+            question: ((tried.node)(nodes) as u64, 0),
+            table: tried.shape.program(nodes),
+            answer: vec![0; FIGURES],
+            ..Case::default()
+        };
+        assert_eq!(case.table.len(), 2 * nodes, "{}", case.name());
+        assert_eq!(case.run(&COMPARE), 0, "{} is refused", case.name());
+        case
+    }
+
     pub fn name(&self) -> String {
         format!("{}/{}/{}", self.call.name(), self.shape, self.size)
     }
@@ -365,6 +400,7 @@ impl Case {
                 let (node, code) = black_box(self.question);
                 return (calls.ask)(table, node, code, answer);
             }
+            Call::Trial => return (calls.trial)(table, black_box(self.question.0), answer),
             Call::Analyse => {
                 return (calls.analyse)(
                     table,
@@ -399,14 +435,24 @@ impl Case {
         (self.call == Call::Ask).then(|| self.answer[1] as usize)
     }
 
-    /// The nodes of a table, the entries of an instant, the bytes of a text or the blocks
-    /// of a file.
+    /// The presents of a node that is tried, and the greatest number of entries of its starts.
+    pub fn presents_and_entries(&self) -> Option<[usize; 2]> {
+        (self.call == Call::Trial).then(|| {
+            let tree = table::read(&self.table).expect("an accepted table");
+            let most = &most_of_nodes(&tree)[self.question.0 as usize];
+            [self.answer[1] as usize, greatest(most)]
+        })
+    }
+
+    /// The nodes of a table, the entries of an instant, the bytes of a text, the blocks of a
+    /// file or the starts of a trial.
     pub fn units(&self) -> usize {
         let mut case = self.clone();
         case.run(&COMPARE);
         match self.call {
             Call::Start | Call::Resume => case.answer[2] as usize,
             Call::Read | Call::ReadPlace => case.text.len(),
+            Call::Trial => LISTS.len(),
             _ => case.size,
         }
     }

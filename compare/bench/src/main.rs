@@ -5,7 +5,8 @@
 //!
 //! ```text
 //! bench [--quick] [--markdown FILE]    all sides, all cases
-//! bench --list                         each case with its nodes, entries, bytes or blocks
+//! bench --list                         each case with its nodes, entries, bytes, blocks
+//!                                      or starts
 //! bench --one CASE SIDE TIMES          one case on one side: ours, compare
 //!                                      or, for analyse, two-pass
 //! ```
@@ -28,6 +29,7 @@ mod report;
 mod texts;
 mod ticks;
 mod ties;
+mod tried;
 
 fn main() -> ExitCode {
     match run(std::env::args().skip(1)) {

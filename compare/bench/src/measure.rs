@@ -40,14 +40,17 @@ struct Series {
 }
 
 /// The times of all cases. Each round takes one sample of every case on all
-/// its sides, so that a time in which the machine is slow hits all alike.
+/// its sides, so that a time in which the machine is slow hits all alike; but some rounds
+/// pass over the calls that take long.
 pub fn measure(cases: &[Case], effort: &Effort) -> Vec<Times> {
     let mut sides: Vec<Vec<Series>> = cases
         .iter()
         .map(|case| on_all_sides(case, effort.sample))
         .collect();
-    for _ in 0..effort.samples {
-        sides.iter_mut().flatten().for_each(Series::sample);
+    for round in 0..effort.samples {
+        let due = |series: &&mut Series| round % series.case.call.rounds_apart() == 0;
+        let due = sides.iter_mut().flatten().filter(due);
+        due.for_each(Series::sample);
     }
     sides.into_iter().map(Times::new).collect()
 }

@@ -12,6 +12,7 @@ pub struct Line {
     size: usize,
     units: usize,
     looked_at: Option<usize>,
+    presents_and_entries: Option<[usize; 2]>,
     times: Times,
 }
 
@@ -23,6 +24,7 @@ impl Line {
             size: case.size,
             units: case.units(),
             looked_at: case.looked_at(),
+            presents_and_entries: case.presents_and_entries(),
             times,
         }
     }
@@ -86,6 +88,9 @@ fn times(lines: &[Line], call: Call) -> Table {
     if call == Call::Ask {
         add_analyses(&mut rows, &of_call, lines);
     }
+    if call == Call::Trial {
+        add_presents_and_entries(&mut rows, &of_call);
+    }
     if call.sides().contains(&Side::TwoPass) {
         let two_pass = ["two-pass, ns", "ours/two-pass"].map(String::from);
         rows[0].splice(5..5, two_pass);
@@ -116,6 +121,15 @@ fn add_analyses(rows: &mut [Vec<String>], questions: &[&Line], lines: &[Line]) {
         row.insert(2, looked_at.to_string());
         row.push(format!("{:.0}", analysis.times.ours));
         row.push(format!("{:.2}", ours / analysis.times.ours));
+    }
+}
+
+/// To each trial the presents, and the greatest number of entries of a start.
+fn add_presents_and_entries(rows: &mut [Vec<String>], trials: &[&Line]) {
+    rows[0].splice(2..2, ["presents", "most entries"].map(String::from));
+    for (row, trial) in rows[1..].iter_mut().zip(trials) {
+        let numbers = trial.presents_and_entries.expect("each trial has these");
+        row.splice(2..2, numbers.map(|number| number.to_string()));
     }
 }
 

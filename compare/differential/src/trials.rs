@@ -1,10 +1,11 @@
-//! A call with all that it is lent, ready to be made on either side.
+//! A call with all that it is lent, ready to be made on either side: a trial of the
+//! comparison. Start sets by trial, F-13, are but one of the calls, `Trying`.
 
 use compare::first_tick::reaches;
 use compare::instant::SIGNALS;
 use compare::support::calls::{Calls, FIGURES};
 use compare::support::cases::{Call, Case};
-use compare::support::{narrowings, questions};
+use compare::support::{narrowings, questions, tried};
 use compare::table::MOST_BYTES;
 use compare::tick::TICK_ANSWERS;
 
@@ -581,6 +582,51 @@ impl Trial for Asking {
             ("table", self.table.hex()),
             ("node", node.to_string()),
             ("code", code.to_string()),
+            ("answer", self.answer.hex()),
+        ]
+    }
+}
+
+/// The start set of a node by trial, as F-13 calls it.
+#[derive(Clone, PartialEq)]
+pub struct Trying {
+    pub table: Guarded<u8>,
+    node: u64,
+    pub answer: Guarded<u64>,
+}
+
+impl Trying {
+    pub fn new(table: &[u8], node: u64) -> Trying {
+        Trying {
+            table: Guarded::with(table),
+            node,
+            answer: Guarded::untouched(FIGURES),
+        }
+    }
+
+    pub fn of(case: &tried::Case) -> Trying {
+        Trying::new(&case.table, case.node)
+    }
+}
+
+impl Trial for Trying {
+    fn name(&self) -> &'static str {
+        "trial"
+    }
+
+    fn call(&mut self, calls: &Calls) -> u32 {
+        (calls.trial)(self.table.lent(), self.node, self.answer.lent())
+    }
+
+    fn with_answer(self, length: usize) -> Trying {
+        let answer = Guarded::untouched(length);
+        Trying { answer, ..self }
+    }
+
+    fn buffers(&self) -> Vec<(&'static str, String)> {
+        vec![
+            ("table", self.table.hex()),
+            ("node", self.node.to_string()),
             ("answer", self.answer.hex()),
         ]
     }

@@ -6,13 +6,14 @@ use compare::support::calls::{Calls, COMPARE};
 use compare::support::cases::Call;
 use compare::support::edges::{exits_through_all_traps, W1, W2, W8};
 use compare::support::random::Random;
+use compare::support::tried::pause_by;
 use compare::support::SEED;
 use compare::{packed, sets, table, Sets, STATE_BYTES};
 use differential::groups::{refusals, texts};
 use differential::tally::{Difference, Tally};
 use differential::trials::{
     Analysis, Asking, Fetching, Finding, Instant, Narrowing, Placing, Planning, Reading, Rendering,
-    Taking, Trial,
+    Taking, Trial, Trying,
 };
 
 fn assert_noticed(wrong: Calls, trial: &impl Trial) {
@@ -166,6 +167,7 @@ fn told_by<T: Telling>() -> Calls {
         ask: |table, node, code, answer| {
             T::tell(answer, |answer| (COMPARE.ask)(table, node, code, answer))
         },
+        trial: |table, node, answer| T::tell(answer, |answer| (COMPARE.trial)(table, node, answer)),
     }
 }
 
@@ -189,6 +191,7 @@ fn a_fourth_figure() {
     assert_noticed(wrong, &Planning::new(W1).with_answer(4));
     assert_noticed(wrong, &Finding::new(W1).of_most_entries().with_answer(4));
     assert_noticed(wrong, &Asking::new(W1, 3, 1).with_answer(4));
+    assert_noticed(wrong, &Trying::new(W1, 3).with_answer(4));
     let fetching = Fetching::new(&stored_w1(), PROGRAM);
     assert_noticed(wrong, &fetching.with_answer(4));
     let taking = Taking::new(&stored_w1(), (PROGRAM, 1), 0);
@@ -221,6 +224,9 @@ fn an_answer_written_on_a_refusal() {
     assert_noticed(wrong, &Finding::new(W2).of_most_entries());
     assert_noticed(wrong, &Asking::new(W2, 0, 0));
     assert_noticed(wrong, &Asking::new(W1, 4, 1));
+    assert_noticed(wrong, &Trying::new(W2, 0));
+    assert_noticed(wrong, &Trying::new(W1, 4));
+    assert_noticed(wrong, &Trying::new(&pause_by(&[0; 13]), 26));
     assert_noticed_by(refusals::edges, wrong);
 }
 
@@ -240,6 +246,7 @@ fn a_node_that_is_lost() {
     assert_noticed(wrong, &Planning::new(W8));
     assert_noticed(wrong, &Finding::new(W8).of_most_entries());
     assert_noticed(wrong, &Asking::new(W8, 0, 0));
+    assert_noticed(wrong, &Trying::new(W8, 0));
     assert_noticed_by(refusals::edges, wrong);
     assert_noticed_by(texts::edges, wrong);
 }
@@ -278,6 +285,7 @@ fn a_short_answer_refused_before_1_and_2() {
     assert_noticed(wrong, &Planning::new(&[]).with_answer(2));
     assert_noticed(wrong, &Finding::new(&[]).of_most_entries().with_answer(2));
     assert_noticed(wrong, &Asking::new(&[], 0, 0).with_answer(2));
+    assert_noticed(wrong, &Trying::new(&[], 0).with_answer(2));
     for call in [Call::Start, Call::Resume] {
         assert_noticed(
             wrong,
@@ -318,6 +326,8 @@ fn a_short_answer_refused_after_all_other_checks() {
     assert_noticed(wrong, &Finding::new(W2).of_most_entries().with_answer(2));
     assert_noticed(wrong, &Asking::new(W2, 0, 0).with_answer(2));
     assert_noticed(wrong, &Asking::new(W1, 4, 0).with_answer(2));
+    assert_noticed(wrong, &Trying::new(W2, 0).with_answer(2));
+    assert_noticed(wrong, &Trying::new(W1, 4).with_answer(2));
     assert_noticed(wrong, &Fetching::new(&[], PROGRAM).with_answer(2));
     assert_noticed_by(refusals::edges, wrong);
 }
@@ -347,6 +357,7 @@ fn a_short_answer_that_is_accepted() {
     assert_noticed(wrong, &Planning::new(W1).with_answer(2));
     assert_noticed(wrong, &Finding::new(W1).of_most_entries().with_answer(2));
     assert_noticed(wrong, &Asking::new(W1, 3, 1).with_answer(2));
+    assert_noticed(wrong, &Trying::new(W1, 3).with_answer(2));
     let fetching = Fetching::new(&stored_w1(), PROGRAM);
     assert_noticed(wrong, &fetching.with_answer(2));
     let taking = Taking::new(&stored_w1(), (PROGRAM, 1), 0);

@@ -2,7 +2,7 @@
 
 use bavzhrono::raw::{
     analyse, ask, fetch, first_tick, first_tick_answers, narrow, part, read, read_place, render,
-    resume, start, tick,
+    resume, start, tick, trial,
 };
 use compare::support::calls::Calls;
 
@@ -21,4 +21,5 @@ pub const OURS: Calls = Calls {
     first_tick,
     first_tick_answers,
     ask,
+    trial,
 };

@@ -29,6 +29,8 @@ pub type FirstTick = fn(&[u8], &mut [u64]) -> u32;
 pub type FirstTickAnswers = fn(&[u8], &mut [u8], &mut [u64]) -> u32;
 /// Table, node, code, answer.
 pub type Ask = fn(&[u8], u64, u64, &mut [u64]) -> u32;
+/// Table, node, answer.
+pub type ByTrial = fn(&[u8], u64, &mut [u64]) -> u32;
 
 #[derive(Clone, Copy)]
 pub struct Calls {
@@ -45,6 +47,7 @@ pub struct Calls {
     pub first_tick: FirstTick,
     pub first_tick_answers: FirstTickAnswers,
     pub ask: Ask,
+    pub trial: ByTrial,
 }
 
 /// The calls of this implementation.
@@ -62,6 +65,7 @@ pub const COMPARE: Calls = Calls {
     first_tick,
     first_tick_answers,
     ask,
+    trial,
 };
 
 /// The figures of an answer, and the entries that its buffer must have.
@@ -221,6 +225,16 @@ fn ask(table: &[u8], node: u64, code: u64, answer: &mut [u64]) -> u32 {
         let front = front_after_length(table, answer)?;
         let known = crate::ask(table, node, code)?;
         *front = [u64::from(known.is_in), known.count as u64, 0];
+        Ok(())
+    })
+}
+
+/// The figures are the set, the presents in the node and 0.
+fn trial(table: &[u8], node: u64, answer: &mut [u64]) -> u32 {
+    returned(|| {
+        let front = front_after_length(table, answer)?;
+        let tried = crate::trial(table, node)?;
+        *front = [tried.set, tried.presents as u64, 0];
         Ok(())
     })
 }

@@ -1,6 +1,8 @@
 //! Table W, the edges of document 01 with those of F-7, the tables of its agreed
 //! readings, and the lock program of F-5.
 
+use std::str::FromStr;
+
 use crate::Refusal;
 
 pub struct Edge {
@@ -268,4 +270,33 @@ fn full_table() -> Vec<u8> {
         table = after(&table, &after(&table, &[kind, 0]));
     }
     after(&table, &[8, 0])
+}
+
+/// The columns of each line, with the title that stands above it behind `# `.
+pub(super) fn rows<const N: usize>(lines: &'static str) -> Vec<(&'static str, [&'static str; N])> {
+    let mut rows = Vec::new();
+    let mut title = "";
+    for line in lines.lines().filter(|line| !line.is_empty()) {
+        if let Some(words) = line.strip_prefix("# ") {
+            title = words;
+            continue;
+        }
+        let columns: Vec<&str> = line.split(" | ").collect();
+        let columns = columns.try_into().ok();
+        rows.push((
+            title,
+            columns.unwrap_or_else(|| panic!("{N} columns: {line}")),
+        ));
+    }
+    rows
+}
+
+/// The numbers of a column, with blanks between them.
+pub(super) fn numbers<T: FromStr>(column: &str) -> Vec<T> {
+    column.split(' ').map(number).collect()
+}
+
+pub(super) fn number<T: FromStr>(digits: &str) -> T {
+    let number = digits.parse().ok();
+    number.unwrap_or_else(|| panic!("this should be a number: {digits}"))
 }

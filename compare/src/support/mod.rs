@@ -1,6 +1,6 @@
 //! What the tests, the generators and the comparisons share: hexadecimal,
 //! random numbers, vector files, tables, instants, starts, runs, files of blocks,
-//! ties and questions to try, and how the generators write them.
+//! ties, questions and nodes to try, and how the generators write them.
 
 pub mod answers;
 pub mod arguments;
@@ -47,6 +47,8 @@ pub mod tick_edges;
 pub mod ticks;
 pub mod tied_starts;
 pub mod ties;
+pub mod tried;
+pub mod tried_edges;
 pub mod vectors;
 pub mod wrong_blocks;
 pub mod wrong_marks;
@@ -55,6 +57,7 @@ pub mod wrong_questions;
 pub mod wrong_readers;
 pub mod wrong_states;
 pub mod wrong_ties;
+pub mod wrong_tried;
 
 /// The seed of every generated table and instant.
 pub const SEED: u64 = 0x0104_2004;

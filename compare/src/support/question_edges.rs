@@ -1,7 +1,7 @@
 //! Questions at the edges of request F-12, each with the answer and the count, or the refusal,
 //! worked out by hand.
 
-use super::edges::{after, around, edges as edges_of_01, W1};
+use super::edges::{after, around, edges as edges_of_01, number, numbers, rows, W1};
 use super::nodes::{LOOP, NOTHING, PARALLEL, PAUSE, PRESENT, SEQUENCE, SIGNAL, TRAP};
 use super::programs::balanced;
 use super::questions::{Case, HUGE};
@@ -146,26 +146,11 @@ pub fn edges() -> Vec<QuestionEdge> {
 }
 
 fn small() -> Vec<QuestionEdge> {
-    let mut edges = Vec::new();
-    let mut title = "";
-    for line in SMALL.lines().filter(|line| !line.is_empty()) {
-        if let Some(words) = line.strip_prefix("# ") {
-            title = words;
-            continue;
-        }
-        let columns: Vec<&str> = line.split(" | ").collect();
-        let &[table, node, codes] = &columns[..] else {
-            panic!("a table, a node and codes: {line}");
-        };
-        let table: Vec<u8> = table.split(' ').map(number).collect();
-        edges.extend(asked(title, &table, number(node), codes));
-    }
-    edges
-}
-
-fn number<T: std::str::FromStr>(digits: &str) -> T {
-    let number = digits.parse().ok();
-    number.unwrap_or_else(|| panic!("this should be a number: {digits}"))
+    let edges = rows(SMALL).into_iter().flat_map(|(title, columns)| {
+        let [table, node, codes] = columns;
+        asked(title, &numbers::<u8>(table), number(node), codes)
+    });
+    edges.collect()
 }
 
 /// A node that is asked for these codes.
@@ -241,7 +226,7 @@ fn many_of_a_kind() -> Vec<QuestionEdge> {
 }
 
 /// A program of 1,024 nodes, all but the last of them in a tree of parallels.
-fn all_nodes() -> Vec<u8> {
+pub(super) fn all_nodes() -> Vec<u8> {
     after(&balanced(PAUSE, 512, PARALLEL), SIGNAL)
 }
 

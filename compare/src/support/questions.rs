@@ -47,11 +47,7 @@ impl Case {
 
     /// The case as the input file holds it.
     pub fn encode(&self) -> Vec<u8> {
-        let length = self.table.len();
-        assert!(length <= MOST_TABLE, "{length} is more than {MOST_TABLE}");
-        let length = (length as u16).to_le_bytes();
-        let [node, code] = [self.node, self.code].map(u64::to_le_bytes);
-        [&length[..], &node, &code, &self.table].concat()
+        encoded(&self.table, &[self.node, self.code])
     }
 
     pub fn run(&self) -> Result<Known, Refusal> {
@@ -72,6 +68,16 @@ impl Case {
             count: nodes.count(),
         })
     }
+}
+
+/// A table behind its length and some numbers.
+pub fn encoded(table: &[u8], numbers: &[u64]) -> Vec<u8> {
+    let length = table.len();
+    assert!(length <= MOST_TABLE, "{length} is more than {MOST_TABLE}");
+    let mut case = (length as u16).to_le_bytes().to_vec();
+    case.extend(numbers.iter().flat_map(|number| number.to_le_bytes()));
+    case.extend(table);
+    case
 }
 
 /// Whether a node is looked at when another one, or the same, is asked for a code: from the

@@ -6,7 +6,7 @@ use std::path::{Path, PathBuf};
 
 use super::byte_states::packed;
 use super::cases::Call;
-use super::{hex, questions};
+use super::{hex, questions, tried};
 use crate::held::Held;
 use crate::instant::admitted;
 use crate::{table, Closed, Known, Refusal};
@@ -106,6 +106,12 @@ pub struct TiedVector {
 pub struct QuestionVector {
     pub case: questions::Case,
     pub outcome: Result<Known, Refusal>,
+}
+
+pub struct TriedVector {
+    pub case: tried::Case,
+    /// The start set; the number of presents is not told.
+    pub outcome: Result<u64, Refusal>,
 }
 
 /// A run from the fresh start.
@@ -244,10 +250,26 @@ fn known(object: &Object) -> Known {
     }
 }
 
+/// The node of a case is the one that is tried; that of a refusal is "at".
+pub fn read_tried(file: &Path) -> Vec<TriedVector> {
+    read_objects(file)
+        .iter()
+        .map(|object| TriedVector {
+            case: tried::Case {
+                table: bytes(object, "table"),
+                node: number(object, "node"),
+            },
+            outcome: or_refusal_at("at", object, |object| set(value(object, "set"))),
+        })
+        .collect()
+}
+
 fn sets(object: &Object) -> Vec<u64> {
-    let sets = list(object, "sets").iter();
-    let set = |value: &Value| u64::from_str_radix(value.text(), 16).expect("a hexadecimal set");
-    sets.map(set).collect()
+    list(object, "sets").iter().map(set).collect()
+}
+
+fn set(value: &Value) -> u64 {
+    u64::from_str_radix(value.text(), 16).expect("a hexadecimal set")
 }
 
 fn nodes(list: &Value) -> Vec<usize> {

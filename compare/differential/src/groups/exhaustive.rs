@@ -10,7 +10,7 @@ use compare::STATE_BYTES;
 
 use super::{first_difference, plans};
 use crate::tally::{Difference, Tally};
-use crate::trials::{Analysis, Asking, Finding, Instant, Narrowing, Rendering};
+use crate::trials::{Analysis, Asking, Finding, Instant, Narrowing, Rendering, Trying};
 
 /// All kinds; an emit of the first and of the last signal; exits to the first three
 /// traps.
@@ -91,6 +91,8 @@ fn every_call(tally: &mut Tally, table: &[u8]) -> Result<(), Difference> {
     tally.compare(&Narrowing::new(table, &tied(&[(3, ABSENT)])))?;
     plans::both_calls(tally, table)?;
     tally.compare(&Asking::new(table, size.saturating_sub(1) as u64, 1))?;
+    // Outside, where nothing is started.
+    tally.compare(&Trying::new(table, size as u64))?;
     every_answer_list(tally, Call::Start, table, &[9; STATE_BYTES])?;
     // A refused table is refused from any state.
     let states = if is_accepted { 1 << size } else { 1 };

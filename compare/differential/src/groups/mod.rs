@@ -19,6 +19,7 @@ mod tables;
 pub mod texts;
 pub mod ticks;
 mod token_lists;
+pub mod tried;
 
 pub struct Group {
     pub name: &'static str,
@@ -27,7 +28,7 @@ pub struct Group {
     pub random: bool,
 }
 
-pub const GROUPS: [Group; 66] = [
+pub const GROUPS: [Group; 76] = [
     Group {
         name: "Table W and the edges",
         run: tables::edges,
@@ -356,6 +357,56 @@ pub const GROUPS: [Group; 66] = [
     Group {
         name: "questions of huge numbers",
         run: questions::huge,
+        random: true,
+    },
+    Group {
+        name: "start sets by trial at the edges, with answers of 0 to 8 entries",
+        run: tried::edges,
+        random: false,
+    },
+    Group {
+        name: tried::ALL,
+        run: tried::all,
+        random: false,
+    },
+    Group {
+        name: tried::LONGER,
+        run: tried::longer,
+        random: false,
+    },
+    Group {
+        name: tried::EACH_LIST,
+        run: tried::each_list,
+        random: false,
+    },
+    Group {
+        name: "start sets by trial of all nodes of programs up to 60 nodes",
+        run: tried::small,
+        random: true,
+    },
+    Group {
+        name: "start sets by trial under up to 62 traps",
+        run: tried::traps,
+        random: true,
+    },
+    Group {
+        name: "start sets by trial of programs up to 1,024 nodes with few presents",
+        run: tried::few_presents,
+        random: true,
+    },
+    Group {
+        name: "start sets by trial of nodes of programs up to 1,024 nodes",
+        run: tried::larger,
+        random: true,
+    },
+    Group {
+        name: "start sets by trial of damaged tables",
+        run: tried::damaged,
+        random: true,
+    },
+    Group {
+        name: "start sets by trial of huge nodes",
+        run: tried::huge,
         random: true,
     },
 ];

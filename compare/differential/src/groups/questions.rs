@@ -21,7 +21,7 @@ pub const LONGER: &str =
 const LONGER_NODES: usize = 8;
 
 /// Emits, signals and an exit to the third trap beside those that decide in runs.
-fn letters() -> Vec<Letter> {
+pub(super) fn letters() -> Vec<Letter> {
     let others = [([3, 255], 0), ([4, 2], 0), ([5, 255], 1)];
     [deciding_in_runs(), others.to_vec()].concat()
 }

@@ -12,7 +12,9 @@ use compare::support::ties::ABSENT;
 use compare::{checks, listing, Refusal, STATE_BYTES};
 
 use crate::tally::{Difference, Tally};
-use crate::trials::{Analysis, Asking, Finding, Instant, Narrowing, Planning, Rendering, Trial};
+use crate::trials::{
+    Analysis, Asking, Finding, Instant, Narrowing, Planning, Rendering, Trial, Trying,
+};
 
 /// The entries of an answer.
 const ANSWERS: [usize; 6] = [0, 1, 2, 3, 4, 8];
@@ -86,6 +88,8 @@ fn every_call(tally: &mut Tally, table: &[u8]) -> Result<(), Difference> {
     // The first node for an end, and the one after the last for a code above all.
     every_answer(tally, &Asking::new(table, 0, 0))?;
     every_answer(tally, &Asking::new(table, size as u64, 64))?;
+    every_answer(tally, &Trying::new(table, 0))?;
+    every_answer(tally, &Trying::new(table, size as u64))?;
     every_answer(tally, &Finding::new(table).of_most_entries())?;
     every_answer(tally, &Finding::with_answers(table, 511).of_most_entries())?;
     let text_length = listing(table).len();
