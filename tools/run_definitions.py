@@ -6,8 +6,8 @@
 
 Each vector becomes a theorem `what the definitions give ≡ what is expected`, proved by refl, so that the checker has to
 compute the definitions. All is written to a temporary repository, which has copies of crates/codes, crates/esterel,
-crates/grammar, crates/starts, crates/blocks, crates/instant, crates/tied, crates/question and crates/trial, and of what they stand on. The theorem listing17 is the vector
-in line 17 of the listings; edges are numbered as they stand below.
+crates/grammar, crates/starts, crates/blocks, crates/instant, crates/tied, crates/question and crates/trial, and of what they
+stand on. The theorem listing17 is the vector in line 17 of the listings; edges are numbered as they stand below.
 
 A text's derivation cannot be computed: its tree is the one that the machine of crates/grammar finds, of which it is proved
 that it finds exactly the derivations, and that it is stuck at the first token with which the text can't go on; where an exit
@@ -18,8 +18,9 @@ Of a tick that is shown, the rules are run with its list (tick17); where table a
 it are run too, in their order, until one leads there (first17). Whether a list leads there is asked by a test here, which is
 proved to say what `Leads` does; so is the test whether a node stands at two places of a trail, which tells of each instant of
 a run (run17) what is entered twice. The greatest number of entries of a small program (most17) is found by starting it with all
-lists of as many answers as it has tests, and no start takes more, which crates/starts proves; larger ones are passed over. So is the set of a node that is tried (trial17): crates/trial proves that
-12 answers gather the same codes as so many. Of the 65,536 editions of a file of blocks (block17) only those that its blocks name are
+lists of as many answers as it has tests, and no start takes more, which crates/starts proves; larger ones are passed over. In the
+same way the set of a node with few presents is gathered (trial17): crates/trial proves that 12 answers gather the same codes. Of
+the 65,536 editions of a file of blocks (block17) only those that its blocks name are
 tried, from the highest down: no other is whole, which crates/blocks proves.
 """
 import argparse, collections, json, os, random, re, shutil, subprocess, sys, tempfile, time
@@ -483,13 +484,13 @@ def trial_of(table, node):
 
 def trial_theorem(at, vector):
     table, node = bytes.fromhex(vector["table"]), vector["node"]
-    right = refused(vector["refused"], vector["at"]) if "refused" in vector else f"gathered {int(vector['set'], 16)} {nodes_at(table, node).count(6)}"
+    right = refused(vector["refused"], vector["at"]) if "refused" in vector else f"gathered {int(vector['set'], 16)} {kinds_at(table, node).count(6)}"
     return Theorem(f"trial{at}", trial_of(table, node), right)
 
 CHILDREN = {5: 1, 6: 2, 7: 1, 8: 1, 9: 2, 10: 2, 11: 1}
 RUNS_TRIED = 100000  # for each of 64 codes every list is run, over all nodes of the statement
 
-def nodes_at(table, node):  # the kinds of the nodes of the statement at a node, from its own down
+def kinds_at(table, node):  # of the nodes of the statement at a node
     open_places, at = 1, node
     while open_places:
         open_places += CHILDREN.get(table[2 * at], 0) - 1
@@ -500,7 +501,7 @@ def is_tried_whole(line):
     vector = json.loads(line)
     if "refused" in vector:
         return True
-    kinds = nodes_at(bytes.fromhex(vector["table"]), vector["node"])
+    kinds = kinds_at(bytes.fromhex(vector["table"]), vector["node"])
     return 64 * 2 ** kinds.count(6) * len(kinds) <= RUNS_TRIED
 
 def vectors(file, wanted, chance, theorem, taken=lambda line: True):

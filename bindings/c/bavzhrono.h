@@ -159,7 +159,7 @@
  *         18  the program has no whole edition in the file                      no
  *         19  a signal's tie is none of 0, 1 and 2                              no
  *         20  the text leaves the grammar at immediate, every, case or a count  no
- *         21  the node that is asked about is outside the table                 no
+ *         21  the node that is asked about or tried is outside the table        no
  *         22  more than 12 present statements stand in the node that is tried   no
  *
  * 4 to 6 are decided node by node: the first faulty node counts, with its lowest number. Each of

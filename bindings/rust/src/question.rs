@@ -48,7 +48,7 @@ pub struct Asked {
 /// let refusal = ask(&table, 4, 0).unwrap_err();
 /// assert_eq!(
 ///     refusal.to_string(),
-///     "refused 21: the node that is asked about is outside the table"
+///     "refused 21: the node that is asked about or tried is outside the table"
 /// );
 /// # Ok::<(), bavzhrono::Refusal>(())
 /// ```

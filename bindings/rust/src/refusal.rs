@@ -43,7 +43,7 @@ impl Refusal {
             18 => "the program has no whole edition in the file",
             19 => "a signal's tie is none of 0, 1 and 2",
             20 => "the text leaves the grammar at immediate, every, case or a count",
-            21 => "the node that is asked about is outside the table",
+            21 => "the node that is asked about or tried is outside the table",
             22 => "more than 12 present statements stand in the node that is tried",
             _ => "there is no check of this number",
         }

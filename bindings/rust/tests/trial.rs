@@ -387,7 +387,7 @@ fn the_deepest_and_the_longest_do_not_exhaust_the_stack() {
             assert!(trial(&table, table.len() / 2 - 1).is_ok());
         }
     };
-    let thread = thread::Builder::new().stack_size(1 << 17).spawn(call);
+    let thread = thread::Builder::new().stack_size(96 << 10).spawn(call);
     thread.expect("a thread starts").join().unwrap();
 }
 

@@ -1,5 +1,6 @@
 // One instant of an accepted program: start and resume.
 mod admission;
+// public for crates/trial, which starts single statements by the same runner
 pub mod run;
 mod steps;
 

@@ -5,8 +5,7 @@ use Prim.Native.Nat.{ℕ, zero, suc, _+_, _*_, _/_, _%_, _^_, _<_}
 use native.Mathlib.Omega.{arith}
 use lib.ListN.{length, getD}
 use Rattle.starts.specs.Ticks.{Bits}
-use Rattle.trial.specs.Lists.{extended, lists}
-use Rattle.trial.specs.Steps.{listAt}
+use Rattle.trial.specs.Lists.{extended, lists, listAt}
 use Rattle.trial.specs.Theorems.{AllLists}
 
 length-extended : (ls : List (List ℕ)) → length (extended ls) ≡ 2 * length ls

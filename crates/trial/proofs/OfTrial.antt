@@ -1,12 +1,12 @@
 -- The theorem `OfTrial` of specs/Theorems.antt: the contract of `trial` joined with the theory.
 use mathlib.Core.Path.{_≡_, refl, sym, ap, subst, _∙_}
-use mathlib.Core.Bool.{Bool, true, false, cond}
+use mathlib.Core.Bool.{Bool, true, false}
 use mathlib.Core.List.{List}
 use Prim.Native.Nat.{ℕ, suc, _-_, _≤_, _<_}
 use native.Mathlib.Omega.{arith}
 use lib.Dec.{leb, ltb}
 use lib.ListN.{getD}
-use borrow.Author.Tests.{lt-ltb, le-ltb, le-leb, lt-leb, ltb-true, ltb-false, leb-true, leb-false}
+use borrow.Author.Tests.{ltb-true, ltb-false, leb-true, leb-false}
 use Rattle.codes.specs.Codes.{word}
 use Rattle.codes.proofs.Laws.{word-same}
 use Rattle.codes.proofs.Theorems.{onSets}
@@ -26,36 +26,19 @@ use Rattle.analysis.specs.declared.Analysed.the-variants.{Done}
 use Rattle.analysis.proofs.Theorems.{demand2OfCall}
 use Rattle.starts.specs.Ticks.{presents}
 use Rattle.trial.specs.Trials.{tried, trialAnswers}
-use Rattle.trial.specs.Calls.{trialAt, triedOf}
+use Rattle.trial.specs.Calls.{triedOf}
 use Rattle.trial.specs.Theorems.{Refusal, ofTable, outside, tooMany, Found, OfTrial}
 use Rattle.trial.specs.declared.Tried.{Tried}
 use Rattle.trial.specs.declared.Tried.the-variants.{Gathered, Refused}
 use Rattle.trial.proofs.Theorems.{trials}
+use Rattle.trial.proofs.Told.{of-table, outside-is, too-many-is, gathered-is}
 
 module _ (t : List ℕ) (node : ℕ) where
-  by-verdict : {v : Verdict} → verdict t ≡ v → {r : Tried} → r ≡ triedOf (verdict t) node → r ≡ triedOf v node
-  by-verdict e er = er ∙ ap (λ v. triedOf v node) e
-
-  of-table : (number at : ℕ) (r : Tried) → verdict t ≡ refused number at → r ≡ triedOf (verdict t) node → r ≡ Refused number at
-  unfolding triedOf
-  of-table number at r e er = by-verdict e er
-
-  module _ (p : Stmt) (e : verdict t ≡ passed p) {r : Tried} (er : r ≡ triedOf (verdict t) node) where
-    by-node : {b : Bool} → ltb node (size p) ≡ b → r ≡ cond b (trialAt p node) (Refused 21 0)
-    unfolding triedOf
-    by-node z = by-verdict e er ∙ ap (λ b. cond b (trialAt p node) (Refused 21 0)) z
-
-    module _ (h : node < size p) where
-      by-presents : {b : Bool} → leb (presents (statementAt (nodes p) node)) trialAnswers ≡ b → r ≡ cond b (Gathered (word (tried trialAnswers (suc node - size (statementAt (nodes p) node)) (statementAt (nodes p) node))) (presents (statementAt (nodes p) node))) (Refused 22 0)
-      by-presents z =
-          by-node (lt-ltb node (size p) h)
-          ∙ ap (λ b. cond b (Gathered (word (tried trialAnswers (suc node - size (statementAt (nodes p) node)) (statementAt (nodes p) node))) (presents (statementAt (nodes p) node))) (Refused 22 0)) z
-
-      -- what is gathered is K
-      gathered-at : presents (statementAt (nodes p) node) ≤ trialAnswers → r ≡ Gathered (word (startSet (statementAt (nodes p) node))) (presents (statementAt (nodes p) node))
-      gathered-at few =
-          by-presents (le-leb (presents (statementAt (nodes p) node)) trialAnswers few)
-          ∙ ap (λ s. Gathered s (presents (statementAt (nodes p) node))) (word-same _ _ (λ k j. trials .exact trialAnswers _ (statementAt (nodes p) node) few k))
+  -- what is gathered is K
+  gathered-at : (p : Stmt) → verdict t ≡ passed p → {r : Tried} → r ≡ triedOf (verdict t) node → node < size p → presents (statementAt (nodes p) node) ≤ trialAnswers → r ≡ Gathered (word (startSet (statementAt (nodes p) node))) (presents (statementAt (nodes p) node))
+  gathered-at p e er h few =
+      gathered-is t node er p e h few
+      ∙ ap (λ s. Gathered s (presents (statementAt (nodes p) node))) (word-same _ _ (λ k j. trials .exact trialAnswers _ (statementAt (nodes p) node) few k))
 
   -- an answer is of one of these kinds
   data Settled : Tried → Type 0 where
@@ -78,7 +61,7 @@ module _ (t : List ℕ) (node : ℕ) where
       }
 
   settled : {r : Tried} → r ≡ triedOf (verdict t) node → (v : Verdict) → verdict t ≡ v → Settled r
-  settled {r} er (refused number at) e = subst Settled (sym (of-table number at r e er)) (refuses number at (ofTable number at e (refusals t number at e)))
+  settled {r} er (refused number at) e = subst Settled (sym (of-table t node er number at e)) (refuses number at (ofTable number at e (refusals t number at e)))
   settled {r} er (passed p) e = go (ltb node (size p)) refl
     where
       within : node < size p → (b : Bool) → leb (presents (statementAt (nodes p) node)) trialAnswers ≡ b → Settled r
@@ -86,11 +69,12 @@ module _ (t : List ℕ) (node : ℕ) where
           let few = leb-true (presents (statementAt (nodes p) node)) trialAnswers z in
           subst Settled (sym (gathered-at p e er h few)) (finds _ _ (found-at p e h few))
       within h false z =
-          subst Settled (sym (by-presents p e er h z)) (refuses 22 0 (tooMany p e h (leb-false (presents (statementAt (nodes p) node)) trialAnswers z)))
+          let l = leb-false (presents (statementAt (nodes p) node)) trialAnswers z in
+          subst Settled (sym (too-many-is t node er p e h l)) (refuses 22 0 (tooMany p e h l))
 
       go : (b : Bool) → ltb node (size p) ≡ b → Settled r
       go true z = within (ltb-true node (size p) z) (leb (presents (statementAt (nodes p) node)) trialAnswers) refl
-      go false z = subst Settled (sym (by-node p e er z)) (refuses 21 0 (outside p e (ltb-false node (size p) z)))
+      go false z = let l = ltb-false node (size p) z in subst Settled (sym (outside-is t node er p e l)) (refuses 21 0 (outside p e l))
 
   known-at : (set count : ℕ) → Gathered set count ≡ triedOf (verdict t) node → Found t node set count
   known-at set count er = go (settled er (verdict t) refl)
@@ -128,7 +112,7 @@ ofTrial =
       known = known-at;
       asListed = listed-at;
       refusals = refused-at;
-      ofTable = λ t node number at r e er. of-table t node number at r e er;
-      outside = λ t p node r e h er. by-node t node p e er (le-ltb node (size p) h);
-      tooMany = λ t p node r e h l er. by-presents t node p e er h (lt-leb (presents (statementAt (nodes p) node)) trialAnswers l);
+      ofTable = λ t node number at r e er. of-table t node er number at e;
+      outside = λ t p node r e h er. outside-is t node er p e h;
+      tooMany = λ t p node r e h l er. too-many-is t node er p e h l;
     }

@@ -7,7 +7,7 @@ use lib.ListN.{length, getD, take, drop, length-drop}
 use lib.Seq.{take-suc, getD-drop, take-at, drop-at}
 use Rattle.codes.specs.Codes.{bit}
 use Rattle.esterel.specs.Limits.{maxNodes}
-use Rattle.esterel.specs.Statement.{nothing, pause, emit, exit, signal, suspend, loop, trap, present, sequence, parallel, Stmt, leaf, one, two, kind, size, nodes}
+use Rattle.esterel.specs.Statement.{Leaf, nothing, pause, emit, exit, Unary, signal, suspend, loop, trap, Binary, present, sequence, parallel, Stmt, leaf, one, two, kind, size, nodes}
 use Rattle.esterel.specs.Outcome.{statementAt}
 use Rattle.esterel.proofs.Sizes.{length-nodes}
 use Rattle.esterel.proofs.Subtrees.{subtrees}
@@ -40,19 +40,32 @@ tests-last : (a : List Stmt) (w : Stmt) → tests (a ++ (w ∷ [])) ≡ tests a 
 unfolding tests
 tests-last a w = omega (arith, tests-append a (w ∷ []))
 
+own-leaf : (l : Leaf) → own (leaf l) ≡ 0
+unfolding own kindOf
+own-leaf nothing = refl
+own-leaf pause = refl
+own-leaf (emit s) = refl
+own-leaf (exit level) = refl
+
+own-one : (u : Unary) (p : Stmt) → own (one u p) ≡ 0
+unfolding own kindOf
+own-one (signal s) p = refl
+own-one (suspend s) p = refl
+own-one loop p = refl
+own-one trap p = refl
+
+own-two : (b : Binary) (p q : Stmt) → own (two b p q) + (presents p + presents q) ≡ presents (two b p q)
+unfolding own kindOf
+own-two (present s) p q = omega arith
+own-two sequence p q = omega arith
+own-two parallel p q = omega arith
+
 tests-nodes : (p : Stmt) → tests (nodes p) ≡ presents p
-unfolding tests own kindOf
-tests-nodes (leaf nothing) = refl
-tests-nodes (leaf pause) = refl
-tests-nodes (leaf (emit s)) = refl
-tests-nodes (leaf (exit level)) = refl
-tests-nodes (one (signal s) p) = tests-last (nodes p) (one (signal s) p) ∙ omega (arith, tests-nodes p)
-tests-nodes (one (suspend s) p) = tests-last (nodes p) (one (suspend s) p) ∙ omega (arith, tests-nodes p)
-tests-nodes (one loop p) = tests-last (nodes p) (one loop p) ∙ omega (arith, tests-nodes p)
-tests-nodes (one trap p) = tests-last (nodes p) (one trap p) ∙ omega (arith, tests-nodes p)
-tests-nodes (two (present s) p q) = tests-last (nodes p ++ nodes q) (two (present s) p q) ∙ omega (arith, tests-append (nodes p) (nodes q), tests-nodes p, tests-nodes q)
-tests-nodes (two sequence p q) = tests-last (nodes p ++ nodes q) (two sequence p q) ∙ omega (arith, tests-append (nodes p) (nodes q), tests-nodes p, tests-nodes q)
-tests-nodes (two parallel p q) = tests-last (nodes p ++ nodes q) (two parallel p q) ∙ omega (arith, tests-append (nodes p) (nodes q), tests-nodes p, tests-nodes q)
+unfolding tests
+tests-nodes (leaf l) = omega (arith, own-leaf l)
+tests-nodes (one u p) = tests-last (nodes p) (one u p) ∙ omega (arith, tests-nodes p, own-one u p)
+tests-nodes (two b p q) =
+    tests-last (nodes p ++ nodes q) (two b p q) ∙ omega (arith, tests-append (nodes p) (nodes q), tests-nodes p, tests-nodes q, own-two b p q)
 
 own-few : (w : Stmt) → own w ≤ 1
 unfolding own

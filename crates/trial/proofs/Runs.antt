@@ -28,10 +28,10 @@ use Rattle.instant.specs.declared.Ran.the-variants.{Closed, Starved}
 use Rattle.instant.proofs.Algebra.{em-length}
 use Rattle.instant.proofs.Sets.{sets-at}
 use Rattle.instant.proofs.Nodes.{accepted}
-use Rattle.trial.specs.Lists.{lists}
+use Rattle.trial.specs.Lists.{lists, listAt}
 use Rattle.starts.proofs.Theorems.{takesFew}
-use Rattle.trial.specs.Trials.{codeOf, gathered, tried, trialAnswers}
-use Rattle.trial.specs.Steps.{Triable, listAt, codeSet, LowCode}
+use Rattle.trial.specs.Trials.{completion, gathered, tried, trialAnswers}
+use Rattle.trial.specs.Steps.{Triable, codeSet, LowCode}
 use Rattle.trial.proofs.Lists.{length-lists, list-long, list-at, half}
 
 -- ---- the answers
@@ -103,18 +103,18 @@ module _ {t sizes : List ℕ} {first node : ℕ} (w : Triable t sizes first node
       let same : length (sets held first (zeros (node + 1 - first))) ≡ length held = length-sets held first (zeros (node + 1 - first)) in
       (w .runnable, record { within = w .countable .within; places = rw cleans (omega arith); marks = wide; lent = omega arith }, rw cleans (cleared held long))
 
-  pub run-low : {answers held held′ marks marks′ : List ℕ} (taken : ℕ) {r : Ran} → Started t answers held held′ marks marks′ node taken r → LowCode r
-  run-low {answers} {held} {held′} {marks} {marks′} taken {r} o = go (start (firstAt t node) (stmtAt t node) (drop taken answers)) r o (low (drop taken answers))
+  pub run-low : {answers held held′ marks marks′ : List ℕ} {r : Ran} → Started t answers held held′ marks marks′ node 0 r → LowCode r
+  run-low {answers} {held} {held′} {marks} {marks′} {r} o = go (start (firstAt t node) (stmtAt t node) answers) r o (low answers)
     where
       go : (x : Result) (r : Ran) → RanIs t answers (firstAt t node) held held′ marks marks′ x r → ((k : ℕ) (u : List Entry) (h s : List ℕ) → x ≡ closed k u h s → k < 64) → LowCode r
       go x r (ran code taken trail h le es em) lo = lo code trail h (drop taken answers) refl
       go x r starves lo = tt
 
-  set-is : {answers held held′ marks marks′ : List ℕ} {f : ℕ} {x : Result} {r : Ran} → RanIs t answers f held held′ marks marks′ x r → codeSet r ≡ word (codeOf x)
+  set-is : {answers held held′ marks marks′ : List ℕ} {f : ℕ} {x : Result} {r : Ran} → RanIs t answers f held held′ marks marks′ x r → codeSet r ≡ word (completion x)
   set-is (ran code taken trail h le es em) = singleton-word code
   set-is starves = sym (word-empty empty (λ k. refl))
 
-  pub run-returns : {answers held held′ marks marks′ : List ℕ} {s : ℕ} {r : Ran} → Started t answers held held′ marks marks′ node 0 r → s ≡ codeSet r → s ≡ word (codeOf (start (firstAt t node) (stmtAt t node) answers))
+  pub run-returns : {answers held held′ marks marks′ : List ℕ} {s : ℕ} {r : Ran} → Started t answers held held′ marks marks′ node 0 r → s ≡ codeSet r → s ≡ word (completion (start (firstAt t node) (stmtAt t node) answers))
   run-returns o es = es ∙ set-is o
 
   -- no run is starved of answers, so that the emissions are as long as they were
@@ -128,10 +128,10 @@ module _ {t sizes : List ℕ} {first node : ℕ} (w : Triable t sizes first node
 -- ---- all runs
 
 -- one list more
-gathered-last : (run : List ℕ → Result) (ls : List (List ℕ)) (l : List ℕ) (k : ℕ) → gathered run (ls ++ (l ∷ [])) k ≡ (gathered run ls k || codeOf (run l) k)
+gathered-last : (run : List ℕ → Result) (ls : List (List ℕ)) (l : List ℕ) (k : ℕ) → gathered run (ls ++ (l ∷ [])) k ≡ (gathered run ls k || completion (run l) k)
 unfolding gathered
-gathered-last run [] l k = or-false (codeOf (run l) k)
-gathered-last run (x ∷ ls) l k = ap (λ b. codeOf (run x) k || b) (gathered-last run ls l k) ∙ sym (or-assoc (codeOf (run x) k) (gathered run ls k) (codeOf (run l) k))
+gathered-last run [] l k = or-false (completion (run l) k)
+gathered-last run (x ∷ ls) l k = ap (λ b. completion (run x) k || b) (gathered-last run ls l k) ∙ sym (or-assoc (completion (run x) k) (gathered run ls k) (completion (run l) k))
 
 -- the codes of the lists before number i
 abbrev pub gatheredTo : (run : List ℕ → Result) (m i : ℕ) → ℕ
@@ -141,10 +141,10 @@ pub gathered-starts : (run : List ℕ → Result) (m : ℕ) → 0 ≡ gatheredTo
 unfolding gathered
 gathered-starts run m = sym (word-empty empty (λ k. refl))
 
-pub gathered-next : (run : List ℕ → Result) (m i : ℕ) {answers : List ℕ} {s x r : ℕ} → i < 2 ^ m → s ≡ gatheredTo run m i → answers ≡ listAt m i → x ≡ word (codeOf (run answers)) → r ≡ unionOf s x → r ≡ gatheredTo run m (i + 1)
+pub gathered-next : (run : List ℕ → Result) (m i : ℕ) {answers : List ℕ} {s x r : ℕ} → i < 2 ^ m → s ≡ gatheredTo run m i → answers ≡ listAt m i → x ≡ word (completion (run answers)) → r ≡ unionOf s x → r ≡ gatheredTo run m (i + 1)
 gathered-next run m i h es ea ex er =
     let more : take (suc i) (lists m) ≡ take i (lists m) ++ (listAt m i ∷ []) = take-suc (lists m) i [] (omega (arith, length-lists m)) in
-    er ∙ ap₂ unionOf es (ex ∙ ap (λ l. word (codeOf (run l))) ea) ∙ union-word (gathered run (take i (lists m))) (codeOf (run (listAt m i)))
+    er ∙ ap₂ unionOf es (ex ∙ ap (λ l. word (completion (run l))) ea) ∙ union-word (gathered run (take i (lists m))) (completion (run (listAt m i)))
     ∙ word-same _ _ (λ k j. sym (gathered-last run (take i (lists m)) (listAt m i) k))
     ∙ ap (λ ls. word (gathered run ls)) (sym more ∙ ap (λ n. take n (lists m)) (sym (add-one i)))
 

@@ -13,9 +13,13 @@ use Rattle.trial.specs.Trials.{tried, trialAnswers}
 use Rattle.trial.specs.declared.Tried.{Tried}
 use Rattle.trial.specs.declared.Tried.the-variants.{Gathered, Refused}
 
--- the statement q, whose first node is n: 22 for more than 12 presents, else the codes that its starts give
+-- the statement q, whose first node is n: the codes that its starts give, and its presents
+abbrev pub gatheredOf : (n : ℕ) → Stmt → Tried
+gatheredOf n q = Gathered (word (tried trialAnswers n q)) (presents q)
+
+-- 22 for more than 12 presents
 abbrev pub trialOf : (n : ℕ) → Stmt → Tried
-trialOf n q = cond (leb (presents q) trialAnswers) (Gathered (word (tried trialAnswers n q)) (presents q)) (Refused 22 0)
+trialOf n q = cond (leb (presents q) trialAnswers) (gatheredOf n q) (Refused 22 0)
 
 -- at a node of a program
 abbrev pub trialAt : Stmt → (node : ℕ) → Tried

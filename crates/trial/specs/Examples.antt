@@ -46,7 +46,7 @@ pub record Examples : Type 0 where
   -- so it is with the 4,096 lists of 12 answers
   pub twelve : tried trialAnswers 0 (nested 12) 1 ≡ true
   pub thirteen : tried trialAnswers 0 (nested 13) 1 ≡ false
-  -- the exit is caught, beside an exit that is not, and beside a pause
+  -- an exit that is caught, a pause, and an exit to the next trap, handed on as 2
   pub exitCaught : tried 2 0 exits 0 ≡ true
   pub exitPauses : tried 2 0 exits 1 ≡ true
   pub exitOuter : tried 2 0 exits 2 ≡ true

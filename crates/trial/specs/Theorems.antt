@@ -4,7 +4,7 @@ use Prim.Native.Nat.{ℕ, suc, _-_, _^_, _≤_, _<_}
 use mathlib.Core.Path.{_≡_}
 use mathlib.Core.Logic.{_↔_}
 use mathlib.Core.Bool.{true, false}
-use mathlib.Core.List.{List, []}
+use mathlib.Core.List.{List}
 use lib.ListN.{length, getD}
 use Rattle.codes.specs.Codes.{word}
 use Rattle.codes.specs.Words.{_∋_}
@@ -19,7 +19,7 @@ use Rattle.esterel.specs.Outcome.{statementAt}
 use Rattle.analysis.specs.Analysis.{Analysis}
 use Rattle.analysis.specs.declared.Analysed.the-variants.{Done}
 use Rattle.starts.specs.Ticks.{Bits, presents}
-use Rattle.trial.specs.Lists.{lists}
+use Rattle.trial.specs.Lists.{lists, listAt}
 use Rattle.trial.specs.Trials.{tried, trialAnswers}
 use Rattle.trial.specs.Calls.{triedOf}
 use Rattle.trial.specs.declared.Tried.{Tried}
@@ -29,13 +29,13 @@ use Rattle.trial.specs.declared.Tried.the-variants.{Gathered, Refused}
 -- there are 4,096.
 pub record AllLists : Type 0 where
   pub many : (m : ℕ) → length (lists m) ≡ 2 ^ m
-  pub each : (m i : ℕ) → i < 2 ^ m → (length (getD (lists m) i []) ≡ m) × Bits (getD (lists m) i [])
-  pub once : (m i j : ℕ) → i < 2 ^ m → j < 2 ^ m → getD (lists m) i [] ≡ getD (lists m) j [] → i ≡ j
-  pub all : (m : ℕ) (answers : List ℕ) → length answers ≡ m → Bits answers → (i : ℕ) × (i < 2 ^ m) × (getD (lists m) i [] ≡ answers)
+  pub each : (m i : ℕ) → i < 2 ^ m → (length (listAt m i) ≡ m) × Bits (listAt m i)
+  pub once : (m i j : ℕ) → i < 2 ^ m → j < 2 ^ m → listAt m i ≡ listAt m j → i ≡ j
+  pub all : (m : ℕ) (answers : List ℕ) → length answers ≡ m → Bits answers → (i : ℕ) × (i < 2 ^ m) × (listAt m i ≡ answers)
   pub twelve : length (lists trialAnswers) ≡ 4096
 
 -- p, whose first node is n, started with some list of m answers of 0 or 1, finishes with code k
-pub record Gives (m n : ℕ) (p : Stmt) (k : ℕ) : Type 0 where
+pub record GivenBy (m n : ℕ) (p : Stmt) (k : ℕ) : Type 0 where
   pub answers : List ℕ
   pub many : length answers ≡ m
   pub bits : Bits answers
@@ -46,9 +46,10 @@ pub record Gives (m n : ℕ) (p : Stmt) (k : ℕ) : Type 0 where
 
 pub record Trials : Type 0 where
   -- the codes gathered are those that some list of m answers gives
-  pub gathers : (m n : ℕ) (p : Stmt) (k : ℕ) → (tried m n p k ≡ true) ↔ Gives m n p k
-  -- "The result is proved equal to K": where the statement has at most m presents. It rests on exactness (esterel/specs/Theorems) and on
-  -- `TakesFew` (starts/specs/Theorems): a start takes at most as many answers as there are presents in the statement
+  pub gathers : (m n : ℕ) (p : Stmt) (k : ℕ) → (tried m n p k ≡ true) ↔ GivenBy m n p k
+  -- "The result is proved equal to K": where the statement has at most m presents. It rests on exactness and on `LeftOver` (answers left
+  -- over make no difference), esterel/specs/Theorems, and on `TakesFew` (a start takes at most as many answers as there are presents in the
+  -- statement) and `OneShown` (a code of K has a list of 0 and 1 that leads to it), starts/specs/Theorems
   pub exact : (m n : ℕ) (p : Stmt) → presents p ≤ m → (k : ℕ) → tried m n p k ≡ startSet p k
   -- with too few answers no code is wrong, but one may be missing: for each number of answers there is a statement with one present more
   -- for which it is
@@ -70,7 +71,7 @@ pub record Found (t : List ℕ) (node set count : ℕ) : Type 0 where
   pub few : count ≤ trialAnswers
   pub counts : count ≡ presents (statementAt (nodes program) node)
   pub byTrial :
-      (k : ℕ) → ((set ∋ k) ≡ true) ↔ Gives trialAnswers (suc node - size (statementAt (nodes program) node)) (statementAt (nodes program) node) k
+      (k : ℕ) → ((set ∋ k) ≡ true) ↔ GivenBy trialAnswers (suc node - size (statementAt (nodes program) node)) (statementAt (nodes program) node) k
   pub isK : Represents set (startSet (statementAt (nodes program) node))
 
 -- what follows for `trial` from its contract

@@ -6,16 +6,16 @@ use Rattle.esterel.specs.Statement.{Stmt}
 use Rattle.esterel.specs.Instant.{Result, closed, starved, stuck, start}
 use Rattle.trial.specs.Lists.{lists}
 
--- the code of a run, if it finishes with one
-abbrev pub codeOf : Result → Codes
-codeOf (closed k trail held rest) = only k
-codeOf starved = empty
-codeOf stuck = empty
+-- the code that a run finishes with, if it does
+abbrev pub completion : Result → Codes
+completion (closed k trail held rest) = only k
+completion starved = empty
+completion stuck = empty
 
 -- the codes of the runs over some lists of answers
 unfoldable pub gathered : (List ℕ → Result) → List (List ℕ) → Codes
 gathered run [] = empty
-gathered run (l ∷ ls) = union (codeOf (run l)) (gathered run ls)
+gathered run (l ∷ ls) = union (completion (run l)) (gathered run ls)
 
 -- p, whose first node is n, started with every list of m answers of 0 or 1
 unfoldable pub tried : (m n : ℕ) → Stmt → Codes

@@ -1,6 +1,6 @@
 // Start sets by trial (F-13): a node is started with every list of 12 answers, and the codes are gathered.
 ghost use mathlib.Core.Path.{_≡_};
-ghost use Prim.Native.Nat.{_<_, _≤_};
+ghost use Prim.Native.Nat.{_^_, _<_, _≤_};
 ghost use lib.ListN.{length};
 ghost use Rattle.codes.specs.Codes.{word};
 ghost use Rattle.esterel.specs.Limits.{signals};
@@ -8,8 +8,9 @@ ghost use Rattle.esterel.specs.Instant.{start};
 ghost use Rattle.esterel.specs.Checks.{verdict};
 ghost use Rattle.table.specs.Columns.{stmtAt, firstAt};
 ghost use Rattle.starts.specs.Ticks.{presents};
-ghost use Rattle.trial.specs.Trials.{codeOf, tried, trialAnswers};
-ghost use Rattle.trial.specs.Steps.{Countable, Triable, listAt, codeSet, LowCode};
+ghost use Rattle.trial.specs.Lists.{listAt};
+ghost use Rattle.trial.specs.Trials.{completion, tried, trialAnswers};
+ghost use Rattle.trial.specs.Steps.{Countable, Triable, codeSet, LowCode};
 ghost use Rattle.trial.specs.Calls.{refusalOf, triedOf};
 use instant::Ran;
 use table::Check;
@@ -35,7 +36,7 @@ fn count_presents(table: &[u8], first: usize, node: usize) -> usize
 
 // The answers of a list by its number: they are the digits of the number in base 2, the lowest first.
 fn answers_of(number: usize) -> [u8; ANSWERS]
-    requires { ⌜ number < 4096 ⌝ }
+    requires { ⌜ number < 2 ^ trialAnswers ⌝ }
     ensures { λ r. ⌜ r ≡ listAt trialAnswers number ⌝ }
 {
     let mut answers = [0u8; ANSWERS];
@@ -49,7 +50,7 @@ fn answers_of(number: usize) -> [u8; ANSWERS]
     answers
 }
 
-// The code of a run as a set, if it closed.
+// The code of a run as a set, if it closed. One that is starved has none; with 12 answers no run is.
 fn code_set(ran: Ran) -> u64
     requires { ⌜ LowCode ran ⌝ }
     ensures { λ r. ⌜ r ≡ codeSet ran ⌝ }
@@ -76,7 +77,7 @@ fn try_list(
     emissions: &mut [u8; esterel::SIGNALS],
 ) -> u64
     requires { ⌜ Triable (now table) (now sizes) first node × (signals ≤ length (now emissions)) ⌝ }
-    ensures code { λ r. ⌜ r ≡ word (codeOf (start (firstAt (now (table .entry)) node) (stmtAt (now (table .entry)) node) (now (answers .entry)))) ⌝ }
+    ensures code { λ r. ⌜ r ≡ word (completion (start (firstAt (now (table .entry)) node) (stmtAt (now (table .entry)) node) (now (answers .entry)))) ⌝ }
     ensures kept { λ r. ⌜ signals ≤ length (now (emissions .exit)) ⌝ }
 {
     packing::clear(held, first, node + 1);
@@ -84,7 +85,8 @@ fn try_list(
     code_set(ran)
 }
 
-// And with every list, one after the other. The contract says what the runs give; that they are made it cannot say, since that is K.
+// The statement is started with every list. The contract tells only the set, which is K however it is found; that the runs are made is seen
+// in this loop.
 fn gather(table: &[u8], sizes: &[u16; esterel::MAX_NODES], first: usize, node: usize) -> u64
     requires { ⌜ Triable (now table) (now sizes) first node ⌝ }
     ensures { λ r. ⌜ r ≡ word (tried trialAnswers (firstAt (now (table .entry)) node) (stmtAt (now (table .entry)) node)) ⌝ }

@@ -1,7 +1,7 @@
 -- `trial::gather` meets its contract: the codes of the lists before `number` are gathered.
 use borrow.Author.Needs.{needs}
 use native.Mathlib.Omega.{arith}
-use Prim.Native.Nat.{_-_, _≤_}
+use Prim.Native.Nat.{_-_, _^_, _≤_}
 use mathlib.Core.Path.{_≡_}
 use denote.Ref.{now}
 use lib.ListN.{length}
@@ -17,7 +17,7 @@ abbrev Inv-loop : tie.InvT-loop
 Inv-loop table sizes first node held₀ emissions₀ set₀ number₀ held emissions set number = (signals ≤ length emissions) × (set ≡ gatheredTo (start (firstAt table node) (stmtAt table node)) trialAnswers number)
 
 abbrev μ-loop : tie.MeasureT-loop
-μ-loop table sizes first node held₀ emissions₀ set₀ number₀ held emissions set number = 4096 - number
+μ-loop table sizes first node held₀ emissions₀ set₀ number₀ held emissions set number = 2 ^ trialAnswers - number
 
 loop-holds : tie.Need-loop-holds Inv-loop μ-loop
 loop-holds c = (omega arith, gathered-starts (start (firstAt (now (c .before .args .table)) (c .before .args .node)) (stmtAt (now (c .before .args .table)) (c .before .args .node))) trialAnswers)

@@ -34,7 +34,7 @@ abbrev start : Within → tie.Start
 start p = p .before .before .before .before .before .before .before
 
 add-first : tie.Need-add-first
-add-first c = let p = c in omega (arith, has-size (p .before .before .before .before .check-sized .ensures) (start p .args .node) (p .before .enum-told .given .1) (p .if1 .left) .1)
+add-first p = omega (arith, has-size (p .before .before .before .before .check-sized .ensures) (start p .args .node) (p .before .enum-told .given .1) (p .if1 .left) .1)
 
 slice-aggregate-size-at : tie.Need-slice-aggregate-size-at
 slice-aggregate-size-at c = search needs

@@ -15,7 +15,7 @@ start-at-requires : tie.Need-start-at-requires
 start-at-requires c κs = run-call (c .before .before .before .before .before .before .pre .0) (now (c .before .before .before .before .before .before .args .held)) (c .before .before .before .clear .ensures) (omega (arith, few-places (c .before .before .before .before .before .before .pre .0))) (c .before .before .before .before .before .before .pre .1)
 
 code-set-requires : tie.Need-code-set-requires
-code-set-requires c κs = run-low (c .before .before .before .before .before .before .before .pre .0) 0 (c .start-at .ensures)
+code-set-requires c κs = run-low (c .before .before .before .before .before .before .before .pre .0) (c .start-at .ensures)
 
 returns : tie.Need-returns
 returns c = (run-returns (c .before .before .before .before .before .before .before .before .pre .0) (c .before .start-at .ensures) (c .code-set .ensures), run-kept (c .before .before .before .before .before .before .before .before .pre .0) (c .before .before .before .before .start-at-arg .given .0) (c .before .before .before .before .before .before .before .before .pre .1) (c .before .start-at .ensures))
