@@ -11,7 +11,7 @@ use Rattle.codes.specs.Codes.{word}
 use Rattle.codes.specs.Words.{unionOf}
 use Rattle.codes.proofs.Laws.{singleton-word, union-word, word-empty, word-same}
 use Rattle.esterel.specs.Codes.{empty}
-use Rattle.esterel.specs.Limits.{signals}
+use Rattle.esterel.specs.Limits.{maxNodes, signals}
 use Rattle.esterel.specs.Statement.{Stmt, size}
 use Rattle.esterel.specs.Sets.{startSet}
 use Rattle.esterel.specs.Instant.{Entry, Result, closed, start, zeros}
@@ -84,7 +84,7 @@ module _ {t sizes : List ℕ} {first node : ℕ} (w : Triable t sizes first node
       let in-k : startSet (stmtAt t node) k ≡ true = exactness (stmtAt t node) (firstAt t node) k .1 (answers, u, h, r, e) in
       omega (arith, x .fits, x .lowK k (rw (subtrees .placed (programOf t) node) in-k))
 
-  pub few-places : size (programOf t) ≤ 1024
+  pub few-places : size (programOf t) ≤ maxNodes
   few-places = few-nodes t (w .countable .readable)
 
   -- its nodes' bytes, which are those from its first on
