@@ -1,5 +1,6 @@
 // Sets of completion codes, each held in a u64: bit k is 1 where code k is in the set.
 #![tactic(auto)]
+
 ghost use Rattle.std.specs.Prelude.{◌≡◌, ◌+◌, ◌<◌};
 ghost use Rattle.codes.specs.Codes.{catch_code};
 ghost use Rattle.codes.specs.Words.{◌∋◌, singleton_of, union_of, without_ended_of, meets_of, lowest_of, highest_of, larger_of, parallel_of, caught_of, under_trap_of, under_parallel_of, span_of};

@@ -1,5 +1,5 @@
 -- Where a statement's places stand in the program's list.
-use mathlib.Core.Path.{◌≡◌, refl}
+use mathlib.Core.Path.{◌≡◌, refl, sym, subst}
 use mathlib.Core.List.{List, [], ◌∷◌, ◌++◌, append_assoc, append-nil}
 use Prim.Native.Nat.{ℕ, suc, ◌+◌}
 use native.Mathlib.Omega.{arith}
@@ -29,8 +29,8 @@ placed (one u p) d t P pre post n e =
     let own = at d t P (one u p) in
     let child : pre ++ ((inner ++ (own ∷ [])) ++ post) ≡ pre ++ (inner ++ (own ∷ post)) = simp append_assoc in
     let last : pre ++ ((inner ++ (own ∷ [])) ++ post) ≡ (pre ++ inner) ++ (own ∷ post) = simp append_assoc in (
-      rw child (placed p (suc d) (traps_under u t) (under u P) pre (own ∷ post) n e),
-      rw last (get_or_at (pre ++ inner) own post outside (n + size p) (rw length-append (omega (arith, length-places p (suc d) (traps_under u t) (under u P))))),
+      subst (λ xs. Placed xs n (suc d) (traps_under u t) (under u P) p) (sym child) (placed p (suc d) (traps_under u t) (under u P) pre (own ∷ post) n e),
+      subst (λ xs. place_in xs (n + size p) ≡ own) (sym last) (get_or_at (pre ++ inner) own post outside (n + size p) (rw length-append (omega (arith, length-places p (suc d) (traps_under u t) (under u P))))),
     )
 placed (two b p q) d t P pre post n e =
     let l = places (suc d) t (under_left b t P q) p in
@@ -41,9 +41,9 @@ placed (two b p q) d t P pre post n e =
     let first : pre ++ ((l ++ r ++ (own ∷ [])) ++ post) ≡ pre ++ (l ++ (r ++ (own ∷ post))) = simp append_assoc in
     let second : pre ++ ((l ++ r ++ (own ∷ [])) ++ post) ≡ (pre ++ l) ++ (r ++ (own ∷ post)) = simp append_assoc in
     let last : pre ++ ((l ++ r ++ (own ∷ [])) ++ post) ≡ (pre ++ (l ++ r)) ++ (own ∷ post) = simp append_assoc in (
-      rw first (placed p (suc d) t (under_left b t P q) pre (r ++ (own ∷ post)) n e),
-      rw second (placed q (suc d) t (under_right b t P p) (pre ++ l) (own ∷ post) (n + size p) (rw length-append (omega arith))),
-      rw last (get_or_at (pre ++ (l ++ r)) own post outside (n + (size p + size q)) (rw (length-append, length-append) (omega arith))),
+      subst (λ xs. Placed xs n (suc d) t (under_left b t P q) p) (sym first) (placed p (suc d) t (under_left b t P q) pre (r ++ (own ∷ post)) n e),
+      subst (λ xs. Placed xs (n + size p) (suc d) t (under_right b t P p) q) (sym second) (placed q (suc d) t (under_right b t P p) (pre ++ l) (own ∷ post) (n + size p) (rw length-append (omega arith))),
+      subst (λ xs. place_in xs (n + (size p + size q)) ≡ own) (sym last) (get_or_at (pre ++ (l ++ r)) own post outside (n + (size p + size q)) (rw (length-append, length-append) (omega arith))),
     )
 
 pub placed-own : (p : Stmt) → Placed (places_of p) 0 1 0 empty p
