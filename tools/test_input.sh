@@ -122,23 +122,23 @@ told() {
 
 gcc -Wall -Wextra -Werror -O1 tools/pieces.c -o "$out/pieces" &&
     cargo build --manifest-path compare/Cargo.toml --release --offline --locked --quiet --bin list --bin tick --bin first_tick --bin translate &&
-    make_tables && make_texts && told "$PWD/target/bin/translate" translate && told "$others/translate" other_translate || { echo "0 passed, 1 failed"; exit 1; }
+    make_tables && make_texts && told "$PWD/crates/translate/out/translate" translate && told "$others/translate" other_translate || { echo "0 passed, 1 failed"; exit 1; }
 count "a read gets a piece" is_in_pieces
 count "the longest table is accepted" is_accepted
-run target/bin/list "$others/list" examples/*.table "$out"/*.table
-run_failing target/bin/list examples/w1.table
-run target/bin/tick "$others/tick" examples/*.table "$out"/*.table
-run_failing target/bin/tick examples/w1.table
-run target/bin/first_tick "$others/first_tick" examples/*.table "$out"/*.table
-run_failing target/bin/first_tick examples/w1.table
+run crates/list/out/list "$others/list" examples/*.table "$out"/*.table
+run_failing crates/list/out/list examples/w1.table
+run crates/tick/out/tick "$others/tick" examples/*.table "$out"/*.table
+run_failing crates/tick/out/tick examples/w1.table
+run crates/first_tick/out/first_tick "$others/first_tick" examples/*.table "$out"/*.table
+run_failing crates/first_tick/out/first_tick examples/w1.table
 run "$out/translate" "$out/other_translate" examples/*.strl "$out"/*.text
-run_failing target/bin/translate examples/lock.strl
-run target/bin/tables "cat crates/tables/stdout" crates/tables/stdin
-run target/bin/instants "cat crates/instants/stdout" crates/instants/stdin
-run target/bin/texts "cat crates/texts/stdout" crates/texts/stdin
-run target/bin/ticks "cat crates/ticks/stdout" crates/ticks/stdin
-run target/bin/plans "cat crates/plans/stdout" crates/plans/stdin
-run target/bin/partitions "cat crates/partitions/stdout" crates/partitions/stdin
-run target/bin/narrowings "cat crates/narrowings/stdout" crates/narrowings/stdin
+run_failing crates/translate/out/translate examples/lock.strl
+run crates/tables/out/tables "cat crates/tables/stdout" crates/tables/stdin
+run crates/instants/out/instants "cat crates/instants/stdout" crates/instants/stdin
+run crates/texts/out/texts "cat crates/texts/stdout" crates/texts/stdin
+run crates/ticks/out/ticks "cat crates/ticks/stdout" crates/ticks/stdin
+run crates/plans/out/plans "cat crates/plans/stdout" crates/plans/stdin
+run crates/partitions/out/partitions "cat crates/partitions/stdout" crates/partitions/stdin
+run crates/narrowings/out/narrowings "cat crates/narrowings/stdout" crates/narrowings/stdin
 echo "$passed passed, $failed failed"
 [ "$failed" -eq 0 ]
