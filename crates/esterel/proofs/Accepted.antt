@@ -11,7 +11,7 @@ use Rattle.codes.proofs.Bools.{to_not}
 use Rattle.esterel.specs.Statement.{nothing, pause, emit, exit, loop, Stmt, leaf, one, two, size, nodes, traps_under}
 use Rattle.esterel.specs.Codes.{Codes, empty}
 use Rattle.esterel.specs.Sets.{start_set, Place, at, stmt_of, places, places_of, outside, place_at, under, under_left, under_right}
-use Rattle.esterel.specs.Table.{Verdict, passed, refused, read, postfix}
+use Rattle.esterel.specs.Table.{Verdict, passed, refused, read}
 use Rattle.esterel.specs.Checks.{too_deep, too_many_traps, uncaught, ends_at_once, first_node, refuse_at, check_places, check_program, verdict}
 use Rattle.esterel.specs.Outcome.{statement_at}
 use Rattle.esterel.specs.Theorems.{Accepted, Acceptance}

@@ -1,13 +1,13 @@
 -- What a run takes of its answers decides it, whatever follows; and each code of K is reached.
 use mathlib.Core.Path.{◌≡◌, refl, sym, ap, ◌∙◌, subst}
-use mathlib.Core.Bool.{Bool, true, false, ◌&&◌, ◌||◌, cond, false≢true}
-use mathlib.Core.Logic.{◌⊎◌, inl, inr, ⊎_elim}
+use mathlib.Core.Bool.{Bool, true, false, ◌&&◌, cond, false≢true}
+use mathlib.Core.Logic.{⊎_elim}
 use mathlib.Core.List.{List, [], ◌∷◌, ◌++◌, append_assoc}
 use Prim.Native.Nat.{ℕ, zero, suc, ◌+◌, max}
 use lib.ListN.{length}
 use Rattle.codes.proofs.Bools.{left, right, either}
 use Rattle.codes.proofs.Members.{only_out, larger_out, caught_out}
-use Rattle.esterel.specs.Statement.{Leaf, nothing, pause, emit, exit, Unary, signal, suspend, loop, trap, Binary, present, sequence, parallel, Stmt, leaf, one, two, size}
+use Rattle.esterel.specs.Statement.{Leaf, nothing, pause, emit, exit, signal, suspend, loop, trap, present, sequence, parallel, Stmt, leaf, one, two, size}
 use Rattle.esterel.specs.Codes.{catch_code}
 use Rattle.esterel.specs.Sets.{start_set}
 use Rattle.esterel.specs.Instant.{Mode, started, resumed, Entry, entry, Result, closed, starved, stuck, zeros, single, enter, onto, zeros_then, then_zeros, and_then, beside, body, again, catch, idle, holds, first, second, start, resume}

@@ -1,19 +1,18 @@
 -- What a resumption keeps, for every statement whose exits are caught and bytes that fit it and hold a pause.
-use mathlib.Core.Path.{◌≡◌, refl, sym}
-use mathlib.Core.Bool.{Bool, true, false, ◌&&◌, cond}
-use mathlib.Core.List.{List, [], ◌∷◌, ◌++◌}
-use Prim.Native.Nat.{ℕ, zero, suc, ◌+◌, ◌≤◌, ◌<◌, max}
+use mathlib.Core.Path.{◌≡◌, refl}
+use mathlib.Core.Bool.{true, false}
+use mathlib.Core.List.{List, [], ◌∷◌}
+use Prim.Native.Nat.{ℕ, zero, suc, ◌+◌, ◌<◌}
 use native.Mathlib.Nat.{max-le}
 use native.Mathlib.Omega.{arith}
 use lib.Dec.{eqb}
-use lib.ListN.{length}
-use Rattle.esterel.specs.Statement.{Leaf, nothing, pause, emit, exit, Unary, signal, suspend, loop, trap, Binary, present, sequence, parallel, Stmt, leaf, one, two, kind, size}
+use Rattle.esterel.specs.Statement.{nothing, pause, emit, exit, signal, suspend, loop, trap, present, sequence, parallel, Stmt, leaf, one, two, kind, size}
 use Rattle.esterel.specs.Sets.{start_set}
-use Rattle.esterel.specs.Instant.{started, resumed, entry, Result, zeros, enter, start, resume, idle, holds, first, second}
+use Rattle.esterel.specs.Instant.{resumed, entry, Result, zeros, enter, start, resume, idle, holds, first, second}
 use Rattle.esterel.specs.Outcome.{statement_at}
 use Rattle.esterel.proofs.Sizes.{load, size-load}
 use Rattle.esterel.proofs.Held.{holds-zeros, Fits, fits-leaf, fits_one, fits-two, fits-zeros, fits-ended, fits-left, fits-right, child_fits, child-holds, left-fits, right-fits, right-holds, leaf-holds}
-use Rattle.esterel.proofs.Run.{Run, ran, asked, Ran, weaken, enter-run, alone-run, skip_run, and_then-run, beside-run, again-run, catch-run, cond-run}
+use Rattle.esterel.proofs.Run.{Run, ran, asked, weaken, enter-run, alone-run, skip_run, and_then-run, beside-run, again-run, catch-run, cond-run}
 use Rattle.esterel.proofs.Nodes.{Sits}
 use Rattle.esterel.proofs.Low.{Exits, Low, low-catch, start-low}
 use Rattle.esterel.proofs.Start.{Inside, dropped, start-run}

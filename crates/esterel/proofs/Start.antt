@@ -1,21 +1,21 @@
 -- What a start keeps, for every statement: its code is in K, its bytes fit, its trail's codes are in the nodes' K, it has at most one
 -- entry a node, and each answer taken has an entry of its own.
 use mathlib.Core.Path.{◌≡◌, refl}
-use mathlib.Core.Bool.{Bool, true, false}
+use mathlib.Core.Bool.{true, false}
 use mathlib.Core.List.{List, [], ◌∷◌, ◌++◌}
-use Prim.Native.Nat.{ℕ, zero, suc, ◌+◌, ◌≤◌, ◌<◌}
+use Prim.Native.Nat.{ℕ, zero, suc, ◌+◌}
 use native.Mathlib.Omega.{arith}
 use lib.Dec.{eqb}
 use lib.ListN.{length}
 use Rattle.codes.proofs.Bools.{inl_true, inr_true}
 use Rattle.codes.proofs.Members.{only_in, larger_in, sequence-first, sequence-second, caught_in}
-use Rattle.esterel.specs.Statement.{Leaf, nothing, pause, emit, exit, Unary, signal, suspend, loop, trap, Binary, present, sequence, parallel, Stmt, leaf, one, two, kind, size}
+use Rattle.esterel.specs.Statement.{Leaf, nothing, pause, emit, exit, Unary, signal, suspend, loop, trap, present, sequence, parallel, Stmt, leaf, one, two, kind, size}
 use Rattle.esterel.specs.Codes.{Codes}
 use Rattle.esterel.specs.Sets.{start_set}
-use Rattle.esterel.specs.Instant.{Mode, started, resumed, entry, Result, single, enter, zeros, start, holds}
+use Rattle.esterel.specs.Instant.{started, entry, Result, single, enter, zeros, start, holds}
 use Rattle.esterel.specs.Outcome.{statement_at}
 use Rattle.esterel.proofs.Held.{Shows, Fits, fits-leaf, fits-pause, fits_one, fits-two, fits-length, fits-zeros, fits-ended, fits-left, fits-right}
-use Rattle.esterel.proofs.Run.{Run, ran, asked, Ran, weaken, enter-run, alone-run, skip_run, and_then-run, beside-run, body_run, catch-run}
+use Rattle.esterel.proofs.Run.{Run, ran, asked, weaken, enter-run, alone-run, skip_run, and_then-run, beside-run, body_run, catch-run}
 use Rattle.esterel.proofs.Nodes.{Sits}
 
 abbrev pub In : Codes → ℕ → Type 0

@@ -1,9 +1,9 @@
 -- Checks 8 to 11 of a program that was read (document 01, "Checks, in order"), the table's whole verdict, and the listing.
-use Rattle.std.specs.Prelude.{ℕ, zero, suc, ◌+◌, ◌*◌, Bool, true, false, ◌&&◌, ◌||◌, cond, List, [], ◌∷◌, ◌++◌, map, leb, ltb}
+use Rattle.std.specs.Prelude.{ℕ, suc, ◌+◌, ◌*◌, Bool, false, cond, List, [], ◌∷◌, map, leb, ltb}
 use Rattle.std.proofs.Math.Option.{Option, none, some}
 use Rattle.esterel.specs.Limits.{max_depth, max_traps}
-use Rattle.esterel.specs.Statement.{Leaf, nothing, pause, emit, exit, Unary, signal, suspend, loop, trap, Binary, Stmt, leaf, one, two, kind, field, size, loop_depth}
-use Rattle.esterel.specs.Codes.{Codes, word}
+use Rattle.esterel.specs.Statement.{nothing, pause, emit, exit, signal, suspend, loop, trap, Stmt, leaf, one, two, kind, field, size, loop_depth}
+use Rattle.esterel.specs.Codes.{word}
 use Rattle.esterel.specs.Sets.{Place, at, places_of, start_set, any_instant_set, mark}
 use Rattle.esterel.specs.Table.{Verdict, passed, refused, read}
 

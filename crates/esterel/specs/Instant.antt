@@ -1,6 +1,6 @@
 -- One instant (document 01, "One instant"); the numbers are the rules of Figure 11, which has none for suspend.
 use Rattle.std.specs.Prelude.{ℕ, zero, suc, ◌+◌, max, Bool, true, false, not, ◌&&◌, ◌||◌, cond, List, [], ◌∷◌, ◌++◌, length, take, drop, replicate, eqb}
-use Rattle.esterel.specs.Statement.{Leaf, nothing, pause, emit, exit, Unary, signal, suspend, loop, trap, Binary, present, sequence, parallel, Stmt, leaf, one, two, kind, size, nodes}
+use Rattle.esterel.specs.Statement.{nothing, pause, emit, exit, signal, suspend, loop, trap, Binary, present, sequence, parallel, Stmt, leaf, one, two, kind, size, nodes}
 
 -- the trail: each entry's node, whether it was started or resumed, and the code that it finishes with
 pub data Mode : Type 0 where

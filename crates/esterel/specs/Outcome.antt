@@ -1,10 +1,10 @@
 -- What an instant hands back (document 01, "One instant"): the entries, the answers taken and the emissions are read off its trail.
-use Rattle.std.specs.Prelude.{ℕ, zero, suc, ◌+◌, Bool, true, false, not, ◌&&◌, ◌||◌, cond, List, [], ◌∷◌, ◌++◌, length, get_or, eqb}
+use Rattle.std.specs.Prelude.{ℕ, zero, suc, ◌+◌, Bool, true, false, not, ◌&&◌, ◌||◌, List, [], ◌∷◌, ◌++◌, length, get_or, eqb}
 use Rattle.esterel.specs.Limits.{signals}
-use Rattle.esterel.specs.Statement.{Leaf, nothing, pause, emit, exit, Unary, Binary, Stmt, leaf, one, two, kind, nodes}
+use Rattle.esterel.specs.Statement.{nothing, pause, emit, exit, Stmt, leaf, one, two, kind, nodes}
 use Rattle.esterel.specs.Codes.{bit}
 use Rattle.esterel.specs.Sets.{start_set}
-use Rattle.esterel.specs.Instant.{Mode, started, resumed, Entry, entry, Result, closed, starved, stuck}
+use Rattle.esterel.specs.Instant.{started, resumed, Entry, entry, Result, closed, starved, stuck}
 
 -- ps are the nodes of the program
 abbrev pub statement_at : List Stmt → ℕ → Stmt

@@ -1,7 +1,7 @@
 -- Start set K (Figure 6), any-instant set A, context set S (Figure 9; for a parallel its footnote in document 004, as F-5 has it), mark. The
 -- numbers are the rules of Figures 11 and 12.
-use Rattle.std.specs.Prelude.{ℕ, zero, suc, ◌+◌, Bool, true, false, List, [], ◌∷◌, ◌++◌, get_or}
-use Rattle.esterel.specs.Statement.{Leaf, nothing, pause, emit, exit, Unary, signal, suspend, loop, trap, Binary, present, sequence, parallel, Stmt, leaf, one, two, traps_under}
+use Rattle.std.specs.Prelude.{ℕ, zero, suc, ◌+◌, List, [], ◌∷◌, ◌++◌, get_or}
+use Rattle.esterel.specs.Statement.{nothing, pause, emit, exit, Unary, signal, suspend, loop, trap, Binary, present, sequence, parallel, Stmt, leaf, one, two, traps_under}
 use Rattle.esterel.specs.Codes.{Codes, empty, only, union, given, without_ended, larger, caught, meets, under_trap, under_parallel, bit}
 
 -- the codes of a statement where a pause has those of `paused`

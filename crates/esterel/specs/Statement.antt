@@ -1,5 +1,5 @@
 -- Statements of pure Esterel (document 01, "The table"), by their number of children.
-use Rattle.std.specs.Prelude.{ℕ, zero, suc, ◌+◌, max, List, [], ◌∷◌, ◌++◌}
+use Rattle.std.specs.Prelude.{ℕ, suc, ◌+◌, max, List, [], ◌∷◌, ◌++◌}
 
 pub data Leaf : Type 0 where
   nothing : Leaf

@@ -1,5 +1,5 @@
 -- Table W of document 01, as one statement. It is proved in proofs/TableW.antt.
-use Rattle.std.specs.Prelude.{ℕ, suc, ◌+◌, ◌*◌, ◌≡◌, Bool, true, false, List, [], ◌∷◌, set}
+use Rattle.std.specs.Prelude.{ℕ, ◌≡◌, [], ◌∷◌, set}
 use Rattle.esterel.specs.Limits.{signals}
 use Rattle.esterel.specs.Statement.{Stmt, leaf, one, two, pause, emit, loop, sequence, size, loop_depth}
 use Rattle.esterel.specs.Codes.{word}
