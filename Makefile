@@ -2,16 +2,16 @@
 .PHONY: run test soak bench archive definitions vectors
 
 # builds the programs and lists a worked example; TABLE=FILE lists a table of your own, TEXT=FILE a program that is given as text, and
-# PROGRAM=tick shows the tick of either and PROGRAM=first_tick the most entries of its first. Each crate is shown as it is proved, on standard error, and all that rt said if one is not
+# PROGRAM=tick shows the tick of either and PROGRAM=first_tick the most entries of its first. Each program is named before it is proved and built, on standard error, and all that rt said if one is not
 TABLE = examples/w1.table
 TEXT =
 PROGRAM = list
 run:
 	@echo "Proving and building the programs; the first time this takes some minutes" >&2
-	@rt check list tick first_tick translate 2>&1 | tee target-run.log | sed -un '/^rt: /p' >&2
-	@tail -n 1 target-run.log | grep -q '^rt: ok' || { cat target-run.log >&2; rm -f target-run.log; exit 1; }
+	@{ tools/build.sh list tick first_tick translate && echo "build: ok"; } 2>&1 | tee target-run.log | sed -un '/^build: /p' >&2
+	@tail -n 1 target-run.log | grep -q '^build: ok' || { cat target-run.log >&2; rm -f target-run.log; exit 1; }
 	@rm -f target-run.log
-	@if [ -n "$(TEXT)" ]; then tools/run_text.sh $(PROGRAM) $(TEXT); else target/bin/$(PROGRAM) < $(TABLE); fi
+	@if [ -n "$(TEXT)" ]; then tools/run_text.sh $(PROGRAM) $(TEXT); else crates/$(PROGRAM)/out/$(PROGRAM) < $(TABLE); fi
 
 # the gate: everything proved from nothing, every must-fail edit refused, every program's output compared, all formatted
 test:
@@ -28,7 +28,7 @@ bench: archive
 	@compare/bench/instructions.sh
 
 archive:
-	@rt staticlib abi > target-archive.log 2>&1 || { cat target-archive.log; rm -f target-archive.log; exit 1; }
+	@tools/archive.sh > target-archive.log 2>&1 || { cat target-archive.log; rm -f target-archive.log; exit 1; }
 	@rm -f target-archive.log
 
 # the definitions against vectors made by another program, and edges of documents 01 and 02

@@ -1,6 +1,6 @@
 #!/bin/sh
 # Builds and runs the tests of the bindings for C, C++ and Rust over libabi.a. One line a test, and last the counts.
-# BAVZHRONO_LIB_DIR is the directory of the archive, by default target/staticlib, where `rt staticlib abi` writes it.
+# BAVZHRONO_LIB_DIR is the directory of the archive, by default target/staticlib, where `tools/archive.sh` writes it.
 set -u
 root=$(cd "$(dirname "$0")/.." && pwd)
 lib=${BAVZHRONO_LIB_DIR:-$root/target/staticlib}

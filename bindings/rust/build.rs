@@ -1,4 +1,4 @@
-//! Links libabi.a, from BAVZHRONO_LIB_DIR or from where `rt staticlib abi` writes it.
+//! Links libabi.a, from BAVZHRONO_LIB_DIR or from where `tools/archive.sh` writes it.
 
 use std::env;
 use std::path::{Path, PathBuf};
@@ -21,7 +21,7 @@ fn holder_of_archive(directory: &Path) -> PathBuf {
     match directory.canonicalize() {
         Ok(directory) if directory.join("libabi.a").is_file() => directory,
         _ => panic!(
-            "no libabi.a in {}: write it with `rt staticlib abi`, or set BAVZHRONO_LIB_DIR",
+            "no libabi.a in {}: write it with `tools/archive.sh`, or set BAVZHRONO_LIB_DIR",
             directory.display()
         ),
     }
