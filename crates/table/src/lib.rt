@@ -1,4 +1,6 @@
 // The table of a program: what its bytes say, checks 1, 2 and 4 to 10, and the sizes of the subtrees.
+#![tactic(auto)]
+
 ghost use Rattle.std.specs.Prelude.{◌≡◌, cond, ◌+◌, ◌-◌, ◌*◌, ◌/◌, ◌<◌, ◌≤◌, max, length, get_or};
 ghost use Rattle.esterel.specs.Limits.{max_nodes};
 ghost use Rattle.esterel.specs.Statement.{size};
@@ -8,7 +10,7 @@ ghost use Rattle.table.specs.Columns.{onto, sizes_of};
 ghost use Rattle.table.specs.Check.{length_check, node_check, nodes_check, WellSized, Room, span_of, refuse_below, Shallow, TopOf, OnlyOf, SecondOf, Descended, Seen, Surveyed};
 
 // What a kind byte says.
-#[derive(Drop)]
+#[derive(Clone, Copy)]
 pub enum Kind {
     Nothing,
     Pause,
@@ -254,7 +256,7 @@ pub fn read_nodes(table: &[u8]) -> Check
 }
 
 // How deep a node stands, in how many traps and loops, and how many subtrees wait, its own among them.
-#[derive(Drop)]
+#[derive(Clone, Copy)]
 struct Nesting {
     depth: usize,
     traps: usize,
