@@ -10,7 +10,7 @@ use native.Mathlib.Omega.{arith}
 use Rattle.starts.specs.declared.Weight.{Weight}
 use Rattle.starts.specs.declared.Weight.TheVariants.{Answers, Entries}
 use Rattle.starts.specs.Ticks.{Bits, Sooner, here, further}
-use Rattle.starts.specs.Summary.{Starts, Both, starts, entered, without_ended, weigh, weights}
+use Rattle.starts.specs.Summary.{Starts, starts, entered, without_ended, weigh, weights}
 use Rattle.starts.specs.Walk.{Need, no_worse}
 use Rattle.starts.proofs.Exact.{NoWorse, bits-append, weighs}
 use Rattle.starts.proofs.Order.{sooner_left, sooner_right}

@@ -1,5 +1,5 @@
 -- The cost of a part and of what is needed after it, from what is preferred for its codes.
-use mathlib.Core.Path.{◌≡◌, refl, sym, ap, ◌∙◌, subst}
+use mathlib.Core.Path.{◌≡◌, refl, sym, ap}
 use mathlib.Core.Logic.{◌⊎◌, inl, inr}
 use mathlib.Core.Option.{Option, none, some}
 use mathlib.Core.List.{List}
@@ -8,10 +8,9 @@ use native.Mathlib.Decide.{dec_le}
 use native.Mathlib.Omega.{arith}
 use Rattle.esterel.specs.Statement.{Stmt, leaf, one, two}
 use Rattle.starts.specs.declared.Weight.{Weight}
-use Rattle.starts.specs.Summary.{Starts, Gives, up_to, either, together, prefer, weigh, weights, best}
+use Rattle.starts.specs.Summary.{Gives, up_to, either, together, prefer, weigh, weights, best}
 use Rattle.starts.specs.Walk.{Need, cost, Low, Below}
 use Rattle.starts.proofs.Exact.{Exact, NoWorse, weighs}
-use Rattle.starts.proofs.Weights.{add-weight}
 use Rattle.starts.proofs.Triples.{exact, in_start}
 use Rattle.starts.proofs.Bind.{Coded, Best, Costs, in_larger, same-best}
 

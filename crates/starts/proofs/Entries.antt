@@ -1,16 +1,16 @@
 -- F-10: the greatest number of entries and the answers that reach it.
-use mathlib.Core.Path.{◌≡◌, refl, sym, ap, ap₂, ◌∙◌, subst}
-use mathlib.Core.Logic.{◌↔◌, ◌⊎◌, inl, inr}
+use mathlib.Core.Path.{◌≡◌, refl, sym, ap, ◌∙◌, subst}
+use mathlib.Core.Logic.{◌⊎◌, inl, inr}
 use mathlib.Core.Bool.{Bool, true, false}
 use mathlib.Core.Option.{Option, none, some}
-use mathlib.Core.List.{List, [], ◌∷◌, ◌++◌, append-nil}
-use Prim.Native.Nat.{ℕ, zero, suc, ◌+◌, ◌≤◌, max}
+use mathlib.Core.List.{List, []}
+use Prim.Native.Nat.{ℕ, ◌+◌, ◌≤◌}
 use native.Mathlib.Omega.{arith}
 use lib.Dec.{eqb}
 use lib.ListN.{length, length-replicate}
 use Rattle.esterel.specs.Statement.{nothing, pause, emit, exit, signal, suspend, loop, trap, present, sequence, parallel, Stmt, leaf, one, two, size}
 use Rattle.esterel.specs.Checks.{planned}
-use Rattle.esterel.specs.Instant.{Entry, Result, closed, starved, stuck, zeros, start}
+use Rattle.esterel.specs.Instant.{Result, closed, starved, stuck, zeros, start}
 use Rattle.esterel.specs.Theorems.{Accepted, Closes}
 use Rattle.esterel.proofs.Theorems.{demand3}
 use Rattle.starts.specs.declared.Weight.TheVariants.{Entries}
@@ -20,7 +20,7 @@ use Rattle.starts.specs.Summary.{Starts, starts, given, Both, Gives, Ran, up_to,
 use Rattle.starts.specs.Walk.{cost, walk, answers_of, code_of, any_code, Low, Below}
 use Rattle.starts.specs.Theorems.{FirstTick}
 use Rattle.starts.specs.Computing.{GreatestOf, Composed}
-use Rattle.starts.proofs.Exact.{weighs, Exact, Reached}
+use Rattle.starts.proofs.Exact.{weighs}
 use Rattle.starts.proofs.Triples.{ran, gives, taken, few-answers, exact, there, reached}
 use Rattle.starts.proofs.Order.{sooner_once}
 use Rattle.starts.proofs.Bind.{Best, Costs, Walks, number_of}

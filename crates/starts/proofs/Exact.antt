@@ -6,7 +6,7 @@ use mathlib.Core.List.{List, [], ◌∷◌, ◌++◌}
 use Prim.Native.Nat.{ℕ, zero, suc, ◌+◌, ◌≤◌, min, max}
 use native.Mathlib.Decide.{dec_le}
 use native.Mathlib.Omega.{arith}
-use lib.ListN.{length, length-append}
+use lib.ListN.{length-append}
 use Rattle.starts.specs.Ticks.{Bits}
 use Rattle.starts.specs.declared.Weight.{Weight}
 use Rattle.starts.specs.declared.Weight.TheVariants.{Answers, Entries}

@@ -2,7 +2,7 @@
 use mathlib.Core.Path.{◌≡◌, refl, sym, ap, ◌∙◌, subst}
 use mathlib.Core.Bool.{Bool, true, false, cond}
 use mathlib.Core.Logic.{inl, inr}
-use mathlib.Core.Option.{Option, none}
+use mathlib.Core.Option.{Option}
 use mathlib.Core.List.{List, [], ◌∷◌, ◌++◌, append-nil}
 use Prim.Native.Nat.{ℕ, zero, suc, ◌+◌, max}
 use native.Mathlib.Nat.{max-eq_left, max-eq_right}
@@ -12,7 +12,7 @@ use Rattle.codes.proofs.Members.{only_in, only_out}
 use Rattle.esterel.specs.Codes.{catch_code}
 use Rattle.esterel.specs.Statement.{nothing, pause, emit, exit, signal, suspend, loop, trap, present, sequence, parallel, Stmt, leaf, one, two}
 use Rattle.starts.specs.declared.Weight.{Weight}
-use Rattle.starts.specs.Summary.{Both, Took, IsAbsent, IsPresent, starts, given, only, without_ended, followed, larger, caught, branched, entered, Gives, weights}
+use Rattle.starts.specs.Summary.{Took, IsAbsent, IsPresent, starts, given, only, without_ended, followed, larger, caught, branched, entered, Gives, weights}
 use Rattle.starts.specs.Walk.{Need, cost, no_worse, need_first, Walked, walked, answers_of, code_of, answer, and_walk, beside_walk, walk, Below}
 use Rattle.starts.proofs.Sound.{followed_in, larger_in, caught_in}
 use Rattle.starts.proofs.Complete.{up_to_out}
