@@ -1,7 +1,7 @@
 -- A derivation is read by the machine, so a text has at most one tree.
 use mathlib.Core.Path.{◌≡◌, refl, sym, ap, ◌∙◌}
 use mathlib.Core.List.{List, ◌∷◌}
-use Rattle.grammar.specs.Tokens.{Token, opening, mark, nothing, signal, trap, loop, bracket, weak, bars, close}
+use Rattle.grammar.specs.Tokens.{Token, opening, mark, bracket, bars, close}
 use Rattle.grammar.specs.Tree as T
 use Rattle.grammar.specs.Tree.{Tree, leaf, two}
 use Rattle.grammar.specs.Grammar.{Category, statement, sequence, branches, Derives, a-nothing, a-pause, an_emit_lem, an_exit_lem, a-signal, a-trap, a-loop, a-suspend, a_then_else, a-then, an_else, a-halt, a-sustain, an_await_lem, an_abort_lem, a_weak_abort, a_bracket, a-single, a-sequence, a_pair, a-branch, Program}

@@ -2,7 +2,7 @@
 use mathlib.Core.Path.{◌≡◌, refl, ap, ◌∙◌}
 use mathlib.Core.Bool.{true}
 use mathlib.Core.List.{List, [], ◌∷◌, ◌++◌}
-use Prim.Native.Nat.{ℕ, ◌/◌}
+use Prim.Native.Nat.{ℕ, suc, ◌/◌}
 use Prim.Native.Char.{code}
 use native.Mathlib.Omega.{arith}
 use borrow.Author.Tests.{le-leb}
@@ -96,7 +96,7 @@ spellable d (S.leaf (S.exit level)) r h = ((_, refl), h)
 spellable d (S.one (S.signal s) p) r h = ((_, refl), spellable d p _ h)
 spellable d (S.one (S.suspend s) p) r h = spellable d p _ ((_, refl), h)
 spellable d (S.one S.loop p) r h = spellable d p _ h
-spellable d (S.one S.trap p) r h = ((_, refl), spellable _ p _ h)
+spellable d (S.one S.trap p) r h = ((_, refl), spellable (suc d) p _ h)
 spellable d (S.two (S.present s) p q) r h = ((_, refl), spellable d p _ (spellable d q _ h))
 spellable d (S.two S.sequence p q) r h = spellable d p _ (spellable d q _ h)
 spellable d (S.two S.parallel p q) r h = spellable d p _ (spellable d q _ h)
@@ -128,7 +128,7 @@ derivation d (S.leaf (S.exit level)) f r = record { whole = a-single an_exit_lem
 derivation d (S.one (S.signal s) p) f r = let a = a-signal (derivation d p f _).whole in record { whole = a-single a; single = λ h. a }
 derivation d (S.one (S.suspend s) p) f r = let a = a-suspend (derivation d p f _).whole in record { whole = a-single a; single = λ h. a }
 derivation d (S.one S.loop p) f r = let a = a-loop (derivation d p f _).whole in record { whole = a-single a; single = λ h. a }
-derivation d (S.one S.trap p) f r = let a = a-trap (derivation _ p f _).whole in record { whole = a-single a; single = λ h. a }
+derivation d (S.one S.trap p) f r = let a = a-trap (derivation (suc d) p f _).whole in record { whole = a-single a; single = λ h. a }
 derivation d (S.two (S.present s) p q) f r =
     let a = a_then_else (derivation d p f.0 _).whole (derivation d q f.1 _).whole in record { whole = a-single a; single = λ h. a }
 derivation d (S.two S.sequence p q) f r = record { whole = a-sequence (derivation d p f.0 _).whole ((derivation d q f.1 r).single f.2); single = λ h. absurd h }

@@ -4,7 +4,7 @@ use mathlib.Core.Logic.{◌⊎◌, inl, inr}
 use mathlib.Core.List.{List, [], ◌∷◌, ◌++◌, append_assoc, append-nil}
 use Prim.Native.Nat.{ℕ}
 use native.Mathlib.Omega.{arith}
-use Rattle.grammar.specs.Tokens.{Token, opening, mark, name, Opening, Mark, nothing, signal, trap, abort, weak, bars, close, in-mark, then, end, when}
+use Rattle.grammar.specs.Tokens.{Token, opening, mark, name, Opening, Mark, nothing, abort, bars, close, in-mark, then, end, when}
 use Rattle.grammar.specs.Tree as T
 use Rattle.grammar.specs.Tree.{Tree, Name}
 use Rattle.grammar.specs.Grammar.{Program}
