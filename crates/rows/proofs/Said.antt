@@ -1,7 +1,7 @@
 -- What the rows of a table say of its nodes' starts.
 use mathlib.Core.Path.{◌≡◌, refl, sym, ap, ap₂, subst, ◌∙◌, fun_ext}
 use mathlib.Core.Bool.{Bool, true, false}
-use mathlib.Core.Option.{Option, none, some}
+use mathlib.Core.Option.{Option, some}
 use mathlib.Core.List.{List, []}
 use Prim.Native.Nat.{ℕ, zero, suc, ◌+◌, ◌-◌, ◌*◌, ◌<◌, ◌≤◌}
 use native.Mathlib.Decide.{dec_lt}
@@ -23,7 +23,7 @@ use Rattle.table.proofs.Surveying.{few-nodes}
 use Rattle.table.proofs.Bytes.{leaf-is, field_byte}
 use Rattle.table.proofs.Views.{spans, kind-is, leaf_of_lem, one_of, two_of_lem}
 use Rattle.starts.specs.declared.Weight.{Weight}
-use Rattle.starts.specs.Summary.{given, only, together, weigh, weights, best}
+use Rattle.starts.specs.Summary.{given, only, weigh, weights, best}
 use Rattle.starts.specs.Walk.{Low}
 use Rattle.starts.proofs.Exact.{weighs}
 use Rattle.starts.proofs.Triples.{lacking}

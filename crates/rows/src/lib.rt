@@ -1,5 +1,7 @@
 // Rows of numbers by completion code: of all starts of a statement with a code, the least number of answers or the most entries. A
 // number is 0 where no start gives the code, else one more than what it says.
+#![tactic(auto)]
+
 ghost use Rattle.std.specs.Prelude.{◌≡◌, [], ◌∷◌, suc, ◌+◌, ◌*◌, ◌<◌, ◌≤◌, length};
 ghost use Rattle.esterel.specs.Limits.{max_nodes};
 ghost use Rattle.esterel.specs.Statement.{leaf, size};
@@ -18,7 +20,7 @@ use table::Kind;
 // The numbers of all rows: 64 for each node.
 pub const ALL: usize = 64 * esterel::MAX_NODES;
 
-#[derive(Drop)]
+#[derive(Clone, Copy)]
 pub struct Row {
     pub of: [u16; 64],
 }
