@@ -1,4 +1,6 @@
 // Tokens of a text: words, signs and other bytes.
+#![tactic(auto)]
+
 ghost use Rattle.std.specs.Prelude.{◌≡◌, true, false, [], ◌∷◌, ◌++◌, ◌+◌, ◌<◌, ◌≤◌, length, get_or};
 ghost use Rattle.grammar.specs.Tokens.{class_of, is_letter, is_digit, is_in_word, is_blank, sign_of, word_token, is_count, name_or, among, dialect_words, inner_words, foreign_words, same_bytes};
 ghost use Rattle.grammar.specs.Tokens as G;
