@@ -56,13 +56,13 @@ returns-then-field-ne0 c =
 pub returns-then-unused-arity : goal.returns-then-unused-arity
 returns-then-unused-arity c =
     let fits : (plain_of c.args.kind && not (eqb c.args.field 0)) ≡ false =
-        rw (← c.is_plain.ensures)
-        (elim c.if-is_plain.branch [ then-is_plain+else-field-ne0 w ↦ rw (w.if-is_plain.true, eq-eqb _ 0 w.if-field-ne0.false) | else-is_plain w ↦ rw w.if-is_plain.false ]) in
+    rw (← c.is_plain.ensures)
+    (elim c.if-is_plain.branch [ then-is_plain+else-field-ne0 w ↦ rw (w.if-is_plain.true, eq-eqb _ 0 w.if-field-ne0.false) | else-is_plain w ↦ rw w.if-is_plain.false ]) in
     six _ _ _ _ c.in_default.not-Unknown fits (rw c.arity.ensures at c.if-unused-arity.true)
 
 pub returns : goal.returns
 returns c =
     let fits : (plain_of c.args.kind && not (eqb c.args.field 0)) ≡ false =
-        rw (← c.is_plain.ensures)
-        (elim c.if-is_plain.branch [ then-is_plain+else-field-ne0 w ↦ rw (w.if-is_plain.true, eq-eqb _ 0 w.if-field-ne0.false) | else-is_plain w ↦ rw w.if-is_plain.false ]) in
+    rw (← c.is_plain.ensures)
+    (elim c.if-is_plain.branch [ then-is_plain+else-field-ne0 w ↦ rw (w.if-is_plain.true, eq-eqb _ 0 w.if-field-ne0.false) | else-is_plain w ↦ rw w.if-is_plain.false ]) in
     none _ _ _ _ c.in_default.not-Unknown fits (rw c.arity.ensures at c.if-unused-arity.false)

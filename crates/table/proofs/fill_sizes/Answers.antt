@@ -1,8 +1,7 @@
 -- Each turn writes the size of one more subtree (proofs/Sizing.antt); at the end the column is whole.
-use Rattle.std.proofs.Common.{◌≡◌, ◌∙◌, ◌*◌, ◌≤◌, ℕ, List, length, arith}
-use Rattle.esterel.specs.Limits.{max_nodes}
+use Rattle.std.proofs.Common.{◌∙◌, ◌≤◌, ℕ, List, length, arith}
 use Rattle.esterel.specs.Statement.{size}
-use Rattle.table.specs.Program.{program_of, Readable}
+use Rattle.table.specs.Program.{program_of}
 use Rattle.table.specs.Columns.{sizes_of}
 use Rattle.table.proofs.Bytes.{table-length}
 use Rattle.table.proofs.Surveying.{few-nodes}

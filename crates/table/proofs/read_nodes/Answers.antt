@@ -19,17 +19,17 @@ returns-in_default c =
 pub overflow_sub-unused : goal.overflow_sub-unused
 overflow_sub-unused c =
     let turn : Turn c.args.table.now c.loop-i.unused c.loop-i.i c.arity.result =
-        rw (c.arity.ensures, c.kind_at-kind.ensures)
-        (passing _ _ _ c.loop-i.invariant.reading (omega arith) _
-        (checked c.args.table.now c.loop-i.unused c.loop-i.i c.kind_at-kind.ensures c.field_at.ensures.0 c.check_node-check.ensures) c.in-Passed.is) in
+    rw (c.arity.ensures, c.kind_at-kind.ensures)
+    (passing _ _ _ c.loop-i.invariant.reading (omega arith) _
+    (checked c.args.table.now c.loop-i.unused c.loop-i.i c.kind_at-kind.ensures c.field_at.ensures.0 c.check_node-check.ensures) c.in-Passed.is) in
     turn.enough
 
 pub loop-i-preserved : goal.loop-i-preserved
 loop-i-preserved c =
     let turn : Turn c.args.table.now c.loop-i.unused c.loop-i.i c.arity.result =
-        rw (c.arity.ensures, c.kind_at-kind.ensures)
-        (passing _ _ _ c.loop-i.invariant.reading (omega arith) _
-        (checked c.args.table.now c.loop-i.unused c.loop-i.i c.kind_at-kind.ensures c.field_at.ensures.0 c.check_node-check.ensures) c.in-Passed.is) in
+    rw (c.arity.ensures, c.kind_at-kind.ensures)
+    (passing _ _ _ c.loop-i.invariant.reading (omega arith) _
+    (checked c.args.table.now c.loop-i.unused c.loop-i.i c.kind_at-kind.ensures c.field_at.ensures.0 c.check_node-check.ensures) c.in-Passed.is) in
     record { within = omega arith; reading = turn.again }
 
 pub returns-then-unused-eq1 : goal.returns-then-unused-eq1

@@ -1,5 +1,5 @@
 -- The children stand before the node, and their sizes with it come to at most node + 1.
-use Rattle.std.proofs.Common.{◌≡◌, ◌+◌, sym, arith}
+use Rattle.std.proofs.Common.{◌≡◌, arith}
 use Rattle.table.specs.Check.{span_of}
 use Rattle.table.proofs.span.Goals as goal
 

@@ -1,6 +1,5 @@
 -- Each turn takes the walk one node further (proofs/Surveying.antt).
-use Rattle.std.proofs.Common.{◌≡◌, refl, sym, ◌∙◌, ◌-◌, suc, true, false, arith}
-use Rattle.table.specs.Program.{program_of}
+use Rattle.std.proofs.Common.{◌≡◌, refl, sym, ◌∙◌, true, false, arith}
 use Rattle.table.proofs.Bytes.{table-length}
 use Rattle.table.proofs.Surveying.{few-nodes, start, finish, back, turn, turned}
 use Rattle.table.proofs.survey_table.Goals as goal
