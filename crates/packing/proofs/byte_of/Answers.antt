@@ -1,8 +1,7 @@
 -- The bits of the nodes from `i` on are gathered: proofs/Bytes.antt.
-use Rattle.std.proofs.Common.{◌≡◌, ◌-◌, ◌∙◌, sym, refl, Bool, true, false, arith, slice_index_or}
+use Rattle.std.proofs.Common.{◌-◌, refl, arith, slice_index_or}
 use Rattle.std.proofs.Math.Bool.{not}
 use Rattle.std.proofs.Math.Dec.{eqb}
-use Rattle.codes.specs.Codes.{bit}
 use Rattle.packing.proofs.Bits.{bit_le}
 use Rattle.packing.proofs.Bytes.{gather_begin, gather_lt, gather_next}
 use Rattle.packing.proofs.byte_of.Goals as goal

@@ -1,5 +1,4 @@
 -- The whole bytes are packed one by one, then what is left of the nodes, and `clear` makes the others 0.
-use Rattle.std.proofs.Common.{arith}
 use Rattle.std.proofs.Math.Logic.{inl, inr}
 use Rattle.packing.proofs.Bytes.{packed-next, packed-end, joined}
 use Rattle.packing.proofs.pack.Goals as goal
