@@ -19,7 +19,7 @@ use Rattle.esterel.proofs.Held.{holds-zeros}
 use Rattle.packing.specs.Packing.{state_bytes, held_bit, unpack, pack, is_clear_from, admits}
 use Rattle.packing.specs.Theorems.{Packed, Packs}
 use Rattle.packing.proofs.Zeros.{none-at}
-use Rattle.packing.proofs.Bits.{bit-not-zero, not-zero-bit, bit-zero, byte_lt, is_byte, held-is, held_at, held_le, length-pack, pack-at, length-unpack, unpack-at, unpack-past, unpack-same, packed-bit}
+use Rattle.packing.proofs.Bits.{bit-not-zero, not-zero-bit, byte_lt, is_byte, held-is, held_at, held_le, length-pack, pack-at, length-unpack, unpack-at, unpack-past, unpack-same, packed-bit}
 use Rattle.packing.proofs.Clearing.{clear_at, is-clear}
 
 pub pack-bits : (h : List ℕ) → ((i : ℕ) → get_or h i 0 ≤ 1) → (i : ℕ) → i < max_nodes → held_bit (pack h) i ≡ get_or h i 0

@@ -1,4 +1,6 @@
 // A held state as bits (F-11): node i at bit i modulo 8, lowest first, of byte i divided by 8.
+#![tactic(auto)]
+
 ghost use Rattle.std.specs.Prelude.{◌≡◌, ◌++◌, ◌+◌, ◌-◌, ◌*◌, ◌<◌, ◌≤◌, length, drop, take};
 ghost use Rattle.std.proofs.lemmas.List.Edits.{sets};
 ghost use Rattle.esterel.specs.Limits.{max_nodes};
