@@ -1,28 +1,33 @@
 // Shows the ticks of many tables: standard input holds them one after the other, each as its length in two bytes, lowest first,
 // and its bytes. For each the line of its tick is written. The expected output comes from another program (compare/).
-use input::Input;
+#![tactic(auto)]
+
+use input::{BUFFER, Input};
+use std::io::{Read, Write};
 
 // Writes the line of a table, and answers whether it was written.
-fn show_one(table: &[u8]) -> bool {
+fn show_one<W: Write>(writer: &mut W, table: &[u8]) -> bool {
     let mut line = [0u8; tickline::MAX_LINE];
     let end = tickline::render_line(table, &mut line);
-    io::write_all(libc::STDOUT_FILENO, &line[..end])
+    output::write_word(writer, &line[..end])
 }
 
 // Reads the next table and shows its tick; false at the end of the input.
-fn show_next() -> bool {
-    let mut table = io::buffer();
-    let input = input::read_counted(&mut table);
+fn show_next<R: Read, W: Write>(reader: &mut R, writer: &mut W) -> bool {
+    let mut table = [0u8; BUFFER];
+    let input = input::read_counted(reader, &mut table);
     let Input::Bytes { length } = input else {
         return false;
     };
-    show_one(&table[..length])
+    show_one(writer, &table[..length])
 }
 
 // A proved loop has to end, so the tables are counted down from more than there are.
-fn main() {
+fn main(rt: HostRuntime) {
+    let mut reader = rt.stdin();
+    let mut writer = rt.stdout();
     let mut left: usize = 65536;
-    while left > 0 && show_next() {
+    while left > 0 && show_next(&mut reader, &mut writer) {
         left -= 1;
     }
 }

@@ -2,12 +2,16 @@
 // refused the line goes to standard error, as the listing has it, and then the line and column where the text is at fault, if it
 // is so at a place; and nothing to standard output. What it reads is `input`'s, what it makes of it `text`'s; this file only
 // moves bytes.
+#![tactic(auto)]
+
 ghost use Rattle.std.specs.Prelude.{◌<◌, ◌≤◌, length};
 ghost use Rattle.grammar.specs.Limits.{max_source};
 ghost use Rattle.translate.specs.Translates.{Translates};
 
-use input::Input;
+use input::{Input, Source};
 use listing::Rendered;
+use std::io::{Read, Write};
+use std::process::ExitCode;
 use text::Reading;
 
 #[derive(Drop)]
@@ -24,11 +28,15 @@ enum Translated {
 }
 
 // Reads the input and translates all of it, also where it does not fit in the buffer: what fits is too long a text then, too.
-fn translate_input(buffer: &mut [u8], table: &mut [u8; 2 * esterel::MAX_NODES]) -> Translated
+fn translate_input<R: Read>(
+    reader: &mut R,
+    buffer: &mut [u8],
+    table: &mut [u8; 2 * esterel::MAX_NODES],
+) -> Translated
     requires { max_source < length buffer.old }
     ensures { Translates buffer.old buffer.new table.old table.new result }
 {
-    let input = input::read(buffer);
+    let input = input::read(reader, buffer);
     let Input::Bytes { length } = input else {
         return Translated::Failed;
     };
@@ -51,52 +59,54 @@ fn translate_input(buffer: &mut [u8], table: &mut [u8; 2 * esterel::MAX_NODES]) 
 const LINE: usize = 64;
 
 // The line of a refusal, to standard error.
-fn tell_refusal(number: u8, node: usize) {
+fn tell_refusal<W: Write>(writer: &mut W, number: u8, node: usize) {
     let mut line = [0u8; LINE];
     let rendered = listing::render_refusal(number, node, &mut line);
     let Rendered::Whole { length } = rendered else {
-        os::fail(b"translate: the refusal");
+        let _ = writer.write_all(b"translate: the refusal\n");
         return;
     };
-    io::write_all(libc::STDERR_FILENO, &line[..length]);
+    let _ = writer.write_all(&line[..length]);
 }
 
 // The refusals of a text from this number on are at a place of it: 14, 15, 16 and 20.
 const FIRST_PLACED: u8 = 14;
 
 // The line and column of a place, to standard error.
-fn tell_place(text: &[u8], place: usize)
+fn tell_place<W: Write>(writer: &mut W, text: &[u8], place: usize)
     requires { (place ≤ length text.now) × (place ≤ max_source) }
 {
     let found = spot::find_spot(text, place);
     let mut line = [0u8; spot::LINE];
     let length = spot::write_spot(found.line, found.column, &mut line);
-    io::write_all(libc::STDERR_FILENO, &line[..length]);
+    let _ = writer.write_all(&line[..length]);
 }
 
-fn main() {
+fn main(rt: HostRuntime) -> ExitCode {
     // One byte more than a text may have decides refusal 14, so no more is read.
     let mut buffer = [0u8; grammar::MAX_SOURCE + 1];
     let mut table = [0u8; 2 * esterel::MAX_NODES];
-    let translated = translate_input(&mut buffer, &mut table);
+    let mut source = Source::new(rt.stdin());
+    let translated = translate_input(&mut source, &mut buffer, &mut table);
     if let Translated::Refused {
         number,
         node,
         place,
     } = translated
     {
-        tell_refusal(number, node);
+        let mut writer = rt.stderr();
+        tell_refusal(&mut writer, number, node);
         if FIRST_PLACED <= number {
-            tell_place(&buffer, place);
+            tell_place(&mut writer, &buffer, place);
         }
-        return;
+        return ExitCode::SUCCESS;
     }
     let Translated::Table { length } = translated else {
-        os::fail(b"translate: standard input");
-        return;
+        return output::tell_failure(&rt, "translate: standard input", source.failure());
     };
-    let is_written = io::write_all(libc::STDOUT_FILENO, &table[..length]);
-    if !is_written {
-        os::fail(b"translate: standard output");
+    let mut writer = rt.stdout();
+    match writer.write_all(&table[..length]) {
+        Ok(()) => ExitCode::SUCCESS,
+        Err(e) => output::tell_failure(&rt, "translate: standard output", Some(e)),
     }
 }
