@@ -65,13 +65,13 @@ module _ {f : ℕ → List ℕ} {m : ℕ} {old now : List ℕ} {at k : ℕ} (roo
   pub joining_lent : {bytes : List ℕ} → k < m → bytes ≡ f k → length bytes ≤ length (mid_of at (length now - at) now)
   joining_lent h e = omega (arith, joining_room h e, joining_long, ap length behind, length-drop at old)
 
-  pub joining_next : {bytes ys : List ℕ} {n : ℕ} → k < m → bytes ≡ f k → n ≡ length bytes → ys ≡ take (length bytes) bytes ++ drop (length bytes) (mid_of at (length now - at) now) → Joining f m old (put_mid at (length now - at) now ys) (at + n) (k + 1)
+  pub joining_next : {bytes ys : List ℕ} {n : ℕ} → k < m → bytes ≡ f k → n ≡ length bytes → ys ≡ bytes ++ drop (length bytes) (mid_of at (length now - at) now) → Joining f m old (put_mid at (length now - at) now ys) (at + n) (k + 1)
   joining_next {bytes} {ys} {n} h e q w =
       let front : take at now ≡ joined f k = ap (take at) o.is ∙ take_at (joined f k) (drop at old) at (sym o.end) in
       let nothing : post_of at (length now - at) now ≡ [] = drop_of_length-le (drop at now) {i = length now - at} (omega (arith, length-drop at now)) in
       let rest : drop (length bytes) (mid_of at (length now - at) now) ≡ drop (at + n) old =
       ap (drop (length bytes)) behind ∙ drop-drop (length bytes) at old ∙ ap (λ j. drop (at + j) old) (sym q) in
-      let part : ys ≡ f k ++ drop (at + n) old = w ∙ ap (λ l. l ++ drop (length bytes) (mid_of at (length now - at) now)) (take-length bytes ∙ e) ∙ ap (λ l. f k ++ l) rest in
+      let part : ys ≡ f k ++ drop (at + n) old = w ∙ ap (λ l. l ++ drop (length bytes) (mid_of at (length now - at) now)) e ∙ ap (λ l. f k ++ l) rest in
       record {
         bound = omega arith;
         is =

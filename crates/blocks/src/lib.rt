@@ -1,4 +1,6 @@
 // Blocks of the service partition (F-4): the used content of a part, and the table of the highest whole edition.
+#![tactic(auto)]
+
 ghost use Rattle.std.specs.Prelude.{◌≡◌, true, ◌++◌, ◌+◌, ◌*◌, ◌<◌, ◌≤◌, length, drop};
 ghost use Rattle.std.proofs.Math.Option.{some};
 ghost use Rattle.blocks.specs.Block.{block_size, word as word_of, reduced as reducedOf, all_zero, good as goodOf};
@@ -206,7 +208,7 @@ fn find(file: &[u8], good: &[bool; MAX_BLOCKS], program: u16, edition: u16, numb
 }
 
 // A whole edition, with its number of parts and the length of its table; or that there is none.
-#[derive(Drop)]
+#[derive(Clone, Copy)]
 enum Edition {
     Whole {
         edition: u16,
@@ -309,6 +311,15 @@ fn newest(file: &[u8], good: &[bool; MAX_BLOCKS], program: u16) -> Edition
     best
 }
 
+// Copies some bytes to the front of others that have room for them; how many they are.
+fn copy(from: &[u8], to: &mut [u8]) -> usize
+    requires { length from.now ≤ length to.old }
+    ensures { (result ≡ length from.now) × (to.new ≡ from.now ++ drop (length from.now) to.old) }
+{
+    to[..from.len()].copy_from_slice(from);
+    from.len()
+}
+
 // The parts of an edition, joined.
 fn join(
     file: &[u8],
@@ -327,7 +338,7 @@ fn join(
         let place = find(file, good, program, edition, k);
         let from = place.from;
         let end = from + place.length;
-        at += bytes::copy(&file[from..end], &mut table[at..]);
+        at += copy(&file[from..end], &mut table[at..]);
         k += 1;
     }
 }

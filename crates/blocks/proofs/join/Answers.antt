@@ -1,0 +1,22 @@
+use Rattle.std.proofs.Common.{ap, ◌∙◌, ◌++◌, length, drop, arith}
+use Rattle.blocks.proofs.Counted.{place-within, place-content}
+use Rattle.blocks.proofs.Completing.{table_is}
+use Rattle.blocks.proofs.Joining.{joining_lent, joining_next, joining_end}
+use Rattle.blocks.proofs.join.Goals as goal
+
+pub overflow_add-end : goal.overflow_add-end
+overflow_add-end c = omega (arith, place-within c.find-place.ensures)
+
+pub slice_bounds-copy-end : goal.slice_bounds-copy-end
+slice_bounds-copy-end c = omega (arith, place-within c.find-place.ensures)
+
+pub copy-at-requires : goal.copy-at-requires
+copy-at-requires c = joining_lent (omega (arith, ap length (table_is c.args.file.now c.args.program c.args.edition c.requires.1), c.requires.2)) c.loop-k.invariant c.loop-k-test.true (place-content c.find-place.ensures)
+
+pub loop-k-preserved : goal.loop-k-preserved
+loop-k-preserved c = joining_next (omega (arith, ap length (table_is c.args.file.now c.args.program c.args.edition c.requires.1), c.requires.2)) c.loop-k.invariant c.loop-k-test.true (place-content c.find-place.ensures) c.copy-at.ensures.0 c.copy-at.ensures.1
+
+pub returns : goal.returns
+returns c =
+    joining_end (omega (arith, ap length (table_is c.args.file.now c.args.program c.args.edition c.requires.1), c.requires.2)) c.loop-k.invariant c.loop-k-test.false
+    ∙ ap (λ t. t ++ drop (length t) c.args.table.now) (table_is c.args.file.now c.args.program c.args.edition c.requires.1)
