@@ -1,4 +1,6 @@
 // The analysis of a table: start sets K, any-instant sets A, contexts S and marks.
+#![tactic(auto)]
+
 ghost use Rattle.std.specs.Prelude.{◌≡◌, true, false, ◌&&◌, ◌+◌, ◌-◌, ◌<◌, ◌≤◌, length, get_or, set};
 ghost use Rattle.codes.specs.Words.{◌∋◌, singleton_of, meets_of};
 ghost use Rattle.codes.specs.Codes.{bit, word};
@@ -163,7 +165,7 @@ fn second_context(context: u64, ends: u8) -> u64
 }
 
 // The context of a node, the traps around it, and how many subtrees wait, its own among them.
-#[derive(Drop)]
+#[derive(Clone, Copy)]
 struct Surroundings {
     context: u64,
     traps: u32,
