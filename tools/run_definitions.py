@@ -36,41 +36,41 @@ CRATES_TXT = "codes:\nesterel: codes\ngrammar: esterel\nstarts: esterel codes\nb
 
 # The calls of document 01 and the reader of F-1, put together from the definitions. The emission buffer is taken to be long enough.
 CALLS = """
-use Prim.Native.Nat.{ℕ, zero, suc, _-_, _/_, max}
-use mathlib.Core.Path.{_≡_, refl, sym, ap, subst}
-use mathlib.Core.Logic.{_↔_}
-use mathlib.Core.Bool.{Bool, true, false, _&&_, _||_, cond, or-true, false≢true}
-use mathlib.Core.List.{List, [], _∷_, _++_, map}
+use Prim.Native.Nat.{ℕ, zero, suc, ◌-◌, ◌/◌, max}
+use mathlib.Core.Path.{◌≡◌, refl, sym, ap, subst}
+use mathlib.Core.Logic.{◌↔◌}
+use mathlib.Core.Bool.{Bool, true, false, ◌&&◌, ◌||◌, cond, or-true, false≢true}
+use mathlib.Core.List.{List, [], ◌∷◌, ◌++◌, map}
 use mathlib.Core.Option.{Option, none, some}
 use lib.ListN.{length, take, drop}
-use lib.Dec.{T, eqb, ltb, eqb→eq, eqb-refl}
-use Rattle·esterel.specs.Limits.{signals as maxSignals}
-use Rattle·esterel.specs.Codes.{bit, word}
-use Rattle·esterel.specs.Statement.{Stmt, size, nodes, loopDepth}
-use Rattle·esterel.specs.Table.{Verdict, passed, refused, read, checkLength, postfix}
-use Rattle·esterel.specs.Checks.{verdict, listing, Line, planned}
-use Rattle·esterel.specs.Sets.{placesOf, mark}
-use Rattle·esterel.specs.Instant.{Mode, started, resumed, Entry, entry, Result, closed, starved, stuck, start, resume}
-use Rattle·esterel.specs.Outcome.{statementAt}
-use Rattle·esterel.specs.Reentry.{Twice, Entered}
-use Rattle·grammar.specs.Limits.{maxSource}
-use Rattle·grammar.specs.Tokens.{tokens, byteOf}
-use Rattle·grammar.specs.Kernel.{expand}
-use Rattle·grammar.specs.Faults.{numberOfFault, crowdedFrom}
-use Rattle·grammar.specs.Search.{no-name, look}
-use Rattle·grammar.specs.Meaning.{signals, untrapped, verdictOfTree}
-use Rattle·grammar.specs.Machine as M
-use Rattle·starts.specs.Ticks.{Leads, presents}
-use Rattle·blocks.specs.Editions as B
-use Rattle·blocks.specs.Fetching as F
-use Rattle·tied.specs.Calls as N
-use Rattle·question.specs.Calls as Q
-use Rattle·question.specs.declared.Asked.{Asked}
-use Rattle·question.specs.declared.Asked.the-variants.{Known, Refused}
-use Rattle·trial.specs.Trials.{tried}
-use Rattle·trial.specs.Calls as T
-use Rattle·trial.specs.declared.Tried as TriedBy
-use Rattle·instant.specs.Calls as I
+use lib.Dec.{T, eqb, ltb, eqb→eq, eqb_refl}
+use Rattle.esterel.specs.Limits.{signals as max_signals}
+use Rattle.esterel.specs.Codes.{bit, word}
+use Rattle.esterel.specs.Statement.{Stmt, size, nodes, loop_depth}
+use Rattle.esterel.specs.Table.{Verdict, passed, refused, read, check_length, postfix}
+use Rattle.esterel.specs.Checks.{verdict, listing, Line, planned}
+use Rattle.esterel.specs.Sets.{places_of, mark}
+use Rattle.esterel.specs.Instant.{Mode, started, resumed, Entry, entry, Result, closed, starved, stuck, start, resume}
+use Rattle.esterel.specs.Outcome.{statement_at}
+use Rattle.esterel.specs.Reentry.{Twice, Entered}
+use Rattle.grammar.specs.Limits.{max_source}
+use Rattle.grammar.specs.Tokens.{tokens, byte_of}
+use Rattle.grammar.specs.Kernel.{expand}
+use Rattle.grammar.specs.Faults.{number_of_fault, crowded_from}
+use Rattle.grammar.specs.Search.{no_name, look}
+use Rattle.grammar.specs.Meaning.{signals, untrapped, verdict_of_tree}
+use Rattle.grammar.specs.Machine as M
+use Rattle.starts.specs.Ticks.{Leads, presents}
+use Rattle.blocks.specs.Editions as B
+use Rattle.blocks.specs.Fetching as F
+use Rattle.tied.specs.Calls as N
+use Rattle.question.specs.Calls as Q
+use Rattle.question.specs.declared.Asked.{Asked}
+use Rattle.question.specs.declared.Asked.TheVariants.{Known, Refused}
+use Rattle.trial.specs.Trials.{tried}
+use Rattle.trial.specs.Calls as T
+use Rattle.trial.specs.declared.Tried as TriedBy
+use Rattle.instant.specs.Calls as I
 
 pub data Shown : Type 0 where
   ok : (n d planned : ℕ) (lines : List Line) → Shown
@@ -82,47 +82,47 @@ pub data Shown : Type 0 where
   gathered : (set presents : ℕ) → Shown
   went : (marks : List ℕ) (twice : List (List ℕ)) → Shown
   refusal : (number node : ℕ) → Shown
-  refusedAt : (number place : ℕ) → Shown
-  noList : Shown
+  refused_at : (number place : ℕ) → Shown
+  no_list : Shown
 
 abbrev pub shown : Verdict → Shown
-shown (passed p) = ok (size p) (loopDepth p) (planned p) (listing p)
+shown (passed p) = ok (size p) (loop_depth p) (planned p) (listing p)
 shown (refused number node) = refusal number node
 
 -- the first line alone
 abbrev pub figures : Verdict → Shown
-figures (passed p) = ok (size p) (loopDepth p) (planned p) []
+figures (passed p) = ok (size p) (loop_depth p) (planned p) []
 figures (refused number node) = refusal number node
 
 -- the calls by their own contracts, with the whole state
-abbrev pub handedBack : List ℕ → I.Call → Shown
-handedBack state (I.closes code taken entries packed emissions) = ran code taken entries (I.stateAfter (I.closes code taken entries packed emissions) state) emissions
-handedBack state (I.refuses number node) = refusal number node
+abbrev pub handed_back : List ℕ → I.Call → Shown
+handed_back state (I.closes code taken entries packed emissions) = ran code taken entries (I.state_after (I.closes code taken entries packed emissions) state) emissions
+handed_back state (I.refuses number node) = refusal number node
 
 abbrev pub call : Mode → (bytes state answers : List ℕ) → Shown
-call started bytes state answers = handedBack state (I.startCall (I.verdictFor bytes (length state) maxSignals) answers)
-call resumed bytes state answers = handedBack state (I.resumeCall (I.verdictFor bytes (length state) maxSignals) state answers)
+call started bytes state answers = handed_back state (I.start_call (I.verdict_for bytes (length state) max_signals) answers)
+call resumed bytes state answers = handed_back state (I.resume_call (I.verdict_for bytes (length state) max_signals) state answers)
 
 abbrev pub told : M.Outcome → Verdict
-told (M.accepted t) = verdictOfTree t
-told (M.stuck us) = refused (numberOfFault us) 0
+told (M.accepted t) = verdict_of_tree t
+told (M.stuck us) = refused (number_of_fault us) 0
 
 abbrev pub table : Verdict → Shown
 table (passed p) = written (postfix p)
 table (refused number node) = refusal number node
 
-abbrev pub readText : List ℕ → Shown
-readText text = table (cond (ltb maxSource (length text)) (refused 14 0) (told (M.parse (tokens text))))
+abbrev pub read_text : List ℕ → Shown
+read_text text = table (cond (ltb max_source (length text)) (refused 14 0) (told (M.parse (tokens text))))
 
 -- F-9: the number of a refusal of a text, and its place
 abbrev pub placed : List ℕ → M.Outcome → Shown
 placed text (M.accepted t) =
-    cond (untrapped [] (expand t)) (refusedAt 15 (byteOf text (look no-name [] (tokens text))))
-    (cond (ltb maxSignals (length (signals t))) (refusedAt 16 (byteOf text (crowdedFrom [] false (tokens text)))) (shown (verdictOfTree t)))
-placed text (M.stuck us) = refusedAt (numberOfFault us) (byteOf text us)
+    cond (untrapped [] (expand t)) (refused_at 15 (byte_of text (look no_name [] (tokens text))))
+    (cond (ltb max_signals (length (signals t))) (refused_at 16 (byte_of text (crowded_from [] false (tokens text)))) (shown (verdict_of_tree t)))
+placed text (M.stuck us) = refused_at (number_of_fault us) (byte_of text us)
 
-abbrev pub readPlace : List ℕ → Shown
-readPlace text = cond (ltb maxSource (length text)) (refusedAt 14 maxSource) (placed text (M.parse (tokens text)))
+abbrev pub read_place : List ℕ → Shown
+read_place text = cond (ltb max_source (length text)) (refused_at 14 max_source) (placed text (M.parse (tokens text)))
 
 -- F-2: whether a run took all answers and gave code 0. Where it says so, the list is one that `Leads` (crates/starts), and the other way
 -- round.
@@ -144,58 +144,58 @@ pub leads-exact : (first : ℕ) (p : Stmt) (answers : List ℕ) → (leads (star
 leads-exact first p answers = (leads-sound (start first p answers), λ (trail, held, e). ap leads e)
 
 -- of the lists of m answers the first that leads there, absent before present; and of those from m answers on, so many lengths
-abbrev pub orElse : Option (List ℕ) → Option (List ℕ) → Option (List ℕ)
-orElse none y = y
-orElse (some x) y = some x
+abbrev pub or_else : Option (List ℕ) → Option (List ℕ) → Option (List ℕ)
+or_else none y = y
+or_else (some x) y = some x
 
 abbrev pub behind : ℕ → Option (List ℕ) → Option (List ℕ)
 behind a none = none
 behind a (some l) = some (a ∷ l)
 
-abbrev pub firstOf : ℕ → (List ℕ → Bool) → Option (List ℕ)
-firstOf zero test = cond (test []) (some []) none
-firstOf (suc m) test = orElse (behind 0 (firstOf m (λ l. test (0 ∷ l)))) (behind 1 (firstOf m (λ l. test (1 ∷ l))))
+abbrev pub first_of : ℕ → (List ℕ → Bool) → Option (List ℕ)
+first_of zero test = cond (test []) (some []) none
+first_of (suc m) test = or_else (behind 0 (first_of m (λ l. test (0 ∷ l)))) (behind 1 (first_of m (λ l. test (1 ∷ l))))
 
 abbrev pub shortest : (lengths m : ℕ) → (List ℕ → Bool) → Option (List ℕ)
 shortest zero m test = none
-shortest (suc lengths) m test = orElse (firstOf m test) (shortest lengths (suc m) test)
+shortest (suc lengths) m test = or_else (first_of m test) (shortest lengths (suc m) test)
 
 -- the body of the loop at a node, whose first node is numbered 0
-abbrev pub bodyAt : Verdict → ℕ → List ℕ → Result
-bodyAt (passed p) node = start 0 (statementAt (nodes p) (node - 1))
-bodyAt (refused number other) node = λ answers. stuck
+abbrev pub body_at : Verdict → ℕ → List ℕ → Result
+body_at (passed p) node = start 0 (statement_at (nodes p) (node - 1))
+body_at (refused number other) node = λ answers. stuck
 
 abbrev pub listed : ℕ → Option (List ℕ) → Shown
-listed node none = noList
+listed node none = no_list
 listed node (some answers) = tick node answers
 
 -- where check 11 refuses: by a list that is given, or by trying all of up to so many lengths
 abbrev pub given : List ℕ → (List ℕ → Result) → Option (List ℕ)
 given answers run = cond (leads (run answers)) (some answers) none
 
-abbrev pub shownBy : ((List ℕ → Result) → Option (List ℕ)) → Verdict → Verdict → Shown
-shownBy find p (passed q) = figures (passed q)
-shownBy find p (refused number node) = cond (eqb number 11) (listed node (find (bodyAt p node))) (refusal number node)
+abbrev pub shown_by : ((List ℕ → Result) → Option (List ℕ)) → Verdict → Verdict → Shown
+shown_by find p (passed q) = figures (passed q)
+shown_by find p (refused number node) = cond (eqb number 11) (listed node (find (body_at p node))) (refusal number node)
 
-abbrev pub tickWith : (bytes answers : List ℕ) → Shown
-tickWith bytes answers = shownBy (given answers) (read bytes) (verdict bytes)
+abbrev pub tick_with : (bytes answers : List ℕ) → Shown
+tick_with bytes answers = shown_by (given answers) (read bytes) (verdict bytes)
 
-abbrev pub firstTick : (bytes : List ℕ) (lengths : ℕ) → Shown
-firstTick bytes lengths = shownBy (λ run. shortest lengths 0 (λ l. leads (run l))) (read bytes) (verdict bytes)
+abbrev pub first_tick : (bytes : List ℕ) (lengths : ℕ) → Shown
+first_tick bytes lengths = shown_by (λ run. shortest lengths 0 (λ l. leads (run l))) (read bytes) (verdict bytes)
 
 -- F-10: the most entries of the starts with the lists of so many answers, and with as many as there are tests
-abbrev pub entriesIn : Result → ℕ
-entriesIn (closed k trail held rest) = length trail
-entriesIn starved = 0
-entriesIn stuck = 0
+abbrev pub entries_in : Result → ℕ
+entries_in (closed k trail held rest) = length trail
+entries_in starved = 0
+entries_in stuck = 0
 
-abbrev pub mostOf : ℕ → (List ℕ → ℕ) → ℕ
-mostOf zero count = count []
-mostOf (suc m) count = max (mostOf m (λ l. count (0 ∷ l))) (mostOf m (λ l. count (1 ∷ l)))
+abbrev pub most_of : ℕ → (List ℕ → ℕ) → ℕ
+most_of zero count = count []
+most_of (suc m) count = max (most_of m (λ l. count (0 ∷ l))) (most_of m (λ l. count (1 ∷ l)))
 
-abbrev pub mostBy : Verdict → Shown
-mostBy (passed p) = made (mostOf (presents p) (λ l. entriesIn (start 0 p l)))
-mostBy (refused number node) = refusal number node
+abbrev pub most_by : Verdict → Shown
+most_by (passed p) = made (most_of (presents p) (λ l. entries_in (start 0 p l)))
+most_by (refused number node) = refusal number node
 
 -- F-6: whether node n stands in a trail, and whether at two places of it. Where it is said so, it is `Entered`, and `Twice`, and the other way
 -- round.
@@ -203,16 +203,16 @@ abbrev pub enters : ℕ → List Entry → Bool
 enters n [] = false
 enters n (entry i mode k ∷ t) = eqb n i || enters n t
 
-abbrev pub twiceIn : ℕ → List Entry → Bool
-twiceIn n [] = false
-twiceIn n (entry i mode k ∷ t) = eqb n i && enters n t || twiceIn n t
+abbrev pub twice_in : ℕ → List Entry → Bool
+twice_in n [] = false
+twice_in n (entry i mode k ∷ t) = eqb n i && enters n t || twice_in n t
 
 same-node : (n : ℕ) → eqb n n ≡ true
-same-node n = fromT (eqb n n) (eqb-refl n)
+same-node n = from_t (eqb n n) (eqb_refl n)
   where
-    fromT : (b : Bool) → T b → b ≡ true
-    fromT true t = refl
-    fromT false t = absurd t
+    from_t : (b : Bool) → T b → b ≡ true
+    from_t true t = refl
+    from_t false t = absurd t
 
 is-node : (n i : ℕ) → eqb n i ≡ true → n ≡ i
 is-node n i e = eqb→eq n i (subst T (sym e) tt)
@@ -223,16 +223,16 @@ enters-sound n (entry i mode k ∷ t) e = go (eqb n i) refl (enters-sound n t) e
   where
     go : (b : Bool) → eqb n i ≡ b → (enters n t ≡ true → Entered n t) → (b || enters n t) ≡ true → Entered n (entry i mode k ∷ t)
     go true z ih f = record { before = []; mode = mode; code = k; after = t; is = rw (is-node n i z) refl }
-    go false z ih f = let o = ih f in record { before = entry i mode k ∷ o .before; mode = o .mode; code = o .code; after = o .after; is = ap (λ l. entry i mode k ∷ l) (o .is) }
+    go false z ih f = let o = ih f in record { before = entry i mode k ∷ o.before; mode = o.mode; code = o.code; after = o.after; is = ap (λ l. entry i mode k ∷ l) o.is }
 
 enters-at : (n : ℕ) (b : List Entry) (mode : Mode) (k : ℕ) (a : List Entry) → enters n (b ++ (entry n mode k ∷ a)) ≡ true
 enters-at n [] mode k a = rw (same-node n)
 enters-at n (entry i m j ∷ b) mode k a = rw (enters-at n b mode k a, or-true)
 
 pub enters-exact : (n : ℕ) (t : List Entry) → (enters n t ≡ true) ↔ Entered n t
-enters-exact n t = (enters-sound n t, λ o. rw (o .is) (enters-at n (o .before) (o .mode) (o .code) (o .after)))
+enters-exact n t = (enters-sound n t, λ o. rw o.is (enters-at n o.before o.mode o.code o.after))
 
-pub twice-sound : (n : ℕ) (t : List Entry) → twiceIn n t ≡ true → Twice t n
+pub twice-sound : (n : ℕ) (t : List Entry) → twice_in n t ≡ true → Twice t n
 twice-sound n [] e = absurd (false≢true e)
 twice-sound n (entry i mode k ∷ t) e = go (eqb n i) (enters n t) refl (enters-sound n t) (twice-sound n t) e
   where
@@ -242,123 +242,125 @@ twice-sound n (entry i mode k ∷ t) e = go (eqb n i) (enters n t) refl (enters-
           before = [];
           mode = mode;
           code = k;
-          between = o .before;
-          again = o .mode;
-          codeAgain = o .code;
-          after = o .after;
-          is = rw (← is-node n i z) (ap (λ l. entry n mode k ∷ l) (o .is));
+          between = o.before;
+          again = o.mode;
+          code_again = o.code;
+          after = o.after;
+          is = rw (← is-node n i z) (ap (λ l. entry n mode k ∷ l) o.is);
         }
+
     later : Twice t n → Twice (entry i mode k ∷ t) n
     later o =
         record {
-          before = entry i mode k ∷ o .before;
-          mode = o .mode;
-          code = o .code;
-          between = o .between;
-          again = o .again;
-          codeAgain = o .codeAgain;
-          after = o .after;
-          is = ap (λ l. entry i mode k ∷ l) (o .is);
+          before = entry i mode k ∷ o.before;
+          mode = o.mode;
+          code = o.code;
+          between = o.between;
+          again = o.again;
+          code_again = o.code_again;
+          after = o.after;
+          is = ap (λ l. entry i mode k ∷ l) o.is;
         }
-    go : (b c : Bool) → eqb n i ≡ b → (c ≡ true → Entered n t) → (twiceIn n t ≡ true → Twice t n) → (b && c || twiceIn n t) ≡ true → Twice (entry i mode k ∷ t) n
+
+    go : (b c : Bool) → eqb n i ≡ b → (c ≡ true → Entered n t) → (twice_in n t ≡ true → Twice t n) → (b && c || twice_in n t) ≡ true → Twice (entry i mode k ∷ t) n
     go true true z f g y = here z (f refl)
     go true false z f g y = later (g y)
     go false c z f g y = later (g y)
 
-twice-at : (n : ℕ) (b : List Entry) (mode : Mode) (k : ℕ) (a : List Entry) → enters n a ≡ true → twiceIn n (b ++ (entry n mode k ∷ a)) ≡ true
+twice-at : (n : ℕ) (b : List Entry) (mode : Mode) (k : ℕ) (a : List Entry) → enters n a ≡ true → twice_in n (b ++ (entry n mode k ∷ a)) ≡ true
 twice-at n [] mode k a e = rw (same-node n, e)
 twice-at n (entry i m j ∷ b) mode k a e = rw (twice-at n b mode k a e, or-true)
 
-pub twice-exact : (n : ℕ) (t : List Entry) → (twiceIn n t ≡ true) ↔ Twice t n
-twice-exact n t = (twice-sound n t, λ o. rw (o .is) (twice-at n (o .before) (o .mode) (o .code) _ (enters-at n (o .between) (o .again) (o .codeAgain) (o .after))))
+pub twice-exact : (n : ℕ) (t : List Entry) → (twice_in n t ≡ true) ↔ Twice t n
+twice-exact n t = (twice-sound n t, λ o. rw o.is (twice-at n o.before o.mode o.code _ (enters-at n o.between o.again o.code_again o.after)))
 
 -- of the m nodes from n on, those that are entered twice
 abbrev pub entered : (m n : ℕ) → List Entry → List ℕ
 entered zero n t = []
-entered (suc m) n t = cond (twiceIn n t) (n ∷ entered m (suc n) t) (entered m (suc n) t)
+entered (suc m) n t = cond (twice_in n t) (n ∷ entered m (suc n) t) (entered m (suc n) t)
 
 -- a run: what is entered twice in an instant, and in those after it, each with all of its answers
-abbrev pub instantsOf : Stmt → Result → (next : List ℕ → List (List ℕ)) → List (List ℕ)
-instantsOf p (closed k trail held []) next = entered (size p) 0 trail ∷ cond (eqb k 1) (next held) []
-instantsOf p (closed k trail held (a ∷ rest)) next = []
-instantsOf p starved next = []
-instantsOf p stuck next = []
+abbrev pub instants_of : Stmt → Result → (next : List ℕ → List (List ℕ)) → List (List ℕ)
+instants_of p (closed k trail held []) next = entered (size p) 0 trail ∷ cond (eqb k 1) (next held) []
+instants_of p (closed k trail held (a ∷ rest)) next = []
+instants_of p starved next = []
+instants_of p stuck next = []
 
 abbrev pub onward : Stmt → (steps : List (List ℕ)) → (held : List ℕ) → List (List ℕ)
 onward p [] held = []
-onward p (answers ∷ steps) held = instantsOf p (resume 0 p held answers) (onward p steps)
+onward p (answers ∷ steps) held = instants_of p (resume 0 p held answers) (onward p steps)
 
-abbrev pub runOf : Verdict → (first : List ℕ) (steps : List (List ℕ)) → Shown
-runOf (refused number node) first steps = refusal number node
-runOf (passed p) first steps = went (map mark (placesOf p)) (instantsOf p (start 0 p first) (onward p steps))
+abbrev pub run_of : Verdict → (first : List ℕ) (steps : List (List ℕ)) → Shown
+run_of (refused number node) first steps = refusal number node
+run_of (passed p) first steps = went (map mark (places_of p)) (instants_of p (start 0 p first) (onward p steps))
 
 -- a fetch with a lent table that is long enough: the first of some editions that is whole
-abbrev pub firstWhole : (file : List ℕ) (program : ℕ) (editions : List ℕ) → Option ℕ
-firstWhole file p [] = none
-firstWhole file p (e ∷ es) = cond (B.whole file p e) (some e) (firstWhole file p es)
+abbrev pub first_whole : (file : List ℕ) (program : ℕ) (editions : List ℕ) → Option ℕ
+first_whole file p [] = none
+first_whole file p (e ∷ es) = cond (B.whole file p e) (some e) (first_whole file p es)
 
-abbrev pub fetchedAs : F.Outcome → Shown
-fetchedAs (F.fetched e m t) = written t
-fetchedAs (F.refused number) = refusal number 0
+abbrev pub fetched_as : F.Outcome → Shown
+fetched_as (F.fetched e m t) = written t
+fetched_as (F.refused number) = refusal number 0
 
-abbrev pub fetchOf : (file : List ℕ) (program : ℕ) (editions : List ℕ) → Shown
-fetchOf file p es = fetchedAs (cond (B.fileFits file) (F.checkEdition file p (firstWhole file p es)) (F.refused 17))
+abbrev pub fetch_of : (file : List ℕ) (program : ℕ) (editions : List ℕ) → Shown
+fetch_of file p es = fetched_as (cond (B.file_fits file) (F.check_edition file p (first_whole file p es)) (F.refused 17))
 
-abbrev pub partOf : (file : List ℕ) (program edition part : ℕ) → Shown
-partOf file p e k = written (B.contentOf file (F.handed file p e k))
+abbrev pub part_of : (file : List ℕ) (program edition part : ℕ) → Shown
+part_of file p e k = written (B.content_of file (F.handed file p e k))
 
 -- F-8: the lent sets after the call
-abbrev pub narrowedAs : (ties old : List ℕ) → Verdict → Shown
-narrowedAs ties old (passed p) = written (N.setsAfter (passed p) ties old)
-narrowedAs ties old (refused number node) = refusal number node
+abbrev pub narrowed_as : (ties old : List ℕ) → Verdict → Shown
+narrowed_as ties old (passed p) = written (N.sets_after (passed p) ties old)
+narrowed_as ties old (refused number node) = refusal number node
 
-abbrev pub narrowOf : (bytes ties old : List ℕ) → Shown
-narrowOf bytes ties old = narrowedAs ties old (N.verdictFor bytes ties old)
+abbrev pub narrow_of : (bytes ties old : List ℕ) → Shown
+narrow_of bytes ties old = narrowed_as ties old (N.verdict_for bytes ties old)
 
 -- F-12
-abbrev pub askedAs : Asked → Shown
-askedAs (Known answer count) = known (bit answer) count
-askedAs (Refused number node) = refusal number node
+abbrev pub asked_as : Asked → Shown
+asked_as (Known answer count) = known (bit answer) count
+asked_as (Refused number node) = refusal number node
 
-abbrev pub askOf : (bytes : List ℕ) (node code : ℕ) → Shown
-askOf bytes node code = askedAs (Q.askedOf (verdict bytes) node code)
+abbrev pub ask_of : (bytes : List ℕ) (node code : ℕ) → Shown
+ask_of bytes node code = asked_as (Q.asked_of (verdict bytes) node code)
 
 -- F-13: a refusal by the contract, and a set by its definition with as many answers as there are presents
-abbrev pub gatheredAt : (first : ℕ) → Stmt → Shown
-gatheredAt first q = gathered (word (tried (presents q) first q)) (presents q)
+abbrev pub gathered_at : (first : ℕ) → Stmt → Shown
+gathered_at first q = gathered (word (tried (presents q) first q)) (presents q)
 
-abbrev pub triedAs : Verdict → ℕ → TriedBy.Tried → Shown
-triedAs v node (TriedBy.the-variants.Refused number at) = refusal number at
-triedAs (passed p) node (TriedBy.the-variants.Gathered set presents) = gatheredAt (suc node - size (statementAt (nodes p) node)) (statementAt (nodes p) node)
-triedAs (refused number at) node (TriedBy.the-variants.Gathered set presents) = noList
+abbrev pub tried_as : Verdict → ℕ → TriedBy.Tried → Shown
+tried_as v node (TriedBy.TheVariants.Refused number at) = refusal number at
+tried_as (passed p) node (TriedBy.TheVariants.Gathered set presents) = gathered_at (suc node - size (statement_at (nodes p) node)) (statement_at (nodes p) node)
+tried_as (refused number at) node (TriedBy.TheVariants.Gathered set presents) = no_list
 
-abbrev pub trialOf : (bytes : List ℕ) (node : ℕ) → Shown
-trialOf bytes node = triedAs (verdict bytes) node (T.triedOf (verdict bytes) node)
+abbrev pub trial_of : (bytes : List ℕ) (node : ℕ) → Shown
+trial_of bytes node = tried_as (verdict bytes) node (T.tried_of (verdict bytes) node)
 """
 HEAD = """
-use mathlib.Core.Path.{_≡_, refl}
-use mathlib.Core.List.{List, [], _∷_}
-use Rattle·esterel.specs.Codes.{word}
-use Rattle·esterel.specs.Checks.{verdict, line}
-use Rattle·esterel.specs.Instant.{started, resumed}
-use Rattle·grammar.specs.Tokens.{tokens, classOf, beginnings, byteOf}
-use Rattle·CRATE·proofs.proofs.Calls.{shown, figures, call, readText, readPlace, tickWith, firstTick, mostBy, runOf, fetchOf, partOf, narrowOf, askOf, trialOf, ok, ran, written, tick, made, known, gathered, went, refusal, refusedAt}
-use Rattle·blocks.specs.Block.{word as wordOf, firstCheck, secondCheck, checksMatch, lengthFits, zeroFilled, good}
-use Rattle·blocks.specs.Editions.{fileFits, blocksIn, blockAt, isFor, counted, partsOf, completes, whole, tableOf}
-use Rattle·blocks.specs.Fetching.{handed}
-use Rattle·analysis.specs.Analysis.{checked}
-use Rattle·tied.specs.Narrowed.{wordsOf}
-use Rattle·tied.specs.Calls.{setsAfter}
-use Rattle·question.specs.Calls.{askedOf}
-use Rattle·trial.specs.Lists.{extended, lists}
-use Rattle·trial.specs.Trials.{gathered as gatheredBy, tried}
-use Rattle·trial.specs.Calls.{triedOf}
-use Rattle·codes.specs.Codes.{wordBelow}
-use Rattle·codes.specs.Words.{_∋_}
-use Rattle·packing.specs.Packing.{heldBit, column, unpack, bitsFrom, byteOf as packedByte, pack, isClearFrom}
-use Rattle·instant.specs.Calls.{startCall, resumeCall}
+use mathlib.Core.Path.{◌≡◌, refl}
+use mathlib.Core.List.{List, [], ◌∷◌}
+use Rattle.esterel.specs.Codes.{word}
+use Rattle.esterel.specs.Checks.{verdict, line}
+use Rattle.esterel.specs.Instant.{started, resumed}
+use Rattle.grammar.specs.Tokens.{tokens, class_of, beginnings, byte_of}
+use Rattle.CRATE.proofs.Calls.{shown, figures, call, read_text, read_place, tick_with, first_tick, most_by, run_of, fetch_of, part_of, narrow_of, ask_of, trial_of, ok, ran, written, tick, made, known, gathered, went, refusal, refused_at}
+use Rattle.blocks.specs.Block.{word as word_of, first_check, second_check, checks_match, length_fits, zero_filled, good}
+use Rattle.blocks.specs.Editions.{file_fits, blocks_in, block_at, is_for, counted, parts_of, completes, whole, table_of}
+use Rattle.blocks.specs.Fetching.{handed}
+use Rattle.analysis.specs.Analysis.{checked}
+use Rattle.tied.specs.Narrowed.{words_of}
+use Rattle.tied.specs.Calls.{sets_after}
+use Rattle.question.specs.Calls.{asked_of}
+use Rattle.trial.specs.Lists.{extended, lists}
+use Rattle.trial.specs.Trials.{gathered as gathered_by, tried}
+use Rattle.trial.specs.Calls.{tried_of}
+use Rattle.codes.specs.Codes.{word_below}
+use Rattle.codes.specs.Words.{◌∋◌}
+use Rattle.packing.specs.Packing.{held_bit, column, unpack, bits_from, byte_of as packed_byte, pack, is_clear_from}
+use Rattle.instant.specs.Calls.{start_call, resume_call}
 """
-UNFOLDING = "unfolding word tokens classOf beginnings byteOf wordOf firstCheck secondCheck checksMatch lengthFits zeroFilled good fileFits blocksIn blockAt isFor counted partsOf completes whole tableOf handed checked wordsOf setsAfter askedOf extended lists gatheredBy tried triedOf wordBelow _∋_ heldBit column unpack bitsFrom packedByte pack isClearFrom startCall resumeCall"
+UNFOLDING = "unfolding word tokens class_of beginnings byte_of word_of first_check second_check checks_match length_fits zero_filled good file_fits blocks_in block_at is_for counted parts_of completes whole table_of handed checked words_of sets_after asked_of extended lists gathered_by tried tried_of word_below ◌∋◌ held_bit column unpack bits_from packed_byte pack is_clear_from start_call resume_call"
 Theorem = collections.namedtuple("Theorem", "name left right")  # left: a call of the definitions; right: what is expected
 
 refused = "refusal {} {}".format  # number, node
@@ -409,7 +411,7 @@ def is_of_f1(line):
 
 def text_theorem(at, vector, name="text"):
     right = refused(vector["refused"], vector["node"]) if "refused" in vector else "written " + a_list(bytes.fromhex(vector["table"]))
-    return Theorem(f"{name}{at}", f"readText {a_list(bytes.fromhex(vector['text']))}", right)
+    return Theorem(f"{name}{at}", f"read_text {a_list(bytes.fromhex(vector['text']))}", right)
 
 # the lists of a body so small, and up to so long, are all tried
 SMALL, SHORT = 40, 6
@@ -420,12 +422,12 @@ def tick_theorems(at, vector):
         yield Theorem(f"tick{at}", verdict(table, "figures"), (ok if word == "ok" else refused)(*numbers))
         return
     right = f"tick {word} {a_list(numbers)}"
-    yield Theorem(f"tick{at}", f"tickWith {a_list(table)} {a_list(numbers)}", right)
+    yield Theorem(f"tick{at}", f"tick_with {a_list(table)} {a_list(numbers)}", right)
     if len(table) <= 2 * SMALL and len(numbers) <= SHORT:
-        yield Theorem(f"first{at}", f"firstTick {a_list(table)} {len(numbers) + 1}", right)
+        yield Theorem(f"first{at}", f"first_tick {a_list(table)} {len(numbers) + 1}", right)
 
 def most_of(table):
-    return f"mostBy (verdict {a_list(table)})"
+    return f"most_by (verdict {a_list(table)})"
 
 TESTS = 7  # of a program with at most so many tests all starts are tried
 
@@ -439,7 +441,7 @@ def is_tried(line):
     return vector["line"].startswith("refused") or (len(table) <= 2 * SMALL and table[::2].count(6) <= TESTS)
 
 def ran_through(table, steps):
-    return f"runOf (verdict {a_list(table)}) {a_list(steps[0])} {a_list(map(a_list, steps[1:]))}"
+    return f"run_of (verdict {a_list(table)}) {a_list(steps[0])} {a_list(map(a_list, steps[1:]))}"
 
 def entered_twice(marks, twice):
     return f"went {a_list(marks)} {a_list(map(a_list, twice))}"
@@ -450,10 +452,10 @@ def run_theorem(at, vector):
 
 def fetch_of(file, program):
     editions = {int.from_bytes(file[block + 2 : block + 4], "little") for block in range(0, len(file), 512)}
-    return f"fetchOf {a_list(file)} {program} {a_list(sorted(editions, reverse=True))}"
+    return f"fetch_of {a_list(file)} {program} {a_list(sorted(editions, reverse=True))}"
 
 def part_of(file, program, edition, part):
-    return f"partOf {a_list(file)} {program} {edition} {part}"
+    return f"part_of {a_list(file)} {program} {edition} {part}"
 
 def block_theorem(at, vector):
     file, program = bytes.fromhex(vector["file"]), vector["program"]
@@ -465,7 +467,7 @@ def block_theorem(at, vector):
     return Theorem(f"block{at}", left, right)
 
 def narrow_of(table, ties, sets):
-    return f"narrowOf {a_list(table)} {a_list(ties)} {a_list(sets)}"
+    return f"narrow_of {a_list(table)} {a_list(ties)} {a_list(sets)}"
 
 def tied_theorem(at, vector):
     table = bytes.fromhex(vector["table"])
@@ -473,14 +475,14 @@ def tied_theorem(at, vector):
     return Theorem(f"tied{at}", narrow_of(table, bytes.fromhex(vector["ties"]), [7] * (len(table) // 2 + 1)), right)
 
 def ask_of(table, node, code):
-    return f"askOf {a_list(table)} {node} {code}"
+    return f"ask_of {a_list(table)} {node} {code}"
 
 def question_theorem(at, vector):
     right = refused(vector["refused"], vector["at"]) if "refused" in vector else f"known {vector['answer']} {vector['count']}"
     return Theorem(f"question{at}", ask_of(bytes.fromhex(vector["table"]), vector["node"], vector["code"]), right)
 
 def trial_of(table, node):
-    return f"trialOf {a_list(table)} {node}"
+    return f"trial_of {a_list(table)} {node}"
 
 def trial_theorem(at, vector):
     table, node = bytes.fromhex(vector["table"]), vector["node"]
@@ -734,7 +736,7 @@ def edge_theorems():
     edges = [(verdict(table, "figures"), refused(*key)) for key, tables in REFUSED.items() for table in tables]
     edges += [(verdict(table, "figures"), ok(*key)) for key, tables in ACCEPTED.items() for table in tables]
     edges += [(verdict(table), right) for table, right in LISTINGS] + [(call(*lent), right) for *lent, right in INSTANTS] + list(text_edges())
-    edges += [(f"firstTick {a_list(table)} {len(key)}", f"tick {key[0]} {a_list(key[1:])}") for key, tables in TICKS.items() for table in tables]
+    edges += [(f"first_tick {a_list(table)} {len(key)}", f"tick {key[0]} {a_list(key[1:])}") for key, tables in TICKS.items() for table in tables]
     edges += [(most_of(table), f"made {most}") for most, tables in MOST.items() for table in tables]
     edges += [(ran_through(*lent), entered_twice(*right)) for *lent, right in ((table, steps, right) for table, steps, *right in RUNS)]
     edges += [*block_edges(), *tied_edges(), *question_edges(), *trial_edges()]
@@ -770,13 +772,13 @@ PLACES = [  # a caret stands before the byte where the text is at fault
 def text_edges():
     for text, right in PLACES:
         before, after = text.split("^")
-        yield f"readPlace {a_list((before + after).encode())}", f"refusedAt {right} {len(before)}"
+        yield f"read_place {a_list((before + after).encode())}", f"refused_at {right} {len(before)}"
     for text, right in DIALECT:
-        yield f"readText {a_list(text.encode())}", "written " + a_list(right)
+        yield f"read_text {a_list(text.encode())}", "written " + a_list(right)
     for text, right in TEXTS:
-        yield f"readText {a_list(text.encode())}", refused(right, 0) if isinstance(right, int) else "written " + a_list(right)
+        yield f"read_text {a_list(text.encode())}", refused(right, 0) if isinstance(right, int) else "written " + a_list(right)
     flat = ";".join(["nothing"] * 257)  # the first statement is the deepest
-    yield f"readText {a_list(flat.encode())}", refused(8, 0)
+    yield f"read_text {a_list(flat.encode())}", refused(8, 0)
 
 def control_theorems():
     """A true theorem, then false ones, each off in one place: the checker must refuse these, and these alone."""
@@ -785,9 +787,9 @@ def control_theorems():
     edges = [(verdict(W1), right) for right in rights]
     rights = [ran(1, 0, 5, holding(0), [7]), ran(1, 0, 6, holding(0), [8]), ran(1, 0, 6, holding(), [7]), ran(1, 0, 6, holding(7), [7])]
     edges += [(call("resumed", W1, holding(0), []), right) for right in rights]
-    edges += [(f"readText {a_list(b'emit A;pause')}", "written " + a_list(right)) for right in ([3, 0, 2, 0, 9, 0, 9, 0], [3, 1, 2, 0, 9, 0])]
-    edges += [(f"readPlace {a_list(b'emit case')}", f"refusedAt {right}") for right in ("20 4", "14 5")]
-    edges += [("firstTick (1 ∷ 0 ∷ 2 ∷ 0 ∷ 6 ∷ 5 ∷ 8 ∷ 0 ∷ []) 2", f"tick {right}") for right in ("3 []", "3 (0 ∷ [])", "2 (1 ∷ [])")]
+    edges += [(f"read_text {a_list(b'emit A;pause')}", "written " + a_list(right)) for right in ([3, 0, 2, 0, 9, 0, 9, 0], [3, 1, 2, 0, 9, 0])]
+    edges += [(f"read_place {a_list(b'emit case')}", f"refused_at {right}") for right in ("20 4", "14 5")]
+    edges += [("first_tick (1 ∷ 0 ∷ 2 ∷ 0 ∷ 6 ∷ 5 ∷ 8 ∷ 0 ∷ []) 2", f"tick {right}") for right in ("3 []", "3 (0 ∷ [])", "2 (1 ∷ [])")]
     edges += [(most_of(STAYS + [2, 0, 9, 0]), f"made {most}") for most in (4, 6)]
     edges += [(ran_through(LOCK, [[], []]), entered_twice(marks, twice)) for marks, twice in
               (([1, 0, 1, 0, 1, 1, 1, 0], [[], [0, 1, 2, 4, 5, 6]]), ([1, 1, 1, 0, 1, 1, 1, 0], [[], [0, 2, 4, 5, 6]]), ([1, 1, 1, 0, 1, 1, 1, 0], [[]]))]
@@ -826,13 +828,10 @@ def write_crate(repo, name, theorems, a_file):
 
 def check(repo, name):
     """Whether the crate is proved, what the checker says of each declaration that it refuses, and all that it says."""
-    done = subprocess.run(["rt", "check", name], cwd=repo, env={**os.environ, "RT_JOBS": "1", "RT_CUT": "0"}, capture_output=True, text=True)
-    log = repo / "target/log" / f"{name}.say"  # it is not there if a crate below is not proved
-    said = log.read_text() if log.exists() else done.stdout + done.stderr
+    done = subprocess.run(["rt", "check"], cwd=repo / "crates" / name, capture_output=True, text=True)
+    said = done.stdout + done.stderr
     refusals = dict(re.findall(r"^.*\.antt:\d+:\d+: error: `(.+?)`: (.*(?:\n  .*)*)", said, re.M))
-    # of a proved library the verdict is the last line
-    proved = done.returncode == 0 and not refusals and said.splitlines()[-1].startswith("logic=proved ")
-    return proved, refusals, said
+    return done.returncode == 0 and not refusals and "\nlogic=proved " in said, refusals, said
 
 # ---- the report
 

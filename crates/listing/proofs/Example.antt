@@ -1,7 +1,6 @@
 -- The listing of table W1 (document 01, "Listing program"), as text.
 use mathlib.Core.Path.{◌≡◌, refl}
-use mathlib.Core.List.{List, [], ◌∷◌}
-use Prim.Native.Nat.{ℕ}
+use mathlib.Core.List.{[], ◌∷◌}
 use Rattle.codes.specs.Codes.{word}
 use Rattle.esterel.specs.Checks.{verdict}
 use Rattle.listing.specs.Text.{digits, line_text, header_text, text_of}

@@ -12,6 +12,7 @@ ghost use Rattle.esterel.specs.Checks.{verdict};
 ghost use Rattle.listing.specs.Written.{Written, line_at, Columns};
 ghost use Rattle.listing.specs.Rendering.{Rendering, WholeText};
 
+use analysis::Analysed;
 
 // How many digits a number has.
 fn width(n: u64, base: u64) -> usize
@@ -312,3 +313,33 @@ fn render_listing(
     Rendered::Whole { length }
 }
 
+// The listing of a table, or the line of its refusal. A text that is too short stays as it was: the length is known first.
+pub fn render(table: &[u8], text: &mut [u8]) -> Rendered
+    ensures { Rendering (text_of (verdict table.now)) text.old text.new result }
+{
+    let mut starts = [0u64; esterel::MAX_NODES];
+    let mut anys = [0u64; esterel::MAX_NODES];
+    let mut contexts = [0u64; esterel::MAX_NODES];
+    let mut marks = [0u8; esterel::MAX_NODES];
+    let analysed = analysis::analyse(table, &mut starts, &mut anys, &mut contexts, &mut marks);
+    match analysed {
+        Analysed::Refused { number, node } => render_refusal(number, node, text),
+        Analysed::Done { nodes: _, loops } => {
+            render_listing(table, &starts, &anys, &contexts, &marks, loops, text)
+        }
+    }
+}
+
+// A text of this many bytes holds the listing of any table.
+pub const MAX_TEXT: usize = 67584;
+
+// The listing, or the line of the refusal, in a text that is long enough for any; its length.
+pub fn render_whole(table: &[u8], text: &mut [u8; MAX_TEXT]) -> usize
+    ensures { WholeText (text_of (verdict table.now)) text.old text.new result }
+{
+    let rendered = render(table, text);
+    match rendered {
+        Rendered::Whole { length } => length,
+        Rendered::TooShort => 0,
+    }
+}

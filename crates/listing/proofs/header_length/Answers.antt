@@ -1,7 +1,7 @@
 -- `listing::header_length` meets its contract: the widths of its fields.
 use native.Mathlib.Omega.{arith}
 use Prim.Native.Nat.{◌+◌, ◌*◌}
-use Rattle.listing.proofs.Fields.{planned-few, header_size}
+use Rattle.listing.proofs.Fields.{header_size}
 use Rattle.listing.proofs.header_length.Goals as goal
 
 pub returns : goal.returns

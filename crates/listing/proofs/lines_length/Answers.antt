@@ -1,9 +1,7 @@
 -- `listing::lines_length` meets its contract: the lines before `i` are counted.
 use native.Mathlib.Omega.{arith}
-use Prim.Native.Nat.{◌-◌}
-use Rattle.table.specs.Program.{program_of}
 use Rattle.table.proofs.Bytes.{table-length}
-use Rattle.listing.proofs.Lines.{Totalling, total-none, total-fits, total-next, total-end, lines_few}
+use Rattle.listing.proofs.Lines.{total-fits, total-next, total-end, lines_few}
 use Rattle.listing.proofs.lines_length.Goals as goal
 
 pub node_length-total-requires : goal.node_length-total-requires

@@ -1,5 +1,5 @@
 -- `listing::render_listing` meets its contract: by whether the listing fits.
-use Rattle.listing.proofs.Fronts.{too_short, rendered}
+use Rattle.listing.proofs.Fronts.{rendered}
 use Rattle.listing.proofs.render_listing.Goals as goal
 
 pub returns : goal.returns

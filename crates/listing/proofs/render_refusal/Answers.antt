@@ -1,5 +1,5 @@
 -- `listing::render_refusal` meets its contract: by whether the line fits.
-use Rattle.listing.proofs.Fronts.{too_short, rendered}
+use Rattle.listing.proofs.Fronts.{rendered}
 use Rattle.listing.proofs.render_refusal.Goals as goal
 
 pub returns : goal.returns

@@ -1,7 +1,6 @@
 -- `listing::width` meets its contract: what is counted and the digits of what is left are the digits.
 use native.Mathlib.Omega.{arith}
-use mathlib.Core.Path.{refl}
-use Rattle.listing.proofs.Numbers.{Counting, counting_few, quotient_less, counting_room, counting_next, counting_end}
+use Rattle.listing.proofs.Numbers.{counting_few, counting_room, counting_next, counting_end}
 use Rattle.listing.proofs.width.Goals as goal
 
 pub overflow_add-count : goal.overflow_add-count

@@ -1,7 +1,5 @@
 -- `listing::write_field` meets its contract: first the digits, then the byte.
-use native.Mathlib.Omega.{arith}
 use mathlib.Core.List.{[], ◌∷◌}
-use lib.ListN.{length-append}
 use Rattle.listing.specs.Text.{digits}
 use Rattle.listing.proofs.Writing.{joined}
 use Rattle.listing.proofs.write_field.Goals as goal

@@ -1,11 +1,10 @@
 -- `listing::write_header` meets its contract: the word, then field after field.
-use native.Mathlib.Omega.{arith}
 use Prim.Native.Nat.{◌+◌, ◌*◌}
 use mathlib.Core.List.{[], ◌∷◌}
 use lib.Dec.{lit≤}
 use Rattle.listing.specs.Text.{decimal, ok_word}
 use Rattle.listing.proofs.Writing.{rest-fits, last-left}
-use Rattle.listing.proofs.Fields.{planned-few, next_field, field_fits, header_left}
+use Rattle.listing.proofs.Fields.{next_field, field_fits, header_left}
 use Rattle.listing.proofs.write_header.Goals as goal
 
 pub write_bytes-i-requires : goal.write_bytes-i-requires

@@ -1,9 +1,7 @@
 -- `listing::write_lines` meets its contract: the lines before `i` are written.
 use native.Mathlib.Omega.{arith}
-use Prim.Native.Nat.{◌-◌}
-use Rattle.table.specs.Program.{program_of}
 use Rattle.table.proofs.Bytes.{table-length}
-use Rattle.listing.proofs.Lines.{Listing, listing_none, listing-fits, listing-next, listing-end}
+use Rattle.listing.proofs.Lines.{listing-fits, listing-next, listing-end}
 use Rattle.listing.proofs.write_lines.Goals as goal
 
 pub write_node-next-requires : goal.write_node-next-requires

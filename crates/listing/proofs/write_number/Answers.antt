@@ -1,7 +1,6 @@
 -- `listing::write_number` meets its contract: the digits of `rest` are left to be written.
 use native.Mathlib.Omega.{arith}
-use lib.ListN.{length-set}
-use Rattle.listing.proofs.Numbers.{Numbering, numbering_all, numbering_some, numbering_below, numbering_less, numbering_next, numbering_end}
+use Rattle.listing.proofs.Numbers.{numbering_some, numbering_next, numbering_end}
 use Rattle.listing.proofs.write_number.Goals as goal
 
 pub overflow_sub-i : goal.overflow_sub-i
