@@ -12,7 +12,7 @@ use lib.Seq.{get_or-set_same, get_or-set_other}
 use Rattle.table.specs.declared.Kind.{Kind}
 use Rattle.starts.specs.declared.Weight.{Weight}
 use Rattle.starts.specs.declared.Weight.TheVariants.{Answers, Entries}
-use Rattle.starts.specs.Summary.{up_to, either, together, prefer, weights}
+use Rattle.starts.specs.Summary.{up_to, together, prefer, weights}
 use Rattle.starts.specs.Walk.{no_worse, need_first}
 use Rattle.starts.proofs.Agree.{up_to_agree}
 use Rattle.rows.specs.Rows.{value_of, values_of, Picks, Joins, LowRow, best_sum, Found}

@@ -1,5 +1,7 @@
 // A walk down a statement, by the rows of its nodes: it takes the first of the lists of answers that come to what is preferred, the least
 // number of answers or the most entries. It comes to no node twice, with a few sweeps over 64 numbers at each.
+#![tactic(auto)]
+
 ghost use Rattle.std.specs.Prelude.{◌≡◌, true, false, ◌+◌, ◌*◌, ◌<◌, ◌≤◌, length};
 ghost use Rattle.table.specs.Columns.{stmt_at};
 ghost use Rattle.starts.specs.Walk.{no_worse};
@@ -12,7 +14,7 @@ use starts::Weight;
 use table::Kind;
 
 // Where a walk led: the code, and the place after its answers.
-#[derive(Drop)]
+#[derive(Clone, Copy)]
 pub struct Walked {
     pub code: usize,
     pub at: usize,

@@ -1,0 +1,5 @@
+use Rattle.walk.proofs.Needs.{sequence-first}
+use Rattle.walk.proofs.need_sequence.Goals as goal
+
+pub returns : goal.returns
+returns c = sequence-first c.requires.2 c.best_sum.ensures
