@@ -8,7 +8,7 @@ use lib.Dec.{eqb, leb, ltb}
 use lib.ListN.{length}
 use Rattle.esterel.specs.Limits.{max_nodes}
 use Rattle.esterel.specs.Statement.{loop, Stmt, one, size, nodes, loop_depth}
-use Rattle.esterel.specs.Table.{Verdict, passed, refused}
+use Rattle.esterel.specs.Table.{passed, refused}
 use Rattle.esterel.specs.Checks.{verdict}
 use Rattle.esterel.specs.Outcome.{statement_at}
 use Rattle.esterel.proofs.Refusals.{Told, told-numbered, one-program, one-refusal, passed-refused, other-number}

@@ -1,5 +1,7 @@
 // Show me the tick (F-2): after refusal 11, the answers with which the loop's body begins and ends in one instant. The cost is
 // linear in the nodes: 64 numbers for each, and a walk that comes to none twice, with a few sweeps over 64 numbers at each.
+#![tactic(auto)]
+
 ghost use Rattle.std.specs.Prelude.{◌≡◌, ◌≤◌, length};
 ghost use Rattle.starts.specs.Ticks.{tick_answers};
 ghost use Rattle.witness.specs.Shows.{Goal, Faulty, Showing};
