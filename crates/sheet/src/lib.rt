@@ -4,6 +4,8 @@
 //
 // No function asks that the places on a sheet lie in the text: it tests them, which spares every reader above a promise about
 // the sheet. What it does is promised for sheets that hold what they should (`Filled`).
+#![tactic(auto)]
+
 ghost use Rattle.std.specs.Prelude.{◌≡◌, List, ◌∷◌, ℕ, ◌+◌, ◌-◌, ◌*◌, ◌<◌, ◌≤◌, length};
 ghost use Rattle.esterel.specs.Limits.{signals as max_signals};
 ghost use Rattle.grammar.specs.Limits.{max_levels};
