@@ -1,6 +1,6 @@
 -- One law for each return.
 use Rattle.std.proofs.Common.{refl}
-use Rattle.tied.proofs.Narrows.{table-refused, sound, few, ties-lent, sets-lent, ties-refused, narrowed}
+use Rattle.tied.proofs.Narrows.{table-refused, sound, ties-lent, sets-lent, ties-refused, narrowed}
 use Rattle.tied.proofs.narrow.Goals as goal
 
 pub returns-in_default : goal.returns-in_default
