@@ -4,7 +4,6 @@ use Rattle.esterel.specs.Limits.{max_nodes}
 use Rattle.esterel.specs.Statement.{size, loop_depth}
 use Rattle.esterel.specs.Table.{Verdict, passed, refused, scan, check_length}
 use Rattle.esterel.specs.Checks.{check_program, Line, line, listing}
-use Rattle.table.specs.declared.Check
 use Rattle.table.specs.declared.Check.{Check}
 use Rattle.table.specs.Check.{answer_of as check_of}
 use Rattle.table.specs.Program.{program_of}

@@ -4,7 +4,6 @@ use Rattle.esterel.specs.Limits.{signals}
 use Rattle.esterel.specs.Statement.{size}
 use Rattle.esterel.specs.Table.{Verdict, passed, refused}
 use Rattle.table.specs.Columns.{onto}
-use Rattle.table.specs.declared.Check
 use Rattle.table.specs.declared.Check.{Check}
 use Rattle.analysis.specs.Analysis.{checked}
 use Rattle.tied.specs.Ties.{ties_of}

@@ -1,5 +1,7 @@
 // Start sets where some signals are known for certain (F-8): of each node, started alone at its place in the program. Two passes over
 // the nodes: from the last to the first, what is known of each node's own signal there; then from the first to the last, the sets.
+#![tactic(auto)]
+
 ghost use Rattle.std.specs.Prelude.{◌≡◌, cond, ◌&&◌, ◌<◌, ◌≤◌, leb, ltb, length, get_or, take};
 ghost use Rattle.esterel.specs.Limits.{signals};
 ghost use Rattle.esterel.specs.Statement.{size};

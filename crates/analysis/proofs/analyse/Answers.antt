@@ -1,7 +1,7 @@
 -- One law for each return. Once checks 1 to 11 have passed, the lent buffers have room.
-use Rattle.std.proofs.Common.{◌≡◌, ◌/◌, ◌∙◌, length, refl, sym, ap}
+use Rattle.std.proofs.Common.{◌∙◌, refl, sym, ap}
 use Rattle.analysis.specs.Analysis.{checked}
-use Rattle.analysis.proofs.Analyses.{table-refused, table-passed, refusing, refusal_is, Room, room_of, fillable, walkable, finishing}
+use Rattle.analysis.proofs.Analyses.{table-refused, table-passed, refusing, refusal_is, room_of, fillable, walkable, finishing}
 use Rattle.analysis.proofs.analyse.Goals as goal
 
 pub returns-in_default : goal.returns-in_default

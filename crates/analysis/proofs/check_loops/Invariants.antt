@@ -1,6 +1,5 @@
 -- Before node `i` the start sets of the unused statements are on the stack, and no loop before it has a body that may end at once.
 use Rattle.std.proofs.Common.{◌-◌, List, false}
-use Rattle.esterel.specs.Statement.{size}
 use Rattle.table.specs.Program.{program_of}
 use Rattle.table.proofs.Walk.{Waiting}
 use Rattle.analysis.proofs.Loops.{Searched}
