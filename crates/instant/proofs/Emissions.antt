@@ -1,5 +1,5 @@
 -- The emission bytes are the marks of the emitted signals on bytes that are all 0.
-use mathlib.Core.Path.{◌≡◌, refl, sym, ap, ap₂, ◌∙◌}
+use mathlib.Core.Path.{◌≡◌, refl, sym, ap, ap₂, ◌∙◌, subst}
 use mathlib.Core.Bool.{Bool, true, false, ◌||◌}
 use mathlib.Core.List.{List, [], ◌∷◌, ◌++◌, append-nil}
 use Prim.Native.Nat.{ℕ, zero, suc, ◌+◌, ◌<◌}
@@ -31,10 +31,12 @@ one-mark : (a : List ℕ) (k s n : ℕ) → set (emission_bytes a s n) k 1 ≡ e
 one-mark a k s zero = refl
 one-mark a zero s (suc n) =
     let z : s + 0 ≡ s = omega arith in
-    rw z (ap₂ (λ y l. bit (y || member s a) ∷ l) (sym (eq-eqb s s refl)) (sym (below s a (suc s) n (omega arith))))
+    subst (λ x. set (emission_bytes a s (suc n)) 0 1 ≡ emission_bytes (x ∷ a) s (suc n)) (sym z)
+    (ap₂ (λ y l. bit (y || member s a) ∷ l) (sym (eq-eqb s s refl)) (sym (below s a (suc s) n (omega arith))))
 one-mark a (suc k) s (suc n) =
     let z : s + suc k ≡ suc s + k = omega arith in
-    rw z (ap₂ (λ y l. bit (y || member s a) ∷ l) (sym (ne_eqb (suc s + k) s (λ e. omega arith))) (one-mark a k (suc s) n))
+    subst (λ x. set (emission_bytes a s (suc n)) (suc k) 1 ≡ emission_bytes (x ∷ a) s (suc n)) (sym z)
+    (ap₂ (λ y l. bit (y || member s a) ∷ l) (sym (ne_eqb (suc s + k) s (λ e. omega arith))) (one-mark a k (suc s) n))
 
 member_middle : (xs ys : List ℕ) (x s : ℕ) → member s (xs ++ (x ∷ ys)) ≡ member s (x ∷ (xs ++ ys))
 member_middle [] ys x s = refl

@@ -1,4 +1,6 @@
 // One instant of an accepted program: start and resume.
+#![tactic(auto)]
+
 mod admission;
 // public for crates/trial, which starts single statements by the same runner
 pub mod run;
@@ -13,7 +15,7 @@ use table::Check;
 
 // What a run of a statement answers: the code, the answers taken up to its end and its entries; or that an answer is
 // needed and none is left.
-#[derive(Drop)]
+#[derive(Clone, Copy)]
 pub enum Ran {
     Closed {
         code: usize,
