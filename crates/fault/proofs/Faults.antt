@@ -4,8 +4,6 @@ use mathlib.Core.List.{List, [], ◌∷◌}
 use Prim.Native.Nat.{ℕ, ◌≤◌}
 use native.Mathlib.Omega.{arith}
 use lib.ListN.{length}
-use types.Run.{OneOf, miss}
-use denote.Enum.Declared.{tag_of}
 use Rattle.grammar.specs.Limits.{max_source}
 use Rattle.grammar.specs.Tokens as G
 use Rattle.grammar.specs.Tokens.{tokens, byte_of}
@@ -15,11 +13,9 @@ use Rattle.grammar.proofs.Viability.{fault-stuck}
 use Rattle.scan.specs.Scanning.{rest, starts, opening_is, mark_is, token_is}
 use Rattle.scan.specs.declared.Token.{Token}
 use Rattle.scan.specs.declared.Token.TheVariants.{Opens, Marks, Names, Foreign, Stray, Finished}
-use Rattle.scan.specs.contracts.Token.{the_type as token-type}
 use Rattle.fault.specs.declared.Mode.{Mode}
 use Rattle.fault.specs.declared.Mode.TheVariants.{Statement, Stuck}
 use Rattle.fault.specs.declared.Walk.{Walk}
-use Rattle.fault.specs.contracts.Mode.{the_type as mode-type}
 use Rattle.fault.specs.Walking.{mode_of, Stepped, goes_to, goes-nowhere, StepsOn, OnWay, FaultTold}
 use Rattle.fault.proofs.Climbing.{climbs}
 use Rattle.fault.proofs.Reaching.{TokenAt, reached-first, reached-next, byte_next, byte_end}
@@ -28,11 +24,11 @@ use Rattle.fault.proofs.Reaching.{TokenAt, reached-first, reached-next, byte_nex
 pub foreign-number : {token : Token} → token ≡ Foreign → (v : List ℕ) (t : G.Token) (us : List G.Token) → token_is token v ≡ t ∷ [] → 20 ≡ number_of_fault (t ∷ us)
 foreign-number e v t us i = let j : token_is Foreign v ≡ t ∷ [] = rw e at i in let z : G.foreign ≡ t = cc in rw (← z)
 
-pub other-number : (token : Token) → OneOf (0 ∷ 1 ∷ 2 ∷ 4 ∷ 5 ∷ []) (tag_of token-type token) → (v : List ℕ) (t : G.Token) (us : List G.Token) → token_is token v ≡ t ∷ [] → 14 ≡ number_of_fault (t ∷ us)
+pub other-number : (token : Token) → (token ≡ Foreign → ⊥) → (v : List ℕ) (t : G.Token) (us : List G.Token) → token_is token v ≡ t ∷ [] → 14 ≡ number_of_fault (t ∷ us)
 other-number (Opens o) h v t us i = let z : G.opening (opening_is o) ≡ t = cc in rw (← z)
 other-number (Marks m) h v t us i = let z : G.mark (mark_is m) ≡ t = cc in rw (← z)
 other-number Names h v t us i = let z : G.name v ≡ t = cc in rw (← z)
-other-number Foreign h v t us i = absurd (miss (0 ∷ 1 ∷ 2 ∷ 4 ∷ 5 ∷ []) 3 tt h)
+other-number Foreign h v t us i = absurd (h refl)
 other-number Stray h v t us i = let z : G.stray ≡ t = cc in rw (← z)
 other-number Finished h v t us i = let z : ◌≡◌ {A = ℕ} 0 1 = cc in absurd (omega arith)
 
@@ -94,7 +90,7 @@ module _ {x w : List ℕ} {m : Mode} {h at start e : ℕ} {token : Token} {w' : 
           let y : us ≡ rest x at = c ∙ sym t.moves in
           (f _ t.is (rest x e) t.told ∙ ap number_of_fault (sym c), sym (byte_next x at start e o.reached t.begins) ∙ ap (byte_of x) (sym y))
 
-  pub way_goes : OneOf (0 ∷ 1 ∷ 2 ∷ 3 ∷ 4 ∷ 5 ∷ 6 ∷ []) (tag_of mode-type r.mode) → OnWay x w' r.mode r.height e
+  pub way_goes : (r.mode ≡ Stuck → ⊥) → OnWay x w' r.mode r.height e
   way_goes q = go (next o.state t.is) refl stepped
     where
       go : (n : Next) → next o.state t.is ≡ n → Stepped n w' r → OnWay x w' r.mode r.height e
@@ -107,4 +103,4 @@ module _ {x w : List ℕ} {m : Mode} {h at start e : ℕ} {token : Token} {w' : 
         within = t.to;
         reached = reached-next x at start e t.is o.reached t.moves t.begins;
       }
-      go no_way i (goes-nowhere k) = let z = rw k at q in absurd (miss (0 ∷ 1 ∷ 2 ∷ 3 ∷ 4 ∷ 5 ∷ 6 ∷ []) 7 tt z)
+      go no_way i (goes-nowhere k) = absurd (q k)

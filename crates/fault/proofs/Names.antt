@@ -7,8 +7,6 @@ use native.Mathlib.Omega.{arith}
 use lib.Dec.{eqb, ltb}
 use lib.ListN.{length, get_or}
 use borrow.Author.Tests.{le-ltb, ltb-true, ltb-false}
-use types.Run.{OneOf, miss}
-use denote.Enum.Declared.{tag_of}
 use Rattle.esterel.specs.Limits.{signals as max_signals}
 use Rattle.grammar.specs.Limits.{max_source, max_levels}
 use Rattle.grammar.specs.Tokens as G
@@ -30,9 +28,6 @@ use Rattle.scan.specs.declared.Opening.{Opening}
 use Rattle.scan.specs.declared.Opening.TheVariants as O
 use Rattle.scan.specs.declared.Mark.{Mark}
 use Rattle.scan.specs.declared.Mark.TheVariants as K
-use Rattle.scan.specs.contracts.Token.{the_type as token-type}
-use Rattle.scan.specs.contracts.Opening.{the_type as opening-type}
-use Rattle.scan.specs.contracts.Mark.{the_type as mark-type}
 use Rattle.sheet.specs.Sheet.{signal_count, untrapped_at, part, Part, Filled}
 use Rattle.sheet.proofs.Sheets.{empty-bounds, empty-part}
 use Rattle.fault.specs.declared.Wanted.{Wanted}
@@ -46,48 +41,48 @@ use Rattle.fault.proofs.Reaching.{TokenAt, reached-first, reached-next, byte_nex
 pub level-entered : (x : List ℕ) {w w' : List ℕ} (at : ℕ) → ((n : ℕ) (ts : List Word) (g : P.Progress) → Part x at at → length ts < max_levels → Filled x w n ts g → Filled x w' n (part x at at ∷ ts) g) → (ls : List Word) → at ≤ length x → length ls < max_levels → Levels x w ls → Levels x w' (added ∷ ls)
 level-entered x at f ls h i l = let q = f 0 ls (met []) (empty-bounds x at h) i l in rw (empty-part x at) at q
 
-pub not-closed : (o : Opening) → OneOf (0 ∷ 1 ∷ 2 ∷ 3 ∷ 5 ∷ 8 ∷ 9 ∷ 10 ∷ 11 ∷ 12 ∷ 14 ∷ []) (tag_of opening-type o) → (ls : List Word) → opened (opening_is o) ls ≡ ls
-not-closed O.Nothing h = λ ls. refl
-not-closed O.Pause h = λ ls. refl
-not-closed O.Emit h = λ ls. refl
-not-closed O.Exit h = λ ls. refl
-not-closed O.Signal h = absurd (miss (0 ∷ 1 ∷ 2 ∷ 3 ∷ 5 ∷ 8 ∷ 9 ∷ 10 ∷ 11 ∷ 12 ∷ 14 ∷ []) 4 tt h)
-not-closed O.Trap h = λ ls. refl
-not-closed O.Loop h = absurd (miss (0 ∷ 1 ∷ 2 ∷ 3 ∷ 5 ∷ 8 ∷ 9 ∷ 10 ∷ 11 ∷ 12 ∷ 14 ∷ []) 6 tt h)
-not-closed O.Present h = absurd (miss (0 ∷ 1 ∷ 2 ∷ 3 ∷ 5 ∷ 8 ∷ 9 ∷ 10 ∷ 11 ∷ 12 ∷ 14 ∷ []) 7 tt h)
-not-closed O.Suspend h = λ ls. refl
-not-closed O.Bracket h = λ ls. refl
-not-closed O.Halt h = λ ls. refl
-not-closed O.Sustain h = λ ls. refl
-not-closed O.Await h = λ ls. refl
-not-closed O.Abort h = absurd (miss (0 ∷ 1 ∷ 2 ∷ 3 ∷ 5 ∷ 8 ∷ 9 ∷ 10 ∷ 11 ∷ 12 ∷ 14 ∷ []) 13 tt h)
-not-closed O.Weak h = λ ls. refl
+pub not-closed : (o : Opening) → (o ≡ O.Signal → ⊥) → (o ≡ O.Loop → ⊥) → (o ≡ O.Present → ⊥) → (o ≡ O.Abort → ⊥) → (ls : List Word) → opened (opening_is o) ls ≡ ls
+not-closed O.Nothing h h1 h2 h3 = λ ls. refl
+not-closed O.Pause h h1 h2 h3 = λ ls. refl
+not-closed O.Emit h h1 h2 h3 = λ ls. refl
+not-closed O.Exit h h1 h2 h3 = λ ls. refl
+not-closed O.Signal h h1 h2 h3 = absurd (h refl)
+not-closed O.Trap h h1 h2 h3 = λ ls. refl
+not-closed O.Loop h h1 h2 h3 = absurd (h1 refl)
+not-closed O.Present h h1 h2 h3 = absurd (h2 refl)
+not-closed O.Suspend h h1 h2 h3 = λ ls. refl
+not-closed O.Bracket h h1 h2 h3 = λ ls. refl
+not-closed O.Halt h h1 h2 h3 = λ ls. refl
+not-closed O.Sustain h h1 h2 h3 = λ ls. refl
+not-closed O.Await h h1 h2 h3 = λ ls. refl
+not-closed O.Abort h h1 h2 h3 = absurd (h3 refl)
+not-closed O.Weak h h1 h2 h3 = λ ls. refl
 
-pub no_name_after : (o : Opening) → OneOf (0 ∷ 1 ∷ 2 ∷ 4 ∷ 6 ∷ 7 ∷ 8 ∷ 9 ∷ 10 ∷ 11 ∷ 12 ∷ 13 ∷ 14 ∷ []) (tag_of opening-type o) → no_name ≡ wants (opening_is o)
-no_name_after O.Nothing h = refl
-no_name_after O.Pause h = refl
-no_name_after O.Emit h = refl
-no_name_after O.Exit h = absurd (miss (0 ∷ 1 ∷ 2 ∷ 4 ∷ 6 ∷ 7 ∷ 8 ∷ 9 ∷ 10 ∷ 11 ∷ 12 ∷ 13 ∷ 14 ∷ []) 3 tt h)
-no_name_after O.Signal h = refl
-no_name_after O.Trap h = absurd (miss (0 ∷ 1 ∷ 2 ∷ 4 ∷ 6 ∷ 7 ∷ 8 ∷ 9 ∷ 10 ∷ 11 ∷ 12 ∷ 13 ∷ 14 ∷ []) 5 tt h)
-no_name_after O.Loop h = refl
-no_name_after O.Present h = refl
-no_name_after O.Suspend h = refl
-no_name_after O.Bracket h = refl
-no_name_after O.Halt h = refl
-no_name_after O.Sustain h = refl
-no_name_after O.Await h = refl
-no_name_after O.Abort h = refl
-no_name_after O.Weak h = refl
+pub no_name_after : (o : Opening) → (o ≡ O.Exit → ⊥) → (o ≡ O.Trap → ⊥) → no_name ≡ wants (opening_is o)
+no_name_after O.Nothing h h1 = refl
+no_name_after O.Pause h h1 = refl
+no_name_after O.Emit h h1 = refl
+no_name_after O.Exit h h1 = absurd (h refl)
+no_name_after O.Signal h h1 = refl
+no_name_after O.Trap h h1 = absurd (h1 refl)
+no_name_after O.Loop h h1 = refl
+no_name_after O.Present h h1 = refl
+no_name_after O.Suspend h h1 = refl
+no_name_after O.Bracket h h1 = refl
+no_name_after O.Halt h h1 = refl
+no_name_after O.Sustain h h1 = refl
+no_name_after O.Await h h1 = refl
+no_name_after O.Abort h h1 = refl
+no_name_after O.Weak h h1 = refl
 
-pub other-mark : (m : Mark) → OneOf (0 ∷ 1 ∷ 2 ∷ 3 ∷ 4 ∷ 5 ∷ 7 ∷ []) (tag_of mark-type m) → (ls : List Word) → closed (mark_is m) ls ≡ ls
+pub other-mark : (m : Mark) → (m ≡ K.End → ⊥) → (ls : List Word) → closed (mark_is m) ls ≡ ls
 other-mark K.Semicolon h ls = refl
 other-mark K.Bars h ls = refl
 other-mark K.Close h ls = refl
 other-mark K.In h ls = refl
 other-mark K.Then h ls = refl
 other-mark K.Else h ls = refl
-other-mark K.End h ls = absurd (miss (0 ∷ 1 ∷ 2 ∷ 3 ∷ 4 ∷ 5 ∷ 7 ∷ []) 6 tt h)
+other-mark K.End h ls = absurd (h refl)
 other-mark K.When h ls = refl
 
 pub end-closes : (x : List ℕ) {w w' : List ℕ} → ((n : ℕ) (t : Word) (ts : List Word) (g : P.Progress) → Filled x w n (t ∷ ts) g → Filled x w' n ts g) → (ls : List Word) → Closable G.end ls → Levels x w ls → Levels x w' (closed G.end ls)
@@ -137,13 +132,13 @@ module _ (x w' : List ℕ) (ls : List Word) (n : Word) where
   pub lost-name : has ls n ≡ false → PassedAs x an_exit (G.name n) w' ls Lost
   lost-name e = is_lost (λ us. rw e)
 
-pub other-passed : (x w : List ℕ) (want : Want) (ls : List Word) (token : Token) (v : List ℕ) (t : G.Token) → OneOf (3 ∷ 4 ∷ 5 ∷ []) (tag_of token-type token) → token_is token v ≡ t ∷ [] → Levels x w ls → PassedAs x want t w ls (On NoName)
-other-passed x w want ls (Opens o) v t h e l = absurd (miss (3 ∷ 4 ∷ 5 ∷ []) 0 tt h)
-other-passed x w want ls (Marks m) v t h e l = absurd (miss (3 ∷ 4 ∷ 5 ∷ []) 1 tt h)
-other-passed x w want ls Names v t h e l = absurd (miss (3 ∷ 4 ∷ 5 ∷ []) 2 tt h)
-other-passed x w want ls Foreign v t h e l = let z : G.foreign ≡ t = cc in rw (← z) (passed_on {wanted = NoName} record { levels = ls; kept = l; on = λ us. refl; room = λ us h. h.1 })
-other-passed x w want ls Stray v t h e l = let z : G.stray ≡ t = cc in rw (← z) (passed_on {wanted = NoName} record { levels = ls; kept = l; on = λ us. refl; room = λ us h. h.1 })
-other-passed x w want ls Finished v t h e l = let z : ◌≡◌ {A = ℕ} 0 1 = cc in absurd (omega arith)
+pub other-passed : (x w : List ℕ) (want : Want) (ls : List Word) (token : Token) (v : List ℕ) (t : G.Token) → ((a : Opening) → token ≡ Opens a → ⊥) → ((a : Mark) → token ≡ Marks a → ⊥) → (token ≡ Names → ⊥) → token_is token v ≡ t ∷ [] → Levels x w ls → PassedAs x want t w ls (On NoName)
+other-passed x w want ls (Opens o) v t h h1 h2 e l = absurd (h _ refl)
+other-passed x w want ls (Marks m) v t h h1 h2 e l = absurd (h1 _ refl)
+other-passed x w want ls Names v t h h1 h2 e l = absurd (h2 refl)
+other-passed x w want ls Foreign v t h h1 h2 e l = let z : G.foreign ≡ t = cc in rw (← z) (passed_on {wanted = NoName} record { levels = ls; kept = l; on = λ us. refl; room = λ us h. h.1 })
+other-passed x w want ls Stray v t h h1 h2 e l = let z : G.stray ≡ t = cc in rw (← z) (passed_on {wanted = NoName} record { levels = ls; kept = l; on = λ us. refl; room = λ us h. h.1 })
+other-passed x w want ls Finished v t h h1 h2 e l = let z : ◌≡◌ {A = ℕ} 0 1 = cc in absurd (omega arith)
 
 -- the room at a token
 pub room-here : (want : Want) (ls : List Word) (t : G.Token) (us : List G.Token) → Room want ls (t ∷ us) → length ls < max_levels
@@ -156,24 +151,24 @@ room-here want ls G.foreign us h = h.0
 room-here want ls G.stray us h = h.0
 
 -- signals
-pub no_signal_opens : (o : Opening) → OneOf (0 ∷ 1 ∷ 3 ∷ 5 ∷ 6 ∷ 8 ∷ 9 ∷ 10 ∷ 13 ∷ 14 ∷ []) (tag_of opening-type o) → false ≡ opens_signal (opening_is o)
-no_signal_opens O.Nothing h = refl
-no_signal_opens O.Pause h = refl
-no_signal_opens O.Emit h = absurd (miss (0 ∷ 1 ∷ 3 ∷ 5 ∷ 6 ∷ 8 ∷ 9 ∷ 10 ∷ 13 ∷ 14 ∷ []) 2 tt h)
-no_signal_opens O.Exit h = refl
-no_signal_opens O.Signal h = absurd (miss (0 ∷ 1 ∷ 3 ∷ 5 ∷ 6 ∷ 8 ∷ 9 ∷ 10 ∷ 13 ∷ 14 ∷ []) 4 tt h)
-no_signal_opens O.Trap h = refl
-no_signal_opens O.Loop h = refl
-no_signal_opens O.Present h = absurd (miss (0 ∷ 1 ∷ 3 ∷ 5 ∷ 6 ∷ 8 ∷ 9 ∷ 10 ∷ 13 ∷ 14 ∷ []) 7 tt h)
-no_signal_opens O.Suspend h = refl
-no_signal_opens O.Bracket h = refl
-no_signal_opens O.Halt h = refl
-no_signal_opens O.Sustain h = absurd (miss (0 ∷ 1 ∷ 3 ∷ 5 ∷ 6 ∷ 8 ∷ 9 ∷ 10 ∷ 13 ∷ 14 ∷ []) 11 tt h)
-no_signal_opens O.Await h = absurd (miss (0 ∷ 1 ∷ 3 ∷ 5 ∷ 6 ∷ 8 ∷ 9 ∷ 10 ∷ 13 ∷ 14 ∷ []) 12 tt h)
-no_signal_opens O.Abort h = refl
-no_signal_opens O.Weak h = refl
+pub no_signal_opens : (o : Opening) → (o ≡ O.Emit → ⊥) → (o ≡ O.Signal → ⊥) → (o ≡ O.Present → ⊥) → (o ≡ O.Sustain → ⊥) → (o ≡ O.Await → ⊥) → false ≡ opens_signal (opening_is o)
+no_signal_opens O.Nothing h h1 h2 h3 h4 = refl
+no_signal_opens O.Pause h h1 h2 h3 h4 = refl
+no_signal_opens O.Emit h h1 h2 h3 h4 = absurd (h refl)
+no_signal_opens O.Exit h h1 h2 h3 h4 = refl
+no_signal_opens O.Signal h h1 h2 h3 h4 = absurd (h1 refl)
+no_signal_opens O.Trap h h1 h2 h3 h4 = refl
+no_signal_opens O.Loop h h1 h2 h3 h4 = refl
+no_signal_opens O.Present h h1 h2 h3 h4 = absurd (h2 refl)
+no_signal_opens O.Suspend h h1 h2 h3 h4 = refl
+no_signal_opens O.Bracket h h1 h2 h3 h4 = refl
+no_signal_opens O.Halt h h1 h2 h3 h4 = refl
+no_signal_opens O.Sustain h h1 h2 h3 h4 = absurd (h3 refl)
+no_signal_opens O.Await h h1 h2 h3 h4 = absurd (h4 refl)
+no_signal_opens O.Abort h h1 h2 h3 h4 = refl
+no_signal_opens O.Weak h h1 h2 h3 h4 = refl
 
-pub no_signal_marks : (m : Mark) → OneOf (0 ∷ 1 ∷ 2 ∷ 3 ∷ 4 ∷ 5 ∷ 6 ∷ []) (tag_of mark-type m) → false ≡ marks_signal (mark_is m)
+pub no_signal_marks : (m : Mark) → (m ≡ K.When → ⊥) → false ≡ marks_signal (mark_is m)
 no_signal_marks K.Semicolon h = refl
 no_signal_marks K.Bars h = refl
 no_signal_marks K.Close h = refl
@@ -181,7 +176,7 @@ no_signal_marks K.In h = refl
 no_signal_marks K.Then h = refl
 no_signal_marks K.Else h = refl
 no_signal_marks K.End h = refl
-no_signal_marks K.When h = absurd (miss (0 ∷ 1 ∷ 2 ∷ 3 ∷ 4 ∷ 5 ∷ 6 ∷ []) 7 tt h)
+no_signal_marks K.When h = absurd (h refl)
 
 pub opens_before : {token : Token} (o : Opening) (r : Bool) → token ≡ Opens o → r ≡ opens_signal (opening_is o) → (v : List ℕ) (t : G.Token) → token_is token v ≡ t ∷ [] → r ≡ before_signal t
 opens_before o r e f v t i = let j : token_is (Opens o) v ≡ t ∷ [] = rw e at i in let z : G.opening (opening_is o) ≡ t = cc in rw (← z) f
@@ -189,13 +184,13 @@ opens_before o r e f v t i = let j : token_is (Opens o) v ≡ t ∷ [] = rw e at
 pub marks-before : {token : Token} (m : Mark) (r : Bool) → token ≡ Marks m → r ≡ marks_signal (mark_is m) → (v : List ℕ) (t : G.Token) → token_is token v ≡ t ∷ [] → r ≡ before_signal t
 marks-before m r e f v t i = let j : token_is (Marks m) v ≡ t ∷ [] = rw e at i in let z : G.mark (mark_is m) ≡ t = cc in rw (← z) f
 
-pub none_before : (token : Token) → OneOf (2 ∷ 3 ∷ 4 ∷ 5 ∷ []) (tag_of token-type token) → (v : List ℕ) (t : G.Token) → token_is token v ≡ t ∷ [] → false ≡ before_signal t
-none_before (Opens o) h v t i = absurd (miss (2 ∷ 3 ∷ 4 ∷ 5 ∷ []) 0 tt h)
-none_before (Marks m) h v t i = absurd (miss (2 ∷ 3 ∷ 4 ∷ 5 ∷ []) 1 tt h)
-none_before Names h v t i = let z : G.name v ≡ t = cc in rw (← z)
-none_before Foreign h v t i = let z : G.foreign ≡ t = cc in rw (← z)
-none_before Stray h v t i = let z : G.stray ≡ t = cc in rw (← z)
-none_before Finished h v t i = let z : ◌≡◌ {A = ℕ} 0 1 = cc in absurd (omega arith)
+pub none_before : (token : Token) → ((a : Opening) → token ≡ Opens a → ⊥) → ((a : Mark) → token ≡ Marks a → ⊥) → (v : List ℕ) (t : G.Token) → token_is token v ≡ t ∷ [] → false ≡ before_signal t
+none_before (Opens o) h h1 v t i = absurd (h _ refl)
+none_before (Marks m) h h1 v t i = absurd (h1 _ refl)
+none_before Names h h1 v t i = let z : G.name v ≡ t = cc in rw (← z)
+none_before Foreign h h1 v t i = let z : G.foreign ≡ t = cc in rw (← z)
+none_before Stray h h1 v t i = let z : G.stray ≡ t = cc in rw (← z)
+none_before Finished h h1 v t i = let z : ◌≡◌ {A = ℕ} 0 1 = cc in absurd (omega arith)
 
 -- the count of signals tells whether there are too many
 pub crowd_told : (x w' : List ℕ) (ns : List Word) (v : ℕ) (r : Bool) → v ≡ get_or w' signal_count 0 → r ≡ ltb 256 v → Filled x w' 0 [] (met ns) → r ≡ ltb max_signals (length ns)
@@ -221,10 +216,10 @@ no_signal x w ns b e t l = rw e (uncrowded record { signals = ns; kept = l; on =
     go G.foreign us = refl
     go G.stray us = refl
 
-pub no_name_there : (x w : List ℕ) (ns : List Word) (b : Bool) (token : Token) → OneOf (0 ∷ 1 ∷ 3 ∷ 4 ∷ 5 ∷ []) (tag_of token-type token) → (v : List ℕ) (t : G.Token) → token_is token v ≡ t ∷ [] → Filled x w 0 [] (met ns) → CrowdedAs x ns b t w false
+pub no_name_there : (x w : List ℕ) (ns : List Word) (b : Bool) (token : Token) → (token ≡ Names → ⊥) → (v : List ℕ) (t : G.Token) → token_is token v ≡ t ∷ [] → Filled x w 0 [] (met ns) → CrowdedAs x ns b t w false
 no_name_there x w ns b (Opens o) h v t i l = let z : G.opening (opening_is o) ≡ t = cc in rw (← z) (uncrowded record { signals = ns; kept = l; on = λ us. refl })
 no_name_there x w ns b (Marks m) h v t i l = let z : G.mark (mark_is m) ≡ t = cc in rw (← z) (uncrowded record { signals = ns; kept = l; on = λ us. refl })
-no_name_there x w ns b Names h v t i l = absurd (miss (0 ∷ 1 ∷ 3 ∷ 4 ∷ 5 ∷ []) 2 tt h)
+no_name_there x w ns b Names h v t i l = absurd (h refl)
 no_name_there x w ns b Foreign h v t i l = let z : G.foreign ≡ t = cc in rw (← z) (uncrowded record { signals = ns; kept = l; on = λ us. refl })
 no_name_there x w ns b Stray h v t i l = let z : G.stray ≡ t = cc in rw (← z) (uncrowded record { signals = ns; kept = l; on = λ us. refl })
 no_name_there x w ns b Finished h v t i l = let z : ◌≡◌ {A = ℕ} 0 1 = cc in absurd (omega arith)

@@ -4,14 +4,11 @@ use mathlib.Core.List.{List, [], ◌∷◌, ◌++◌, append_assoc, append-nil}
 use Prim.Native.Nat.{ℕ, suc, ◌-◌, ◌≤◌, ◌<◌}
 use native.Mathlib.Omega.{arith}
 use lib.ListN.{length, get_or, length-append}
-use types.Run.{OneOf, miss}
-use denote.Enum.Declared.{tag_of}
 use Rattle.grammar.specs.Tokens as G
 use Rattle.grammar.specs.Tokens.{tokens, beginnings, byte_of}
 use Rattle.scan.specs.Scanning.{rest, starts, token_is, ScannedAs, BeginsAs}
 use Rattle.scan.specs.declared.Token.{Token}
 use Rattle.scan.specs.declared.Token.TheVariants.{Opens, Marks, Names, Foreign, Stray, Finished}
-use Rattle.scan.specs.contracts.Token.{the_type as token-type}
 use Rattle.sheet.specs.Sheet.{part, Part}
 use Rattle.fault.specs.Walking.{Reached}
 
@@ -25,13 +22,13 @@ pub record TokenAt (x : List ℕ) (at start e : ℕ) (token : Token) : Type 0 wh
   pub begins : starts x at ≡ start ∷ starts x e
   pub bounds : token ≡ Names → Part x start e
 
-pub token-at : (x : List ℕ) (at s e : ℕ) (t : Token) → OneOf (0 ∷ 1 ∷ 2 ∷ 3 ∷ 4 ∷ []) (tag_of token-type t) → ScannedAs x at s e t → BeginsAs x at s e t → TokenAt x at s e t
+pub token-at : (x : List ℕ) (at s e : ℕ) (t : Token) → (t ≡ Finished → ⊥) → ScannedAs x at s e t → BeginsAs x at s e t → TokenAt x at s e t
 token-at x at s e (Opens o) h l b = record { is = _; told = refl; from = l.from; to = l.to; moves = l.moves; begins = b; bounds = λ z. let y : ◌≡◌ {A = ℕ} 0 1 = cc in absurd (omega arith) }
 token-at x at s e (Marks m) h l b = record { is = _; told = refl; from = l.from; to = l.to; moves = l.moves; begins = b; bounds = λ z. let y : ◌≡◌ {A = ℕ} 0 1 = cc in absurd (omega arith) }
 token-at x at s e Names h l b = record { is = _; told = refl; from = l.lexed.from; to = l.lexed.to; moves = l.lexed.moves; begins = b; bounds = λ z. record { order = l.ordered; within = l.lexed.to } }
 token-at x at s e Foreign h l b = record { is = _; told = refl; from = l.from; to = l.to; moves = l.moves; begins = b; bounds = λ z. let y : ◌≡◌ {A = ℕ} 0 1 = cc in absurd (omega arith) }
 token-at x at s e Stray h l b = record { is = _; told = refl; from = l.from; to = l.to; moves = l.moves; begins = b; bounds = λ z. let y : ◌≡◌ {A = ℕ} 0 1 = cc in absurd (omega arith) }
-token-at x at s e Finished h l b = absurd (miss (0 ∷ 1 ∷ 2 ∷ 3 ∷ 4 ∷ []) 5 tt h)
+token-at x at s e Finished h l b = absurd (h refl)
 
 -- at the front of the text, after a token
 pub reached-first : (x : List ℕ) → Reached x 0

@@ -1,12 +1,10 @@
 -- One law for each token: from a state of the machine as the code keeps it to the next one.
-use mathlib.Core.Path.{◌≡◌, refl, ◌∙◌}
+use mathlib.Core.Path.{◌≡◌, refl, sym, ap, subst, ◌∙◌}
 use mathlib.Core.List.{List, [], ◌∷◌}
 use Prim.Native.Nat.{ℕ, zero, suc, ◌-◌, ◌≤◌, ◌<◌}
 use native.Mathlib.Omega.{arith}
 use lib.ListN.{length, get_or, set, length-set}
 use lib.Seq.{get_or-set_same, get_or-set_other}
-use types.Run.{OneOf, miss}
-use denote.Enum.Declared.{tag_of}
 use Rattle.grammar.specs.Limits.{max_source}
 use Rattle.grammar.specs.Tokens as G
 use Rattle.grammar.specs.Tree as T
@@ -20,15 +18,11 @@ use Rattle.scan.specs.declared.Opening.{Opening}
 use Rattle.scan.specs.declared.Opening.TheVariants as O
 use Rattle.scan.specs.declared.Mark.{Mark}
 use Rattle.scan.specs.declared.Mark.TheVariants as K
-use Rattle.scan.specs.contracts.Token.{the_type as token-type}
-use Rattle.scan.specs.contracts.Opening.{the_type as opening-type}
-use Rattle.scan.specs.contracts.Mark.{the_type as mark-type}
 use Rattle.fault.specs.declared.Named.{Named}
 use Rattle.fault.specs.declared.Named.TheVariants.{Leaf, Body, Present, Abort as AbortName}
 use Rattle.fault.specs.declared.Mode.{Mode}
 use Rattle.fault.specs.declared.Mode.TheVariants.{Statement, More, Name, In, Branch, End, Abort, Stuck}
 use Rattle.fault.specs.declared.Walk.{Walk}
-use Rattle.fault.specs.contracts.Mode.{the_type as mode-type}
 use Rattle.fault.specs.Walking.{frame_byte, top_byte, Stacked, mode_of, open_of, Kept, Pushed, Stepped, goes_to, goes-nowhere, Steps, StepsOn}
 
 -- the innermost statement
@@ -63,7 +57,7 @@ module _ {w w' : List ℕ} {h : ℕ} {r : Walk} where
   enters f b k i s e p = record {
     mode = p.mode;
     height = p.height ∙ omega arith;
-    stack = rw (p.stack, e) (opened w f b k (omega arith) s);
+    stack = subst (λ l. Stacked l (within f b k)) (sym (p.stack ∙ ap (λ n. set w n (frame_byte f)) e)) (opened w f b k (omega arith) s);
   }
 
   -- the innermost statement becomes another
@@ -71,7 +65,7 @@ module _ {w w' : List ℕ} {h : ℕ} {r : Walk} where
   changes f g b k i s e p = let z : h - 1 ≡ opens k = omega arith in record {
     mode = p.mode;
     height = p.height ∙ omega arith;
-    stack = rw (p.stack, z) (opened w g b k (omega arith) s.1);
+    stack = subst (λ l. Stacked l (within g b k)) (sym (p.stack ∙ ap (λ n. set w n (frame_byte g)) z)) (opened w g b k (omega arith) s.1);
   }
 
 -- the same statements stay open, or one is closed
@@ -194,47 +188,47 @@ module _ (p : Tree) where
   when_stuck (within (aborted m) b k) t u q = absurd (u refl)
 
 -- no way on, by the marks and words that have one
-pub in_stuck : {w : List ℕ} {r : Walk} (m : Mark) → OneOf (0 ∷ 1 ∷ 2 ∷ 4 ∷ 5 ∷ 6 ∷ 7 ∷ []) (tag_of mark-type m) → (u : T.Unary) (b : Before) (k : Open) → r.mode ≡ Stuck → Stepped (at_in (mark_is m) u b k) w r
+pub in_stuck : {w : List ℕ} {r : Walk} (m : Mark) → (m ≡ K.In → ⊥) → (u : T.Unary) (b : Before) (k : Open) → r.mode ≡ Stuck → Stepped (at_in (mark_is m) u b k) w r
 in_stuck K.Semicolon h u b k q = goes-nowhere q
 in_stuck K.Bars h u b k q = goes-nowhere q
 in_stuck K.Close h u b k q = goes-nowhere q
-in_stuck K.In h u b k q = absurd (miss (0 ∷ 1 ∷ 2 ∷ 4 ∷ 5 ∷ 6 ∷ 7 ∷ []) 3 tt h)
+in_stuck K.In h u b k q = absurd (h refl)
 in_stuck K.Then h u b k q = goes-nowhere q
 in_stuck K.Else h u b k q = goes-nowhere q
 in_stuck K.End h u b k q = goes-nowhere q
 in_stuck K.When h u b k q = goes-nowhere q
 
-pub branch_stuck : {w : List ℕ} {r : Walk} (m : Mark) → OneOf (0 ∷ 1 ∷ 2 ∷ 3 ∷ 6 ∷ 7 ∷ []) (tag_of mark-type m) → (n : Word) (b : Before) (k : Open) → r.mode ≡ Stuck → Stepped (at_branch (mark_is m) n b k) w r
-branch_stuck K.Semicolon h n b k q = goes-nowhere q
-branch_stuck K.Bars h n b k q = goes-nowhere q
-branch_stuck K.Close h n b k q = goes-nowhere q
-branch_stuck K.In h n b k q = goes-nowhere q
-branch_stuck K.Then h n b k q = absurd (miss (0 ∷ 1 ∷ 2 ∷ 3 ∷ 6 ∷ 7 ∷ []) 4 tt h)
-branch_stuck K.Else h n b k q = absurd (miss (0 ∷ 1 ∷ 2 ∷ 3 ∷ 6 ∷ 7 ∷ []) 5 tt h)
-branch_stuck K.End h n b k q = goes-nowhere q
-branch_stuck K.When h n b k q = goes-nowhere q
+pub branch_stuck : {w : List ℕ} {r : Walk} (m : Mark) → (m ≡ K.Then → ⊥) → (m ≡ K.Else → ⊥) → (n : Word) (b : Before) (k : Open) → r.mode ≡ Stuck → Stepped (at_branch (mark_is m) n b k) w r
+branch_stuck K.Semicolon h h1 n b k q = goes-nowhere q
+branch_stuck K.Bars h h1 n b k q = goes-nowhere q
+branch_stuck K.Close h h1 n b k q = goes-nowhere q
+branch_stuck K.In h h1 n b k q = goes-nowhere q
+branch_stuck K.Then h h1 n b k q = absurd (h refl)
+branch_stuck K.Else h h1 n b k q = absurd (h1 refl)
+branch_stuck K.End h h1 n b k q = goes-nowhere q
+branch_stuck K.When h h1 n b k q = goes-nowhere q
 
-pub abort-end-stuck : {w : List ℕ} {r : Walk} (m : Mark) → OneOf (0 ∷ 1 ∷ 2 ∷ 3 ∷ 4 ∷ 5 ∷ 7 ∷ []) (tag_of mark-type m) → (p : Tree) (b : Before) (k : Open) → r.mode ≡ Stuck → Stepped (at_abort_end (mark_is m) p b k) w r
+pub abort-end-stuck : {w : List ℕ} {r : Walk} (m : Mark) → (m ≡ K.End → ⊥) → (p : Tree) (b : Before) (k : Open) → r.mode ≡ Stuck → Stepped (at_abort_end (mark_is m) p b k) w r
 abort-end-stuck K.Semicolon h p b k q = goes-nowhere q
 abort-end-stuck K.Bars h p b k q = goes-nowhere q
 abort-end-stuck K.Close h p b k q = goes-nowhere q
 abort-end-stuck K.In h p b k q = goes-nowhere q
 abort-end-stuck K.Then h p b k q = goes-nowhere q
 abort-end-stuck K.Else h p b k q = goes-nowhere q
-abort-end-stuck K.End h p b k q = absurd (miss (0 ∷ 1 ∷ 2 ∷ 3 ∷ 4 ∷ 5 ∷ 7 ∷ []) 6 tt h)
+abort-end-stuck K.End h p b k q = absurd (h refl)
 abort-end-stuck K.When h p b k q = goes-nowhere q
 
-pub sequence-stuck : {w : List ℕ} {r : Walk} (m : Mark) → OneOf (3 ∷ 4 ∷ []) (tag_of mark-type m) → (p : Tree) (k : Open) → r.mode ≡ Stuck → Stepped (go_on (mark_is m) p k) w r
-sequence-stuck K.Semicolon h p k q = absurd (miss (3 ∷ 4 ∷ []) 0 tt h)
-sequence-stuck K.Bars h p k q = absurd (miss (3 ∷ 4 ∷ []) 1 tt h)
-sequence-stuck K.Close h p k q = absurd (miss (3 ∷ 4 ∷ []) 2 tt h)
-sequence-stuck K.In h p k q = goes-nowhere q
-sequence-stuck K.Then h p k q = goes-nowhere q
-sequence-stuck K.Else h p k q = absurd (miss (3 ∷ 4 ∷ []) 5 tt h)
-sequence-stuck K.End h p k q = absurd (miss (3 ∷ 4 ∷ []) 6 tt h)
-sequence-stuck K.When h p k q = absurd (miss (3 ∷ 4 ∷ []) 7 tt h)
+pub sequence-stuck : {w : List ℕ} {r : Walk} (m : Mark) → (m ≡ K.Semicolon → ⊥) → (m ≡ K.Bars → ⊥) → (m ≡ K.Close → ⊥) → (m ≡ K.Else → ⊥) → (m ≡ K.End → ⊥) → (m ≡ K.When → ⊥) → (p : Tree) (k : Open) → r.mode ≡ Stuck → Stepped (go_on (mark_is m) p k) w r
+sequence-stuck K.Semicolon h h1 h2 h3 h4 h5 p k q = absurd (h refl)
+sequence-stuck K.Bars h h1 h2 h3 h4 h5 p k q = absurd (h1 refl)
+sequence-stuck K.Close h h1 h2 h3 h4 h5 p k q = absurd (h2 refl)
+sequence-stuck K.In h h1 h2 h3 h4 h5 p k q = goes-nowhere q
+sequence-stuck K.Then h h1 h2 h3 h4 h5 p k q = goes-nowhere q
+sequence-stuck K.Else h h1 h2 h3 h4 h5 p k q = absurd (h3 refl)
+sequence-stuck K.End h h1 h2 h3 h4 h5 p k q = absurd (h4 refl)
+sequence-stuck K.When h h1 h2 h3 h4 h5 p k q = absurd (h5 refl)
 
-pub weak_stuck : {w : List ℕ} {r : Walk} (o : Opening) → OneOf (0 ∷ 1 ∷ 2 ∷ 3 ∷ 4 ∷ 5 ∷ 6 ∷ 7 ∷ 8 ∷ 9 ∷ 10 ∷ 11 ∷ 12 ∷ 14 ∷ []) (tag_of opening-type o) → (b : Before) (k : Open) → r.mode ≡ Stuck → Stepped (at_abort (opening_is o) b k) w r
+pub weak_stuck : {w : List ℕ} {r : Walk} (o : Opening) → (o ≡ O.Abort → ⊥) → (b : Before) (k : Open) → r.mode ≡ Stuck → Stepped (at_abort (opening_is o) b k) w r
 weak_stuck O.Nothing h b k q = goes-nowhere q
 weak_stuck O.Pause h b k q = goes-nowhere q
 weak_stuck O.Emit h b k q = goes-nowhere q
@@ -248,7 +242,7 @@ weak_stuck O.Bracket h b k q = goes-nowhere q
 weak_stuck O.Halt h b k q = goes-nowhere q
 weak_stuck O.Sustain h b k q = goes-nowhere q
 weak_stuck O.Await h b k q = goes-nowhere q
-weak_stuck O.Abort h b k q = absurd (miss (0 ∷ 1 ∷ 2 ∷ 3 ∷ 4 ∷ 5 ∷ 6 ∷ 7 ∷ 8 ∷ 9 ∷ 10 ∷ 11 ∷ 12 ∷ 14 ∷ []) 13 tt h)
+weak_stuck O.Abort h b k q = absurd (h refl)
 weak_stuck O.Weak h b k q = goes-nowhere q
 
 -- by what may come next: the states of a mode
@@ -306,28 +300,28 @@ at-abort-end t e f (want_branch n b k) c = let g = c.mode in let z : ◌≡◌ {
 at-abort-end t e f (want_end p b k) c = f p b k c.stack c.height
 at-abort-end t e f (want_abort b k) c = let g = c.mode in let z : ◌≡◌ {A = ℕ} 0 1 = cc in absurd (omega arith)
 
-pub opening-stuck : {w w' : List ℕ} (m : Mode) {h : ℕ} {r : Walk} (x : Opening) → OneOf (1 ∷ 2 ∷ 3 ∷ 4 ∷ 5 ∷ 7 ∷ []) (tag_of mode-type m) → r.mode ≡ Stuck → Steps w m h (G.opening (opening_is x)) w' r
-opening-stuck m x o q (expect b k) c = let z = rw c.mode at o in absurd (miss (1 ∷ 2 ∷ 3 ∷ 4 ∷ 5 ∷ 7 ∷ []) 0 tt z)
-opening-stuck m x o q (have p k) c = goes-nowhere q
-opening-stuck m x o q (want_name v b k) c = goes-nowhere q
-opening-stuck m x o q (want_in u b k) c = goes-nowhere q
-opening-stuck m x o q (want_branch n b k) c = goes-nowhere q
-opening-stuck m x o q (want_end p b k) c = goes-nowhere q
-opening-stuck m x o q (want_abort b k) c = let z = rw c.mode at o in absurd (miss (1 ∷ 2 ∷ 3 ∷ 4 ∷ 5 ∷ 7 ∷ []) 6 tt z)
+pub opening-stuck : {w w' : List ℕ} (m : Mode) {h : ℕ} {r : Walk} (x : Opening) → (m ≡ Statement → ⊥) → (m ≡ Abort → ⊥) → r.mode ≡ Stuck → Steps w m h (G.opening (opening_is x)) w' r
+opening-stuck m x o o1 q (expect b k) c = absurd (o c.mode)
+opening-stuck m x o o1 q (have p k) c = goes-nowhere q
+opening-stuck m x o o1 q (want_name v b k) c = goes-nowhere q
+opening-stuck m x o o1 q (want_in u b k) c = goes-nowhere q
+opening-stuck m x o o1 q (want_branch n b k) c = goes-nowhere q
+opening-stuck m x o o1 q (want_end p b k) c = goes-nowhere q
+opening-stuck m x o o1 q (want_abort b k) c = absurd (o1 c.mode)
 
-pub mark-stuck : {w w' : List ℕ} (m : Mode) {h : ℕ} {r : Walk} (t : Mark) → OneOf (0 ∷ 2 ∷ 6 ∷ 7 ∷ []) (tag_of mode-type m) → r.mode ≡ Stuck → Steps w m h (G.mark (mark_is t)) w' r
-mark-stuck m t o q (expect b k) c = goes-nowhere q
-mark-stuck m t o q (have p k) c = let z = rw c.mode at o in absurd (miss (0 ∷ 2 ∷ 6 ∷ 7 ∷ []) 1 tt z)
-mark-stuck m t o q (want_name v b k) c = goes-nowhere q
-mark-stuck m t o q (want_in u b k) c = let z = rw c.mode at o in absurd (miss (0 ∷ 2 ∷ 6 ∷ 7 ∷ []) 3 tt z)
-mark-stuck m t o q (want_branch n b k) c = let z = rw c.mode at o in absurd (miss (0 ∷ 2 ∷ 6 ∷ 7 ∷ []) 4 tt z)
-mark-stuck m t o q (want_end p b k) c = let z = rw c.mode at o in absurd (miss (0 ∷ 2 ∷ 6 ∷ 7 ∷ []) 5 tt z)
-mark-stuck m t o q (want_abort b k) c = goes-nowhere q
+pub mark-stuck : {w w' : List ℕ} (m : Mode) {h : ℕ} {r : Walk} (t : Mark) → (m ≡ More → ⊥) → (m ≡ In → ⊥) → (m ≡ Branch → ⊥) → (m ≡ End → ⊥) → r.mode ≡ Stuck → Steps w m h (G.mark (mark_is t)) w' r
+mark-stuck m t o o1 o2 o3 q (expect b k) c = goes-nowhere q
+mark-stuck m t o o1 o2 o3 q (have p k) c = absurd (o c.mode)
+mark-stuck m t o o1 o2 o3 q (want_name v b k) c = goes-nowhere q
+mark-stuck m t o o1 o2 o3 q (want_in u b k) c = absurd (o1 c.mode)
+mark-stuck m t o o1 o2 o3 q (want_branch n b k) c = absurd (o2 c.mode)
+mark-stuck m t o o1 o2 o3 q (want_end p b k) c = absurd (o3 c.mode)
+mark-stuck m t o o1 o2 o3 q (want_abort b k) c = goes-nowhere q
 
-pub name-stuck : (w : List ℕ) (n : Word) (m : Mode) {h : ℕ} {r : Walk} → OneOf (0 ∷ 1 ∷ 3 ∷ 4 ∷ 5 ∷ 6 ∷ 7 ∷ []) (tag_of mode-type m) → r.mode ≡ Stuck → Steps w m h (G.name n) w r
+pub name-stuck : (w : List ℕ) (n : Word) (m : Mode) {h : ℕ} {r : Walk} → ((a : Named) → m ≡ Name a → ⊥) → r.mode ≡ Stuck → Steps w m h (G.name n) w r
 name-stuck w n m o q (expect b k) c = goes-nowhere q
 name-stuck w n m o q (have p k) c = goes-nowhere q
-name-stuck w n m o q (want_name v b k) c = let z = rw c.mode at o in absurd (miss (0 ∷ 1 ∷ 3 ∷ 4 ∷ 5 ∷ 6 ∷ 7 ∷ []) 2 tt z)
+name-stuck w n m o q (want_name v b k) c = absurd (o _ c.mode)
 name-stuck w n m o q (want_in u b k) c = goes-nowhere q
 name-stuck w n m o q (want_branch x b k) c = goes-nowhere q
 name-stuck w n m o q (want_end p b k) c = goes-nowhere q
@@ -432,10 +426,10 @@ other (want_end p b k) t is-stray q = goes-nowhere q
 other (want_abort b k) t is-foreign q = goes-nowhere q
 other (want_abort b k) t is-stray q = goes-nowhere q
 
-pub on-other : {w : List ℕ} {m : Mode} {h : ℕ} {r : Walk} (x : Token) → OneOf (3 ∷ 4 ∷ 5 ∷ []) (tag_of token-type x) → r.mode ≡ Stuck → StepsOn w m h x w r
-on-other (Opens a) o q v t i s c = absurd (miss (3 ∷ 4 ∷ 5 ∷ []) 0 tt o)
-on-other (Marks a) o q v t i s c = absurd (miss (3 ∷ 4 ∷ 5 ∷ []) 1 tt o)
-on-other Names o q v t i s c = absurd (miss (3 ∷ 4 ∷ 5 ∷ []) 2 tt o)
-on-other Foreign o q v t i s c = let z : G.foreign ≡ t = cc in rw (← z) (other s G.foreign is-foreign q)
-on-other Stray o q v t i s c = let z : G.stray ≡ t = cc in rw (← z) (other s G.stray is-stray q)
-on-other Finished o q v t i s c = let z : ◌≡◌ {A = ℕ} 0 1 = cc in absurd (omega arith)
+pub on-other : {w : List ℕ} {m : Mode} {h : ℕ} {r : Walk} (x : Token) → ((a : Opening) → x ≡ Opens a → ⊥) → ((a : Mark) → x ≡ Marks a → ⊥) → (x ≡ Names → ⊥) → r.mode ≡ Stuck → StepsOn w m h x w r
+on-other (Opens a) o o1 o2 q v t i s c = absurd (o _ refl)
+on-other (Marks a) o o1 o2 q v t i s c = absurd (o1 _ refl)
+on-other Names o o1 o2 q v t i s c = absurd (o2 refl)
+on-other Foreign o o1 o2 q v t i s c = let z : G.foreign ≡ t = cc in rw (← z) (other s G.foreign is-foreign q)
+on-other Stray o o1 o2 q v t i s c = let z : G.stray ≡ t = cc in rw (← z) (other s G.stray is-stray q)
+on-other Finished o o1 o2 q v t i s c = let z : ◌≡◌ {A = ℕ} 0 1 = cc in absurd (omega arith)

@@ -1,6 +1,8 @@
 // Where a text that is refused is at fault: at the first word, sign or other byte with which it can't go on, at the name of an
 // exit without its trap, or at the name with which its signals are too many. Each search goes over the tokens once and does
 // not recurse: a text that is outside the grammar may be nested deeper than the readers (crates/reader) go.
+#![tactic(auto)]
+
 ghost use Rattle.std.specs.Prelude.{◌≡◌, List, [], ◌∷◌, ℕ, ◌<◌, ◌≤◌, false, not, cond, ltb, length};
 ghost use Rattle.grammar.specs.Limits.{max_source, max_levels};
 ghost use Rattle.grammar.specs.Tokens as G;
@@ -390,7 +392,7 @@ fn enter_level(levels: &mut [u16; sheet::ROOM], at: usize)
 
 // Whether `end` closes what a word opens, and it is no trap, whose name comes first.
 fn is_closed_by_end(opening: Opening) -> bool
-    ensures { (ls : List Name) → opened (opening_is opening) ls ≡ cond «r» (added ∷ ls) ls }
+    ensures { (ls : List Name) → opened (opening_is opening) ls ≡ cond result (added ∷ ls) ls }
 {
     match opening {
         Opening::Signal => true,

@@ -7,7 +7,7 @@ ghost use Rattle.grammar.specs.Tokens as G;
 ghost use Rattle.scan.specs.Scanning.{mark_is, token_is, rest, Skipped, Worded, ScannedAs, BeginsAs, number_of, PastMark, CalledAs, none};
 
 // The words and the sign that a statement begins with.
-#[derive(Drop)]
+#[derive(Clone, Copy)]
 pub enum Opening {
     Nothing,
     Pause,
@@ -27,7 +27,7 @@ pub enum Opening {
 }
 
 // The words and signs that stand within a statement or between two.
-#[derive(Drop)]
+#[derive(Clone, Copy)]
 pub enum Mark {
     Semicolon,
     Bars,
@@ -41,7 +41,7 @@ pub enum Mark {
 
 // A token: by what it opens or marks, a name, a word of the full language or a count, a stray word or byte, or that the text is
 // over.
-#[derive(Drop)]
+#[derive(Clone, Copy)]
 pub enum Token {
     Opens(Opening),
     Marks(Mark),
