@@ -1,5 +1,7 @@
 // The line of a tick, written into a lent text: the loop's node and 0 or 1 for each answer; without refusal 11 the first line of
 // the listing.
+#![tactic(auto)]
+
 ghost use Rattle.std.specs.Prelude.{◌≡◌, ◌+◌, ◌≤◌, length};
 ghost use Rattle.listing.specs.Written.{Written};
 ghost use Rattle.tickline.specs.Line.{tick_text};
