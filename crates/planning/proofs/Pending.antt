@@ -97,6 +97,12 @@ no_rows =
       on = none;
     }
 
+-- before node i: the statements that wait, and their rows
+pub record Pending (t stack : List ℕ) (unused i : ℕ) : Type 0 where
+  pub us : List Waiting
+  pub before : Before (program_of t) us unused i
+  pub rows : Rows us stack
+
 -- a turn at node i, with the kind k, the field f and the number c of children that the code has read
 module _ {t : List ℕ} (ok : Placed t) {us : List Waiting} {unused i : ℕ} (o : Before (program_of t) us unused i) (inside : i < size (program_of t)) {k : Kind} {f c : ℕ} (ek : k ≡ kind_of (get_or t (2 * i) 0)) (ef : f ≡ get_or t (2 * i + 1) 0) (ec : c ≡ arity_of k) {stack : List ℕ} (rows : Rows us stack) where
   abbrev w : Waiting
