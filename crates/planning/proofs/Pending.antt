@@ -7,8 +7,7 @@ use native.Mathlib.Omega.{arith}
 use lib.ListN.{length, get_or, replicate, get_or-replicate}
 use Rattle.codes.specs.Codes.{Codes}
 use Rattle.esterel.specs.Limits.{max_nodes, max_depth}
-use Rattle.esterel.specs.Statement.{Stmt, leaf, one, two, kind, field, size, nodes}
-use Rattle.esterel.specs.Outcome.{statement_at}
+use Rattle.esterel.specs.Statement.{Stmt, leaf, one, two, kind, field, size}
 use Rattle.table.specs.Kinds.{kind_of, arity_of, leaf_of, leaf_code}
 use Rattle.table.specs.Program.{program_of}
 use Rattle.table.specs.Columns.{stmt_at}

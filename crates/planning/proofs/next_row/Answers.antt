@@ -1,5 +1,5 @@
 -- A leaf's own row, or the row from those of the children.
-use Rattle.std.proofs.Common.{sym, ◌∙◌, arith}
+use Rattle.std.proofs.Common.{sym, ◌∙◌}
 use Rattle.planning.specs.Rows.{NextRow}
 use Rattle.planning.proofs.Pending.{loaded_low}
 use Rattle.planning.proofs.next_row.Goals as goal
