@@ -7,8 +7,7 @@ use native.Mathlib.Omega.{arith}
 use lib.ListN.{length, get_or, replicate, get_or-replicate}
 use Rattle.codes.specs.Codes.{Codes}
 use Rattle.esterel.specs.Limits.{max_nodes, max_depth}
-use Rattle.esterel.specs.Statement.{Stmt, leaf, one, two, kind, field, size, nodes}
-use Rattle.esterel.specs.Outcome.{statement_at}
+use Rattle.esterel.specs.Statement.{Stmt, leaf, one, two, kind, field, size}
 use Rattle.table.specs.Kinds.{kind_of, arity_of, leaf_of, leaf_code}
 use Rattle.table.specs.Program.{program_of}
 use Rattle.table.specs.Columns.{stmt_at}
@@ -96,6 +95,12 @@ no_rows =
       low = list-low (64 * (max_depth + 1)) max_number refl (λ k l. omega (arith, get_or-replicate {A = ℕ} (64 * (max_depth + 1)) k 0 0 l));
       on = none;
     }
+
+-- before node i: the statements that wait, and their rows
+pub record Pending (t stack : List ℕ) (unused i : ℕ) : Type 0 where
+  pub us : List Waiting
+  pub before : Before (program_of t) us unused i
+  pub rows : Rows us stack
 
 -- a turn at node i, with the kind k, the field f and the number c of children that the code has read
 module _ {t : List ℕ} (ok : Placed t) {us : List Waiting} {unused i : ℕ} (o : Before (program_of t) us unused i) (inside : i < size (program_of t)) {k : Kind} {f c : ℕ} (ek : k ≡ kind_of (get_or t (2 * i) 0)) (ef : f ≡ get_or t (2 * i + 1) 0) (ec : c ≡ arity_of k) {stack : List ℕ} (rows : Rows us stack) where

@@ -10,7 +10,7 @@ use lib.Dec.{leb}
 use lib.ListN.{length, get_or, replicate, get_or-replicate}
 use lib.Seq.{sets}
 use Rattle.esterel.specs.Limits.{max_nodes}
-use Rattle.esterel.specs.Statement.{Stmt, one, size, nodes}
+use Rattle.esterel.specs.Statement.{Stmt, size, nodes}
 use Rattle.esterel.specs.Table.{passed}
 use Rattle.esterel.specs.Checks.{verdict}
 use Rattle.esterel.specs.Outcome.{statement_at}

@@ -1,18 +1,16 @@
 -- The theorems of specs/Theorems.antt.
 use mathlib.Core.Path.{◌≡◌, refl, sym, ap, ap₂, subst, ◌∙◌}
-use mathlib.Core.Logic.{◌↔◌}
 use mathlib.Core.List.{List, [], ◌++◌, append-nil}
-use Prim.Native.Nat.{ℕ, ◌+◌, ◌≤◌, ◌<◌}
+use Prim.Native.Nat.{ℕ, ◌≤◌}
 use native.Mathlib.Omega.{arith}
 use borrow.Author.Tests.{leb-true}
 use lib.Dec.{leb}
 use lib.ListN.{length, take, drop, length-append}
 use lib.Seq.{take_at, drop_at}
-use Rattle.esterel.specs.Limits.{max_nodes}
 use Rattle.esterel.specs.Statement.{Stmt, size, nodes}
-use Rattle.esterel.specs.Table.{Verdict, passed, refused}
+use Rattle.esterel.specs.Table.{passed, refused}
 use Rattle.esterel.specs.Checks.{verdict}
-use Rattle.esterel.specs.Instant.{Entry, Result, closed, starved, start}
+use Rattle.esterel.specs.Instant.{Entry, closed, start}
 use Rattle.esterel.specs.Outcome.{taken}
 use Rattle.esterel.specs.Theorems.{Accepted, NeedsMore}
 use Rattle.esterel.specs.Theorems.{Closed as ClosedBy}
@@ -21,7 +19,6 @@ use Rattle.esterel.proofs.Refusals.{Told, refusals, told-numbered, one-program, 
 use Rattle.esterel.proofs.Theorems.{demand3, left_over, starving}
 use Rattle.table.specs.Columns.{onto}
 use Rattle.table.proofs.Surveying.{few-accepted}
-use Rattle.analysis.specs.Analysis.{checked}
 use Rattle.analysis.proofs.Analyses.{checked-program}
 use Rattle.analysis.proofs.Theorems.{enough-room, checked-passed, checked-told}
 use Rattle.packing.specs.Packing.{unpack}
@@ -31,7 +28,7 @@ use Rattle.instant.specs.declared.Reaction.{Reaction}
 use Rattle.instant.specs.declared.Reaction.TheVariants.{Closed}
 use Rattle.instant.specs.declared.Reaction.TheVariants.{Refused as RefusedStart}
 use Rattle.instant.proofs.Theorems.{demand3_of_calls}
-use Rattle.starts.specs.Ticks.{tick_answers, presents}
+use Rattle.starts.specs.Ticks.{tick_answers}
 use Rattle.starts.specs.Entries.{Makes, Greatest, IsLongest}
 use Rattle.starts.proofs.Theorems.{few-tests}
 use Rattle.starts.proofs.Entries.{first_tick}

@@ -4,7 +4,6 @@ use Rattle.esterel.specs.Statement.{Stmt}
 use Rattle.esterel.specs.Table.{Verdict, passed, refused}
 use Rattle.esterel.specs.Checks.{verdict}
 use Rattle.table.specs.Columns.{onto}
-use Rattle.table.specs.declared.Check
 use Rattle.table.specs.declared.Check.{Check}
 use Rattle.analysis.specs.Analysis.{checked}
 use Rattle.starts.specs.Ticks.{tick_answers}

@@ -1,5 +1,7 @@
 // The first tick, to the entry (F-10): the greatest number of entries that any answers can give when a program is started, and answers that
 // reach it.
+#![tactic(auto)]
+
 ghost use Rattle.std.specs.Prelude.{◌≡◌};
 ghost use Rattle.table.specs.Program.{program_of};
 ghost use Rattle.analysis.specs.Passes.{Placed};
