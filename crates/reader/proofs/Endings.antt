@@ -1,11 +1,9 @@
 -- Before and after the sequences of an open statement.
 use mathlib.Core.Path.{◌≡◌, refl}
-use mathlib.Core.List.{List, [], ◌∷◌}
+use mathlib.Core.List.{List, ◌∷◌}
 use Prim.Native.Nat.{ℕ, ◌+◌, ◌<◌, ◌≤◌}
 use native.Mathlib.Omega.{arith}
 use lib.ListN.{length}
-use types.Run.{OneOf, miss}
-use denote.Enum.Declared.{tag_of}
 use Rattle.grammar.specs.Limits.{max_levels}
 use Rattle.grammar.specs.Tokens as G
 use Rattle.grammar.specs.Tokens.{mark, name}
@@ -27,7 +25,6 @@ use Rattle.reader.specs.declared.Form.{Form}
 use Rattle.reader.specs.declared.Form.TheVariants.{Bracket, Body, Then, Else, Suspend, Abort}
 use Rattle.reader.specs.declared.Found.{Found}
 use Rattle.reader.specs.declared.Found.TheVariants.{Unread}
-use Rattle.reader.specs.contracts.Form.{the_type as form_type_lem}
 use Rattle.reader.specs.Reading.{LeafOf, is-nothing, is-pause, is-emit, is-exit, is-halt, is-sustain, is-await, AbortOf, FrameOf, in_bracket, in_signal, in_loop, in_trap, in_then, in_else_lem, in_suspend_lem, in_abort_lem, RestIs, RestRead, Plain, PlainEnd, end_of}
 
 -- the frame of a form
@@ -141,15 +138,15 @@ module _ (x : List ℕ) (t : List ℕ) (n : ℕ) (start stop : ℕ) where
   pub body-enters : {form : Form} {kind : ℕ} {t1 : List ℕ} → form ≡ Body → ((k : ℕ) (f : Frame) → FrameOf Body kind s f → Part x start stop → (ts : List Name) (g : Progress) → length ts < max_levels → Filled x t k ts g → Filled x t1 k (traps_within f ts) (past_open ts f g)) → (f : Frame) → FrameOf form kind s f → Part x start stop → (ts : List Name) (g : Progress) → length ts < max_levels → Filled x t n ts g → Filled x t1 n (traps_within f ts) (past_open ts f g)
   body-enters e a f i v ts g h c = let j = rw e at i in a n f j v ts g h c
 
-  pub none-enters : (form : Form) (kind : ℕ) → OneOf (0 ∷ 4 ∷ []) (tag_of form_type_lem form) → (f : Frame) → FrameOf form kind s f → Part x start stop → (ts : List Name) (g : Progress) → length ts < max_levels → Filled x t n ts g → Filled x t n (traps_within f ts) (past_open ts f g)
-  none-enters form kind o f (in_bracket k r) v ts g h c = c
-  none-enters form kind o f (in_signal r) v ts g h c = absurd (miss (0 ∷ 4 ∷ []) 1 tt o)
-  none-enters form kind o f (in_loop r) v ts g h c = absurd (miss (0 ∷ 4 ∷ []) 1 tt o)
-  none-enters form kind o f (in_trap r) v ts g h c = absurd (miss (0 ∷ 4 ∷ []) 1 tt o)
-  none-enters form kind o f (in_then r) v ts g h c = absurd (miss (0 ∷ 4 ∷ []) 2 tt o)
-  none-enters form kind o f (in_else_lem r) v ts g h c = absurd (miss (0 ∷ 4 ∷ []) 3 tt o)
-  none-enters form kind o f (in_suspend_lem k r) v ts g h c = c
-  none-enters form kind o f (in_abort_lem r z w) v ts g h c = absurd (miss (0 ∷ 4 ∷ []) 5 tt o)
+  pub none-enters : (form : Form) (kind : ℕ) → (form ≡ Body → ⊥) → (form ≡ Then → ⊥) → (form ≡ Else → ⊥) → (form ≡ Abort → ⊥) → (f : Frame) → FrameOf form kind s f → Part x start stop → (ts : List Name) (g : Progress) → length ts < max_levels → Filled x t n ts g → Filled x t n (traps_within f ts) (past_open ts f g)
+  none-enters form kind nb nt ne na f (in_bracket k r) v ts g h c = c
+  none-enters form kind nb nt ne na f (in_signal r) v ts g h c = absurd (nb refl)
+  none-enters form kind nb nt ne na f (in_loop r) v ts g h c = absurd (nb refl)
+  none-enters form kind nb nt ne na f (in_trap r) v ts g h c = absurd (nb refl)
+  none-enters form kind nb nt ne na f (in_then r) v ts g h c = absurd (nt refl)
+  none-enters form kind nb nt ne na f (in_else_lem r) v ts g h c = absurd (ne refl)
+  none-enters form kind nb nt ne na f (in_suspend_lem k r) v ts g h c = c
+  none-enters form kind nb nt ne na f (in_abort_lem r z w) v ts g h c = absurd (na refl)
 
   pub abort-enters : {form : Form} {kind : ℕ} {t1 : List ℕ} → form ≡ Abort → ((k : ℕ) (ts : List Name) (g : Progress) → Part x start stop → length ts < max_levels → Filled x t k ts g → Filled x t1 k (s ∷ ts) g) → (f : Frame) → FrameOf form kind s f → Part x start stop → (ts : List Name) (g : Progress) → length ts < max_levels → Filled x t n ts g → Filled x t1 n (traps_within f ts) (past_open ts f g)
   abort-enters e a f i v ts g h c = go f (abort-frame (rw e at i)) (a n ts g v h c)
@@ -292,10 +289,10 @@ suspend-closes x at depth t n t1 form e kind s f i q c = rw (suspend-frame (rw e
 pub abort-form-closes : (x : List ℕ) (at depth : ℕ) (t : List ℕ) (n : ℕ) (t1 : List ℕ) (form : Form) → form ≡ Abort → (kind : ℕ) (s : Name) (f : Frame) → FrameOf form kind s f → (r : Found) → ((w : T.Strength) → AbortOf kind w → RestRead (aborted w) x at depth t n t1 r) → RestRead f x at depth t n t1 r
 abort-form-closes x at depth t n t1 form e kind s f i q c = let j = abort-frame (rw e at i) in rw j.is (c j.strength j.form)
 
-pub plain_end : (form : Form) → OneOf (0 ∷ 1 ∷ 2 ∷ 3 ∷ []) (tag_of form_type_lem form) → Plain form → PlainEnd form
-plain_end Bracket o i = absurd i
-plain_end Body o i = tt
-plain_end Then o i = absurd i
-plain_end Else o i = tt
-plain_end Suspend o i = miss (0 ∷ 1 ∷ 2 ∷ 3 ∷ []) 4 tt o
-plain_end Abort o i = miss (0 ∷ 1 ∷ 2 ∷ 3 ∷ []) 5 tt o
+pub plain_end : (form : Form) → (form ≡ Suspend → ⊥) → (form ≡ Abort → ⊥) → Plain form → PlainEnd form
+plain_end Bracket m n i = absurd i
+plain_end Body m n i = tt
+plain_end Then m n i = absurd i
+plain_end Else m n i = tt
+plain_end Suspend m n i = m refl
+plain_end Abort m n i = n refl

@@ -24,7 +24,6 @@ use Rattle.reader.specs.declared.Opened.{Opened}
 use Rattle.reader.specs.declared.Opened.TheVariants.{Whole, Inside, Unopened}
 use Rattle.reader.specs.declared.Found.{Found}
 use Rattle.reader.specs.declared.Found.TheVariants.{Read, Unread}
-use Rattle.reader.specs.contracts.Form.{the_type as form_type_lem}
 use Rattle.reader.specs.contracts.Opened.{the_type as opened-type}
 use Rattle.reader.proofs.Endings.{bracket_frame, then-frame}
 use Rattle.reader.specs.Reading.{Plain, FrameOf, High, Deeper, Entered, OpenedFrom, Ready, WholeIs, StatementIs, StatementRead, SequenceIs, RestIs, RestRead}
@@ -255,10 +254,10 @@ module _ (x : List ℕ) (at depth : ℕ) (t : List ℕ) (n : ℕ) (t' : List ℕ
   pub then-form : form ≡ Then → RestRead (then_branch u) x at depth t n t' r → RestRead f x at depth t n t' r
   then-form e c = rw (then-frame (rw e at i)) c
 
-pub plain_form : (form : Form) → OneOf (1 ∷ 3 ∷ 4 ∷ 5 ∷ []) (tag_of form_type_lem form) → Plain form
-plain_form Bracket h = miss (1 ∷ 3 ∷ 4 ∷ 5 ∷ []) 0 tt h
-plain_form Body h = tt
-plain_form Then h = miss (1 ∷ 3 ∷ 4 ∷ 5 ∷ []) 2 tt h
-plain_form Else h = tt
-plain_form Suspend h = tt
-plain_form Abort h = tt
+pub plain_form : (form : Form) → (form ≡ Bracket → ⊥) → (form ≡ Then → ⊥) → Plain form
+plain_form Bracket m n = m refl
+plain_form Body m n = tt
+plain_form Then m n = n refl
+plain_form Else m n = tt
+plain_form Suspend m n = tt
+plain_form Abort m n = tt

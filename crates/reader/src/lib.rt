@@ -1,6 +1,8 @@
 // The readers of a text: statement, sequence and bracket readers that call each other, the text that is left falling. What they
 // read they write on a sheet (crates/sheet), node by node. Neither an exit without its trap nor too many signals or nodes stop
 // them, since a text outside the grammar is refused first.
+#![tactic(auto)]
+
 ghost use Rattle.std.specs.Prelude.{◌≡◌, List, ◌∷◌, ℕ, ◌+◌, ◌-◌, ◌<◌, ◌≤◌, length};
 ghost use Rattle.grammar.specs.Limits.{max_levels};
 ghost use Rattle.grammar.specs.Tokens as G;
@@ -19,7 +21,7 @@ use scan::{Called, Mark, Opening, Past, Token};
 
 // What an open statement goes on with: branches of a bracket, a body up to `end`, a then branch, an else branch alone, a body up
 // to `when`, a body up to `when` and `end`.
-#[derive(Drop)]
+#[derive(Clone, Copy)]
 pub enum Form {
     Bracket,
     Body,
