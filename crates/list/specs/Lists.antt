@@ -3,7 +3,6 @@ use Rattle.std.specs.Prelude.{ℕ, ◌≡◌, List}
 use Rattle.esterel.specs.Checks.{verdict}
 use Rattle.input.specs.Reads.{Reads, OfInput}
 use Rattle.input.specs.declared.Input.TheVariants.{Failed}
-use Rattle.list.specs.declared.Listed
 use Rattle.list.specs.declared.Listed.{Listed}
 use Rattle.listing.specs.Text.{text_of}
 use Rattle.listing.specs.Rendering.{WholeText}

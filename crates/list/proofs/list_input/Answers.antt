@@ -1,0 +1,11 @@
+-- What is read lies within the buffer.
+use Rattle.std.proofs.Common.{sym}
+use lib.Seq.{length-take-le}
+use Rattle.input.proofs.Reading.{within}
+use Rattle.list.proofs.list_input.Goals as goal
+
+pub slice_bounds-render_whole-end : goal.slice_bounds-render_whole-end
+slice_bounds-render_whole-end g c = within c.in-Bytes.ensures
+
+pub slice_bounds-render_whole-end-2 : goal.slice_bounds-render_whole-end-2
+slice_bounds-render_whole-end-2 g c = sym (length-take-le _ _ (within c.in-Bytes.ensures))
