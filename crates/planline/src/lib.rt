@@ -1,4 +1,6 @@
 // The line of a first tick, written into a lent text: the greatest number of entries, or the refusal as in the listing.
+#![tactic(auto)]
+
 ghost use Rattle.planline.specs.Line.{LineWritten};
 
 use planning::Planned;
