@@ -4,4 +4,4 @@ use Rattle.reader.proofs.Dialect.{guard_strong}
 use Rattle.reader.proofs.put_guard.Goals as goal
 
 pub returns : goal.returns
-returns c = (omega arith, omega arith, guard_strong c.args.text.now c.args.start c.args.stop c.if-kind-eq-WEAK_ABORT.false c.note-number.ensures (c.put.ensures.1 c.args.text.now))
+returns c = (omega arith, omega arith, guard_strong c.args.text.now c.args.start c.args.stop (omega arith) c.note-number.ensures (c.put.ensures.1 c.args.text.now))
