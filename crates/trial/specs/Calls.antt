@@ -4,7 +4,6 @@ use Rattle.codes.specs.Codes.{word}
 use Rattle.esterel.specs.Statement.{Stmt, size, nodes}
 use Rattle.esterel.specs.Table.{Verdict, passed, refused}
 use Rattle.esterel.specs.Outcome.{statement_at}
-use Rattle.table.specs.declared.Check
 use Rattle.table.specs.declared.Check.{Check}
 use Rattle.starts.specs.Ticks.{presents}
 use Rattle.trial.specs.Trials.{tried, trial_answers}

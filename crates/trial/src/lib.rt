@@ -1,4 +1,6 @@
 // Start sets by trial (F-13): a node is started with every list of 12 answers, and the codes are gathered.
+#![tactic(auto)]
+
 ghost use Rattle.std.specs.Prelude.{◌≡◌, ◌^◌, ◌<◌, ◌≤◌, length};
 ghost use Rattle.codes.specs.Codes.{word};
 ghost use Rattle.esterel.specs.Limits.{signals};
