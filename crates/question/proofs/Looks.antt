@@ -1,7 +1,7 @@
 -- The nodes looked at: where they lie, that none is looked at twice, how many there are, and that the asked one is among them.
-use mathlib.Core.Path.{◌≡◌}
+use mathlib.Core.Path.{◌≡◌, sym, subst}
 use mathlib.Core.Bool.{Bool, true, false, cond}
-use mathlib.Core.List.{List, []}
+use mathlib.Core.List.{List, [], ◌∷◌}
 use Prim.Native.Nat.{ℕ, zero, suc, ◌+◌, ◌-◌, ◌≤◌, ◌<◌}
 use native.Mathlib.Omega.{arith}
 use lib.Dec.{ltb}
@@ -91,7 +91,7 @@ question-fits i p k = limited-fits i (size p) k (look i p k) (look-fits i p k)
 
 -- the asked node
 pub asked_is : (n m : ℕ) (x : Found) → n ≡ m → member n (nodes_of (asking m x)) ≡ true
-asked_is n m (found b ns) e = rw e (first-is m ns)
+asked_is n m (found b ns) e = subst (λ k. member k (m ∷ ns) ≡ true) (sym e) (first-is m ns)
 
 whole-asked : (i : ℕ) (p : Stmt) (k : ℕ) → member (i + size p - 1) (nodes_of (whole i p k)) ≡ true
 whole-asked i p k = in_range i (size p) (i + size p - 1) (omega (arith, size_pos p)) (omega (arith, size_pos p))

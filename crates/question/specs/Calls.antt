@@ -3,7 +3,6 @@ use Rattle.std.specs.Prelude.{ℕ, suc, ◌-◌, cond, ltb, length}
 use Rattle.esterel.specs.Statement.{Stmt, size, nodes}
 use Rattle.esterel.specs.Table.{Verdict, passed, refused}
 use Rattle.esterel.specs.Outcome.{statement_at}
-use Rattle.table.specs.declared.Check
 use Rattle.table.specs.declared.Check.{Check}
 use Rattle.question.specs.Question.{Found, member_of, nodes_of, question}
 use Rattle.question.specs.declared.Asked.{Asked}

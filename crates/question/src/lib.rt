@@ -1,4 +1,6 @@
 // One question (F-12): whether a code is in a node's start set, by looking at few nodes.
+#![tactic(auto)]
+
 ghost use Rattle.std.specs.Prelude.{◌≡◌, true, ◌≤◌, ◌<◌};
 ghost use Rattle.codes.specs.Codes.{word};
 ghost use Rattle.esterel.specs.Limits.{max_nodes};

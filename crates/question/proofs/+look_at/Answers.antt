@@ -1,0 +1,108 @@
+-- One law for each call and each return.
+use Rattle.std.proofs.Common.{arith}
+use Rattle.table.proofs.Views.{in_table}
+use Rattle.question.proofs.Looking.{looked-few, own-few, all_looks, after-child, stop_looks, pass-low, pass_looks, first_below, first_settles, second-asked, then-has, else_asked}
+use Rattle.question.proofs.+look_at.Goals as goal
+
+pub kind_at-kind-requires : goal.kind_at-kind-requires
+kind_at-kind-requires t c =
+    let (ok, h, low) = c.requires in
+    in_table ok.measured h
+
+pub returns-then-looks_at_all : goal.returns-then-looks_at_all
+returns-then-looks_at_all t c =
+    let (ok, h, low) = c.requires in
+    all_looks ok h c.kind_at-kind.ensures low c.looks_at_all.ensures c.if-looks_at_all.true c.set_at-set.ensures c.has.ensures c.size_at.ensures
+
+pub overflow_sub-last : goal.overflow_sub-last
+overflow_sub-last t c =
+    let (ok, h, low) = c.requires in
+    omega (arith, after-child ok h c.kind_at-kind.ensures low c.looks_at_all.ensures c.if-looks_at_all.false)
+
+pub returns-then-stops : goal.returns-then-stops
+returns-then-stops t c =
+    let (ok, h, low) = c.requires in
+    stop_looks ok h c.kind_at-kind.ensures low c.looks_at_all.ensures c.if-looks_at_all.false c.arity.ensures c.if-arity-eq1.true c.stops.ensures c.if-stops.true
+
+pub look_at-inner-requires : goal.look_at-inner-requires
+look_at-inner-requires t c =
+    let (ok, h, low) = c.requires in
+    (omega (arith, c.decreases, after-child ok h c.kind_at-kind.ensures low c.looks_at_all.ensures c.if-looks_at_all.false), (ok, omega (arith, h), pass-low ok h c.kind_at-kind.ensures low c.looks_at_all.ensures c.if-looks_at_all.false c.arity.ensures c.if-arity-eq1.true c.stops.ensures c.if-stops.false c.passed_code.ensures))
+
+pub passed_up-requires : goal.passed_up-requires
+passed_up-requires t c =
+    let (ok, h, low) = c.requires in
+    looked-few ok (omega (arith, h)) _ c.look_at-inner.ensures
+
+pub returns-then-arity-eq1 : goal.returns-then-arity-eq1
+returns-then-arity-eq1 t c =
+    let (ok, h, low) = c.requires in
+    pass_looks ok h c.kind_at-kind.ensures low c.looks_at_all.ensures c.if-looks_at_all.false c.arity.ensures c.if-arity-eq1.true c.stops.ensures c.if-stops.false c.passed_code.ensures c.look_at-inner.ensures c.passed_up.ensures
+
+pub overflow_sub-first : goal.overflow_sub-first
+overflow_sub-first t c =
+    let (ok, h, low) = c.requires in
+    first_below ok h c.kind_at-kind.ensures low c.looks_at_all.ensures c.if-looks_at_all.false c.arity.ensures c.if-arity-eq1.false c.size_at-2.ensures
+
+pub passed_up-requires-then-stays-has : goal.passed_up-requires-then-stays-has
+passed_up-requires-then-stays-has t c =
+    let (ok, h, low) = c.requires in
+    own-few ok (omega (arith, h)) c.size_at-then-is_sequence.ensures
+
+pub returns-then-stays-has : goal.returns-then-stays-has
+returns-then-stays-has t c =
+    let (ok, h, low) = c.requires in
+    first_settles ok h c.kind_at-kind.ensures low c.looks_at_all.ensures c.if-looks_at_all.false c.arity.ensures c.if-arity-eq1.false c.size_at-2.ensures
+    c.is_sequence.ensures c.if-is_sequence.true c.set_at-set-then-is_sequence.ensures c.size_at-then-is_sequence.ensures c.without_ended.ensures c.has-stays.ensures c.has-then-is_sequence.ensures
+    c.if-stays-has.true c.passed_up-then-stays-has.ensures
+
+pub look_at-requires : goal.look_at-requires
+look_at-requires t c =
+    let (ok, h, low) = c.requires in
+    (omega (arith, c.decreases, after-child ok h c.kind_at-kind.ensures low c.looks_at_all.ensures c.if-looks_at_all.false), (ok, omega (arith, h), low))
+
+pub joined-requires : goal.joined-requires
+joined-requires t c =
+    let (ok, h, low) = c.requires in
+    (own-few ok (omega (arith, h)) c.size_at-then-is_sequence.ensures, looked-few ok (omega (arith, h)) _ c.look_at.ensures)
+
+pub returns-then-is_sequence : goal.returns-then-is_sequence
+returns-then-is_sequence t c =
+    let (ok, h, low) = c.requires in
+    second-asked ok h c.kind_at-kind.ensures low c.looks_at_all.ensures c.if-looks_at_all.false c.arity.ensures c.if-arity-eq1.false c.size_at-2.ensures
+    c.is_sequence.ensures c.if-is_sequence.true c.set_at-set-then-is_sequence.ensures c.size_at-then-is_sequence.ensures c.without_ended.ensures c.has-stays.ensures c.has-then-is_sequence.ensures
+    c.if-stays-has.false c.look_at.ensures c.joined.ensures
+
+pub look_at-then-requires : goal.look_at-then-requires
+look_at-then-requires t c =
+    let (ok, h, low) = c.requires in
+    (omega (arith, c.decreases, after-child ok h c.kind_at-kind.ensures low c.looks_at_all.ensures c.if-looks_at_all.false), (ok, omega (arith, h), low))
+
+pub passed_up-requires-then-has : goal.passed_up-requires-then-has
+passed_up-requires-then-has t c =
+    let (ok, h, low) = c.requires in
+    looked-few ok (omega (arith, h)) _ c.look_at-then.ensures
+
+pub returns-then-has : goal.returns-then-has
+returns-then-has t c =
+    let (ok, h, low) = c.requires in
+    then-has ok h c.kind_at-kind.ensures low c.looks_at_all.ensures c.if-looks_at_all.false c.arity.ensures c.if-arity-eq1.false c.size_at-2.ensures
+    c.is_sequence.ensures c.if-is_sequence.false c.look_at-then.ensures
+    c.if-has.true c.passed_up-then-has.ensures
+
+pub look_at-requires-2 : goal.look_at-requires-2
+look_at-requires-2 t c =
+    let (ok, h, low) = c.requires in
+    (omega (arith, c.decreases, after-child ok h c.kind_at-kind.ensures low c.looks_at_all.ensures c.if-looks_at_all.false), (ok, omega (arith, h), low))
+
+pub joined-requires-2 : goal.joined-requires-2
+joined-requires-2 t c =
+    let (ok, h, low) = c.requires in
+    (looked-few ok (omega (arith, h)) _ c.look_at-then.ensures, looked-few ok (omega (arith, h)) _ c.look_at-2.ensures)
+
+pub returns : goal.returns
+returns t c =
+    let (ok, h, low) = c.requires in
+    else_asked ok h c.kind_at-kind.ensures low c.looks_at_all.ensures c.if-looks_at_all.false c.arity.ensures c.if-arity-eq1.false c.size_at-2.ensures
+    c.is_sequence.ensures c.if-is_sequence.false c.look_at-then.ensures
+    c.if-has.false c.look_at-2.ensures c.joined-2.ensures
