@@ -1,4 +1,6 @@
 // A byte of a text as line and column, and the line that tells them.
+#![tactic(auto)]
+
 ghost use Rattle.std.specs.Prelude.{◌≡◌, ◌≤◌, length};
 ghost use Rattle.grammar.specs.Limits.{max_source};
 ghost use Rattle.listing.specs.Rendering.{WholeText};
