@@ -2,7 +2,7 @@
 use mathlib.Core.Path.{◌≡◌, refl, sym, ap, ◌∙◌}
 use mathlib.Core.Bool.{Bool, true, false}
 use mathlib.Core.Option.{Option, none, some}
-use mathlib.Core.List.{List, [], ◌∷◌, ◌++◌}
+use mathlib.Core.List.{List, [], ◌++◌}
 use Prim.Native.Nat.{ℕ, ◌*◌, ◌≤◌, ◌<◌}
 use native.Mathlib.Omega.{arith}
 use lib.Dec.{ltb}
@@ -30,9 +30,6 @@ use Rattle.fault.specs.Walking.{ExitTold}
 use Rattle.sheet.specs.Sheet.{signal_count, untrapped_at, Filled, flag}
 use Rattle.table.specs.Program.{program_in, program_of, Readable}
 use Rattle.table.specs.Check.{pass_if, refuse_found, places_check}
-use types.Run.{OneOf, miss}
-use denote.Enum.Declared.{tag_of}
-use Rattle.table.specs.contracts.Check.{the_type as check-type}
 use Rattle.table.specs.declared.Check.{Check}
 use Rattle.table.specs.declared.Check.TheVariants.{Passed, Refused as CheckRefused}
 use Rattle.text.specs.declared.Reading.{Reading}
@@ -166,13 +163,13 @@ module _ (x w : List ℕ) (n : ℕ) (t : Tree) (c : Filled x w n [] (past [] (ex
               rw (a, b, d)
 
           module _ (k : Check) (k-is : k ≡ places_check (places_of (clip (statement_of t))) 0) where
-            pub told-nested : OneOf (1 ∷ []) (tag_of check-type k) → (r : Reading) → r ≡ refusal_of k 0 → (old : List ℕ) → Told (verdict_of_tree t) (length (signals t)) (place_of x d) old old r
+            pub told-nested : (k ≡ Passed → ⊥) → (r : Reading) → r ≡ refusal_of k 0 → (old : List ℕ) → Told (verdict_of_tree t) (length (signals t)) (place_of x d) old old r
             told-nested o r e old = rw to_nesting (go deep traps (k-is ∙ check-is))
               where
                 go : (a b : Option ℕ) → k ≡ refuse_found 8 a (refuse_found 9 b Passed) → Told (refuse_at 8 a (refuse_at 9 b (passed (statement_of t)))) (length (signals t)) (place_of x d) old old r
                 go (some i) y z = (e ∙ ap (λ (k : Check). refusal_of k 0) z ∙ ap (λ (p : ℕ). Refused 8 i p) no_place, refl)
                 go none (some i) z = (e ∙ ap (λ (k : Check). refusal_of k 0) z ∙ ap (λ (p : ℕ). Refused 9 i p) no_place, refl)
-                go none none z = absurd (miss (1 ∷ []) 0 tt (rw z at o))
+                go none none z = absurd (o z)
 
             module _ (p : k ≡ Passed) where
               both-none : (deep ≡ none) × (traps ≡ none)
@@ -195,8 +192,8 @@ module _ (x w : List ℕ) (n : ℕ) (t : Tree) (c : Filled x w n [] (past [] (ex
                   rw v (cc (nodes-are, signals-are), f)
 
 -- a check that names no node, by its test
-pub test-fails : (number : ℕ) (b : Bool) {k : Check} → k ≡ pass_if number b → OneOf (1 ∷ []) (tag_of check-type k) → {r : Reading} {place : ℕ} → r ≡ refusal_of k place → (b ≡ false) × (r ≡ Refused number 0 place)
-test-fails number true e o f = absurd (miss (1 ∷ []) 0 tt (rw e at o))
+pub test-fails : (number : ℕ) (b : Bool) {k : Check} → k ≡ pass_if number b → (k ≡ Passed → ⊥) → {r : Reading} {place : ℕ} → r ≡ refusal_of k place → (b ≡ false) × (r ≡ Refused number 0 place)
+test-fails number true e o f = absurd (o e)
 test-fails number false e o {place = place} f = (refl, f ∙ ap (λ (k : Check). refusal_of k place) e)
 
 pub test-holds : (number : ℕ) (b : Bool) {k : Check} → k ≡ pass_if number b → k ≡ Passed → b ≡ true

@@ -1,4 +1,6 @@
 // Programs as text (F-1): the call `read`, which turns a text of kernel Esterel into a table.
+#![tactic(auto)]
+
 ghost use Rattle.std.specs.Prelude.{◌≡◌, List, [], ◌++◌, ℕ, ◌*◌, ◌≤◌, length, take, drop};
 ghost use Rattle.esterel.specs.Sets.{places_of};
 ghost use Rattle.grammar.specs.Limits.{max_source};
