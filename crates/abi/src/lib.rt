@@ -1,5 +1,7 @@
 // The calls for C and Rust: each buffer is a pointer and a length. A function returns 0, and three figures stand in the
 // answer; or number + 256 * node of a refusal, and no buffer has changed, the answer among them.
+#![tactic(auto)]
+
 ghost use Rattle.std.specs.Prelude.{◌≡◌, [], ◌∷◌, ◌≤◌, ◌<◌, length};
 ghost use Rattle.table.specs.Check.{length_check};
 ghost use Rattle.analysis.specs.Passes.{onto};
