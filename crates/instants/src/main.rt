@@ -22,6 +22,11 @@ fn react(
     }
 }
 
+// Writes a place and its byte.
+fn write_place<W: Write>(writer: &mut W, at: usize, byte: u8) -> bool {
+    output::write_number(writer, at) && write!(writer, ":{byte:02x}").is_ok()
+}
+
 // Writes the emission buffer: that it is as it was, or each byte that is not 0.
 fn write_emissions<W: Write>(writer: &mut W, bytes: &[u8], first: u8) -> bool {
     if output::is_filled(bytes, first) {
@@ -29,7 +34,7 @@ fn write_emissions<W: Write>(writer: &mut W, bytes: &[u8], first: u8) -> bool {
     }
     let mut i: usize = 0;
     while i < bytes.len() {
-        if bytes[i] != 0 && !output::write_place(writer, i, bytes[i]) {
+        if bytes[i] != 0 && !write_place(writer, i, bytes[i]) {
             return false;
         }
         i += 1;

@@ -61,11 +61,6 @@ pub fn write_byte<W: Write>(writer: &mut W, byte: u8) -> bool {
     write_number(writer, wide(byte))
 }
 
-// A place and its byte in two digits.
-pub fn write_place<W: Write>(writer: &mut W, at: usize, byte: u8) -> bool {
-    write!(writer, " {at}:{byte:02x}").is_ok()
-}
-
 fn digit(four: u8) -> u8
     requires { four < 16 }
 {

@@ -8,7 +8,9 @@
 //   ||
 //     loop
 //       pause; emit 9
-ghost use Rattle.std.specs.Prelude.{◌≡◌, true, ◌<◌, length, get_or};
+#![tactic(auto)]
+
+ghost use Rattle.std.specs.Prelude.{◌≡◌, true, ◌<◌, length, slice_index};
 ghost use Rattle.instant.specs.declared.Reaction.TheVariants.{Closed};
 
 use instant::Reaction;
@@ -28,7 +30,7 @@ fn is_closed(reaction: Reaction, code: usize, taken: usize, entries: usize) -> b
 
 // The state's bytes are these, and those of signals 7 and 9.
 fn expect_left(state: &[u8], held: &[u8], emissions: &[u8], seven: u8, nine: u8)
-    requires { (state.now ≡ held.now) × (9 < length emissions.now) × (get_or emissions.now 7 0 ≡ seven) × (get_or emissions.now 9 0 ≡ nine) }
+    requires { (state.now ≡ held.now) × (9 < length emissions.now) × (slice_index emissions.now 7 ≡ seven) × (slice_index emissions.now 9 ≡ nine) }
 {
     check::expect(check::same(state, held));
     check::expect(emissions[7] == seven);
