@@ -2,7 +2,6 @@
 use Rattle.std.specs.Prelude.{ℕ, ◌≡◌, List}
 use Rattle.input.specs.Reads.{Reads, OfInput}
 use Rattle.input.specs.declared.Input.TheVariants.{Failed}
-use Rattle.first_tick.specs.declared.Told
 use Rattle.first_tick.specs.declared.Told.{Told}
 use Rattle.planline.specs.Line.{LineWritten}
 

@@ -2,7 +2,6 @@
 use Rattle.std.specs.Prelude.{ℕ, ◌≡◌, List}
 use Rattle.input.specs.Reads.{Reads, OfInput}
 use Rattle.input.specs.declared.Input.TheVariants.{Failed}
-use Rattle.tick.specs.declared.Shown
 use Rattle.tick.specs.declared.Shown.{Shown}
 use Rattle.tickline.specs.Written.{LineWritten}
 
