@@ -41,9 +41,9 @@ prove_all() {
     status=$(cat target/ci.status)
     if grep -q '^rt: ok.*, [0-9][0-9]* bad' target/ci.log; then
         echo "FAIL: a must-fail edit is bad"
-        status=1
+        tail -n 1 target/ci.log
+        return 1
     fi
-    tail -n 1 target/ci.log
     return "$status"
 }
 
