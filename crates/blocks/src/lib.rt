@@ -3,8 +3,8 @@
 
 ghost use Rattle.std.specs.Prelude.{◌≡◌, true, ◌++◌, ◌+◌, ◌*◌, ◌<◌, ◌≤◌, length, drop};
 ghost use Rattle.std.proofs.Math.Option.{some};
-ghost use Rattle.blocks.specs.Block.{block_size, word as word_of, reduced as reducedOf, all_zero, good as goodOf};
-ghost use Rattle.blocks.specs.Editions.{file_fits, blocks_in, block_at, is_good_for, parts_of, newest as newestOf, table_of};
+ghost use Rattle.blocks.specs.Block.{block_size, word as word_of, reduced as reduced_of, all_zero, good as good_of};
+ghost use Rattle.blocks.specs.Editions.{file_fits, blocks_in, block_at, is_good_for, parts_of, newest as newest_of, table_of};
 ghost use Rattle.blocks.specs.Steps.{Summed, usable, Checked, is_part, Placed, FoundPlace, edition_of, higher_than, Best, chosen};
 ghost use Rattle.blocks.specs.Fetching.{Locating, Handing, Fetching};
 
@@ -37,7 +37,7 @@ fn word(block: &[u8], at: usize) -> u16
 }
 
 fn reduced(sum: u32) -> u32
-    ensures { result ≡ reducedOf sum }
+    ensures { result ≡ reduced_of sum }
 {
     sum % 255
 }
@@ -84,7 +84,7 @@ fn all_zero(bytes: &[u8]) -> bool
 // Whether a block is good: its check bytes, its used length and its filler.
 fn is_good(block: &[u8]) -> bool
     requires { length block.now ≡ block_size }
-    ensures { result ≡ goodOf block.now }
+    ensures { result ≡ good_of block.now }
 {
     let sums = sum_bytes(&block[0..CHECKS_AT]);
     if wide(block[CHECKS_AT]) as u32 != sums.first {
@@ -299,7 +299,7 @@ fn consider(
 // The highest whole edition of a program.
 fn newest(file: &[u8], good: &[bool; MAX_BLOCKS], program: u16) -> Edition
     requires { Checked file.now program good.now }
-    ensures { result ≡ chosen file.now program (newestOf file.now program) }
+    ensures { result ≡ chosen file.now program (newest_of file.now program) }
 {
     let n = file.len() / BLOCK;
     let mut best = Edition::None;

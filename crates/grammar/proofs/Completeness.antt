@@ -4,7 +4,7 @@ use mathlib.Core.List.{List, ◌∷◌}
 use Rattle.grammar.specs.Tokens.{Token, opening, mark, bracket, bars, close}
 use Rattle.grammar.specs.Tree as T
 use Rattle.grammar.specs.Tree.{Tree, leaf, two}
-use Rattle.grammar.specs.Grammar.{Category, statement, sequence, branches, Derives, a-nothing, a-pause, an_emit_lem, an_exit_lem, a-signal, a-trap, a-loop, a-suspend, a_then_else, a-then, an_else, a-halt, a-sustain, an_await_lem, an_abort_lem, a_weak_abort, a_bracket, a-single, a-sequence, a_pair, a-branch, Program}
+use Rattle.grammar.specs.Grammar.{Category, statement, sequence, branches, Derives, a-nothing, a-pause, an-emit, an-exit, a-signal, a-trap, a-loop, a-suspend, a_then_else, a-then, an_else, a-halt, a-sustain, an-await, an-abort, a_weak_abort, a_bracket, a-single, a-sequence, a_pair, a-branch, Program}
 use Rattle.grammar.specs.Machine.{Before, alone, after, join, Open, top, within, branch, body, then_branch, else_branch, suspended, aborted, expect, have, accepted, run, parse}
 
 -- branches that end in q, after those of l
@@ -36,8 +36,8 @@ more_branches {p = p} {q = q} {us = us} d e = record {
 pub reads : {w : Category} {p : Tree} {ts r : List Token} → Derives w p ts r → Reads w p ts r
 reads a-nothing = λ b k. refl
 reads a-pause = λ b k. refl
-reads an_emit_lem = λ b k. refl
-reads an_exit_lem = λ b k. refl
+reads an-emit = λ b k. refl
+reads an-exit = λ b k. refl
 reads (a-signal {s = s} d) = λ b k. reads d (within (body (T.signal s)) b k)
 reads (a-trap {t = t} d) = λ b k. reads d (within (body (T.trap t)) b k)
 reads (a-loop d) = λ b k. reads d (within (body T.loop) b k)
@@ -47,8 +47,8 @@ reads (a-then {s = s} d) = λ b k. reads d (within (then_branch s) b k)
 reads (an_else {s = s} d) = λ b k. reads d (within (else_branch s (leaf T.nothing)) b k)
 reads a-halt = λ b k. refl
 reads a-sustain = λ b k. refl
-reads an_await_lem = λ b k. refl
-reads (an_abort_lem d) = λ b k. reads d (within (aborted T.strong) b k)
+reads an-await = λ b k. refl
+reads (an-abort d) = λ b k. reads d (within (aborted T.strong) b k)
 reads (a_weak_abort d) = λ b k. reads d (within (aborted T.weak) b k)
 reads (a_bracket d) = close_bracket (reads d)
 reads (a-single d) = λ k. reads d alone k

@@ -14,7 +14,7 @@ use Rattle.grammar.specs.Tree.{Tree, leaf, one, two}
 use Rattle.grammar.specs.Machine.{accepted, stuck, parse}
 use Rattle.grammar.specs.Meaning.{signals, verdict_of_tree, place_of, VerdictOf, faulty, derived}
 use Rattle.grammar.specs.Faults.{number_of_fault}
-use Rattle.grammar.specs.Grammar.{an_exit_lem, a-trap, a-single, a-sequence, a-pause, an_abort_lem}
+use Rattle.grammar.specs.Grammar.{an-exit, a-trap, a-single, a-sequence, a-pause, an-abort}
 use Rattle.grammar.proofs.Soundness.{sound}
 use Rattle.grammar.proofs.Viability.{fault-at}
 
@@ -65,16 +65,16 @@ two_name_spaces = told (ascii "trap S in emit S;signal S in exit S end end") (on
 
 no_trap : VerdictOf (ascii "trap T in exit U end") (refused 15 0) 0 15
 unfolding tokens class_of beginnings byte_of
-no_trap = derived (one (T.trap (ascii "T")) (leaf (T.exit (ascii "U")))) (omega arith) (a-single (a-trap (a-single an_exit_lem)))
+no_trap = derived (one (T.trap (ascii "T")) (leaf (T.exit (ascii "U")))) (omega arith) (a-single (a-trap (a-single an-exit)))
 
 after-trap : VerdictOf (ascii "trap T in pause end;exit T") (refused 15 0) 0 25
 unfolding tokens class_of beginnings byte_of
-after-trap = derived (two T.sequence (one (T.trap (ascii "T")) (leaf T.pause)) (leaf (T.exit (ascii "T")))) (omega arith) (a-sequence (a-single (a-trap (a-single a-pause))) an_exit_lem)
+after-trap = derived (two T.sequence (one (T.trap (ascii "T")) (leaf T.pause)) (leaf (T.exit (ascii "T")))) (omega arith) (a-sequence (a-single (a-trap (a-single a-pause))) an-exit)
 
 -- the first of two exits without their traps counts, also within an abort
 first-lost : VerdictOf (ascii "abort exit A when S end;exit B") (refused 15 0) 1 11
 unfolding tokens class_of beginnings byte_of
-first-lost = derived (two T.sequence (T.abort T.strong (ascii "S") (leaf (T.exit (ascii "A")))) (leaf (T.exit (ascii "B")))) (omega arith) (a-sequence (a-single (an_abort_lem (a-single an_exit_lem))) an_exit_lem)
+first-lost = derived (two T.sequence (T.abort T.strong (ascii "S") (leaf (T.exit (ascii "A")))) (leaf (T.exit (ascii "B")))) (omega arith) (a-sequence (a-single (an-abort (a-single an-exit))) an-exit)
 
 -- the forms of F-9
 halting : VerdictOf (ascii "halt") (passed (S.one S.loop (S.leaf S.pause))) 0 0

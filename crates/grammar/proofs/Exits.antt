@@ -11,7 +11,7 @@ use Rattle.grammar.specs.Limits.{max_levels}
 use Rattle.grammar.specs.Tokens.{Token, same_bytes}
 use Rattle.grammar.specs.Tree.{Tree, Name, levels}
 use Rattle.grammar.specs.Kernel.{added}
-use Rattle.grammar.specs.Grammar.{Category, Derives, a-nothing, a-pause, an_emit_lem, an_exit_lem, a-signal, a-trap, a-loop, a-suspend, a_then_else, a-then, an_else, a_bracket, a-halt, a-sustain, an_await_lem, an_abort_lem, a_weak_abort, a-single, a-sequence, a_pair, a-branch, Program}
+use Rattle.grammar.specs.Grammar.{Category, Derives, a-nothing, a-pause, an-emit, an-exit, a-signal, a-trap, a-loop, a-suspend, a_then_else, a-then, an_else, a_bracket, a-halt, a-sustain, an-await, an-abort, a_weak_abort, a-single, a-sequence, a_pair, a-branch, Program}
 use Rattle.grammar.specs.Names.{place, has}
 use Rattle.grammar.specs.Faults.{lost_from}
 use Rattle.grammar.specs.Search.{no_name, look, Room}
@@ -46,8 +46,8 @@ both {ls = ls} {ts = ts} n s = record { is = λ t h. go t (same_bytes n t) refl 
 found : {what : Category} {p : Tree} {us r : List Token} (d : Derives what p us r) (ls ts : List Name) → Same ls ts → Lettered us → look no_name ls us ≡ lost_from ts d (look no_name ls r)
 found a-nothing ls ts s l = refl
 found a-pause ls ts s l = refl
-found an_emit_lem ls ts s l = refl
-found (an_exit_lem {t = t}) ls ts s l = rw (s.is t l.0)
+found an-emit ls ts s l = refl
+found (an-exit {t = t}) ls ts s l = rw (s.is t l.0)
 found (a-signal d) ls ts s l = found d (added ∷ ls) ts (plain s) l.1
 found (a-trap {t = t} d) ls ts s l = found d (t ∷ ls) (t ∷ ts) (both t s) l.1
 found (a-loop d) ls ts s l = found d (added ∷ ls) ts (plain s) l
@@ -58,8 +58,8 @@ found (an_else d) ls ts s l = found d (added ∷ ls) ts (plain s) l.1
 found (a_bracket d) ls ts s l = found d ls ts s l
 found a-halt ls ts s l = refl
 found a-sustain ls ts s l = refl
-found an_await_lem ls ts s l = refl
-found (an_abort_lem d) ls ts s l = found d (added ∷ ls) (added ∷ ts) (both added s) l
+found an-await ls ts s l = refl
+found (an-abort d) ls ts s l = found d (added ∷ ls) (added ∷ ts) (both added s) l
 found (a_weak_abort d) ls ts s l = found d (added ∷ ls) (added ∷ ts) (both added s) l
 found (a-single d) ls ts s l = found d ls ts s l
 found (a-sequence d e) ls ts s l = found d ls ts s l ∙ ap (lost_from ts d) (found e ls ts s (letters-left d l))
@@ -70,8 +70,8 @@ found (a-branch d e) ls ts s l = found d ls ts s l ∙ ap (lost_from ts d) (foun
 fits : {what : Category} {p : Tree} {us r : List Token} → Derives what p us r → (ls : List Name) → length ls + levels p < max_levels → Room no_name ls r → Room no_name ls us
 fits a-nothing ls h o = (omega arith, o)
 fits a-pause ls h o = (omega arith, o)
-fits an_emit_lem ls h o = (omega arith, (omega arith, o))
-fits an_exit_lem ls h o = (omega arith, (omega arith, o))
+fits an-emit ls h o = (omega arith, (omega arith, o))
+fits an-exit ls h o = (omega arith, (omega arith, o))
 fits (a-signal d) ls h o = (omega arith, (omega arith, (omega arith, tt, fits d (added ∷ ls) (omega arith) (omega arith, tt, o))))
 fits (a-trap {t = t} d) ls h o = (omega arith, (omega arith, (omega arith, tt, fits d (t ∷ ls) (omega arith) (omega arith, tt, o))))
 fits (a-loop d) ls h o = (omega arith, fits d (added ∷ ls) (omega arith) (omega arith, tt, o))
@@ -82,8 +82,8 @@ fits (an_else d) ls h o = (omega arith, (omega arith, (omega arith, tt, fits d (
 fits (a_bracket d) ls h o = (omega arith, fits d ls h (omega arith, tt, o))
 fits a-halt ls h o = (omega arith, o)
 fits a-sustain ls h o = (omega arith, (omega arith, o))
-fits an_await_lem ls h o = (omega arith, (omega arith, o))
-fits (an_abort_lem d) ls h o = (omega arith, fits d (added ∷ ls) (omega arith) (omega arith, tt, (omega arith, (omega arith, tt, o))))
+fits an-await ls h o = (omega arith, (omega arith, o))
+fits (an-abort d) ls h o = (omega arith, fits d (added ∷ ls) (omega arith) (omega arith, tt, (omega arith, (omega arith, tt, o))))
 fits (a_weak_abort d) ls h o = (omega arith, (omega arith, fits d (added ∷ ls) (omega arith) (omega arith, tt, (omega arith, (omega arith, tt, o)))))
 fits (a-single d) ls h o = fits d ls h o
 fits (a-sequence d e) ls h o = fits d ls (omega arith) (omega arith, tt, fits e ls (omega arith) o)

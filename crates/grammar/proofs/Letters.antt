@@ -10,7 +10,7 @@ use lib.ListN.{length}
 use Rattle.grammar.specs.Limits.{max_name}
 use Rattle.grammar.specs.Tokens.{Token, opening, mark, name, foreign, stray, semicolon, close, bracket, Word, words, is_letter, is_count, name_or, same_bytes, among, word_token, is_in_word, is_blank, sign_of, Class, in_word, blank, bar, sign, class_of, Pending, none, word, first_bar, flush, meet, tokens_after, tokens}
 use Rattle.grammar.specs.Tree.{Tree}
-use Rattle.grammar.specs.Grammar.{Category, Derives, a-nothing, a-pause, an_emit_lem, an_exit_lem, a-signal, a-trap, a-loop, a-suspend, a_then_else, a-then, an_else, a_bracket, a-halt, a-sustain, an_await_lem, an_abort_lem, a_weak_abort, a-single, a-sequence, a_pair, a-branch}
+use Rattle.grammar.specs.Grammar.{Category, Derives, a-nothing, a-pause, an-emit, an-exit, a-signal, a-trap, a-loop, a-suspend, a_then_else, a-then, an_else, a_bracket, a-halt, a-sustain, an-await, an-abort, a_weak_abort, a-single, a-sequence, a_pair, a-branch}
 
 abbrev pub LetteredToken : Token → Type 0
 LetteredToken (opening o) = Unit {0}
@@ -105,8 +105,8 @@ lettered bytes = lettered_after none bytes
 pub letters-left : {what : Category} {p : Tree} {us r : List Token} → Derives what p us r → Lettered us → Lettered r
 letters-left a-nothing l = l
 letters-left a-pause l = l
-letters-left an_emit_lem l = l.1
-letters-left an_exit_lem l = l.1
+letters-left an-emit l = l.1
+letters-left an-exit l = l.1
 letters-left (a-signal d) l = letters-left d l.1
 letters-left (a-trap d) l = letters-left d l.1
 letters-left (a-loop d) l = letters-left d l
@@ -117,8 +117,8 @@ letters-left (an_else d) l = letters-left d l.1
 letters-left (a_bracket d) l = letters-left d l
 letters-left a-halt l = l
 letters-left a-sustain l = l.1
-letters-left an_await_lem l = l.1
-letters-left (an_abort_lem d) l = (letters-left d l).1
+letters-left an-await l = l.1
+letters-left (an-abort d) l = (letters-left d l).1
 letters-left (a_weak_abort d) l = (letters-left d l).1
 letters-left (a-single d) l = letters-left d l
 letters-left (a-sequence d e) l = letters-left e (letters-left d l)

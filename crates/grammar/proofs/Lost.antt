@@ -11,7 +11,7 @@ use Rattle.esterel.specs.Limits.{signals as max_signals}
 use Rattle.grammar.specs.Tokens.{Token, opening, mark, name, foreign, stray, exit}
 use Rattle.grammar.specs.Tree.{Tree, Name}
 use Rattle.grammar.specs.Kernel.{added, expand}
-use Rattle.grammar.specs.Grammar.{Category, Derives, a-nothing, a-pause, an_emit_lem, an_exit_lem, a-signal, a-trap, a-loop, a-suspend, a_then_else, a-then, an_else, a_bracket, a-halt, a-sustain, an_await_lem, an_abort_lem, a_weak_abort, a-single, a-sequence, a_pair, a-branch, Program}
+use Rattle.grammar.specs.Grammar.{Category, Derives, a-nothing, a-pause, an-emit, an-exit, a-signal, a-trap, a-loop, a-suspend, a_then_else, a-then, an_else, a_bracket, a-halt, a-sustain, an-await, an-abort, a_weak_abort, a-single, a-sequence, a_pair, a-branch, Program}
 use Rattle.grammar.specs.Names.{has, see}
 use Rattle.grammar.specs.Faults.{lost_from, crowded_from, opens_signal, marks_signal}
 use Rattle.grammar.specs.Meaning.{signals, untrapped}
@@ -39,8 +39,8 @@ front (further {t = t} x) = let (before, e) = front x in (t ∷ before, ap (λ (
 left : {what : Category} {p : Tree} {us r : List Token} → Derives what p us r → Tail us r
 left a-nothing = further here
 left a-pause = further here
-left an_emit_lem = further (further here)
-left an_exit_lem = further (further here)
+left an-emit = further (further here)
+left an-exit = further (further here)
 left (a-signal d) = further (further (further (after (left d))))
 left (a-trap d) = further (further (further (after (left d))))
 left (a-loop d) = further (after (left d))
@@ -51,8 +51,8 @@ left (an_else d) = further (further (further (after (left d))))
 left (a_bracket d) = further (after (left d))
 left a-halt = further here
 left a-sustain = further (further here)
-left an_await_lem = further (further here)
-left (an_abort_lem d) = further (after (after (after (left d))))
+left an-await = further (further here)
+left (an-abort d) = further (after (after (after (left d))))
 left (a_weak_abort d) = further (further (after (after (after (left d)))))
 left (a-single d) = left d
 left (a-sequence d e) = onwards (after (left d)) (left e)
@@ -81,8 +81,8 @@ own ts = rw (lt-ltb 0 (suc (length ts)) (omega arith))
 find : {what : Category} {p : Tree} {us r : List Token} (d : Derives what p us r) (ts : List Name) (later : List Token) → Found us later (untrapped ts (expand p)) (lost_from ts d later)
 find a-nothing ts later = nowhere refl refl
 find a-pause ts later = nowhere refl refl
-find an_emit_lem ts later = nowhere refl refl
-find (an_exit_lem {t = t} {r = r}) ts later = go (has ts t)
+find an-emit ts later = nowhere refl refl
+find (an-exit {t = t} {r = r}) ts later = go (has ts t)
   where
     go : (b : Bool) → Found (opening exit ∷ name t ∷ r) later (not b) (cond b later (name t ∷ r))
     go true = nowhere refl refl
@@ -97,8 +97,8 @@ find (an_else d) ts later = within (further (further (further here))) (find d ts
 find (a_bracket d) ts later = within (further here) (find d ts later)
 find a-halt ts later = nowhere refl refl
 find a-sustain ts later = nowhere refl refl
-find an_await_lem ts later = nowhere (rw (own ts)) refl
-find (an_abort_lem d) ts later = within (further here) (join here (join here (find d (added ∷ ts) later) (nowhere (own ts) refl)) (nowhere (rw (own ts)) refl))
+find an-await ts later = nowhere (rw (own ts)) refl
+find (an-abort d) ts later = within (further here) (join here (join here (find d (added ∷ ts) later) (nowhere (own ts) refl)) (nowhere (rw (own ts)) refl))
 find (a_weak_abort d) ts later = within (further (further here)) (join here (join here (find d (added ∷ ts) later) (nowhere (own ts) refl)) (nowhere (rw (own ts)) refl))
 find (a-single d) ts later = find d ts later
 find (a-sequence d e) ts later = join (after (left d)) (find d ts (lost_from ts e later)) (find e ts later)

@@ -6,7 +6,7 @@ use lib.ListN.{length}
 use borrow.Author.Tests.{lt-ltb}
 use Rattle.grammar.specs.Tokens.{Token}
 use Rattle.grammar.specs.Tree.{Tree, Name}
-use Rattle.grammar.specs.Grammar.{Category, Derives, a-nothing, a-pause, an_emit_lem, an_exit_lem, a-signal, a-trap, a-loop, a-suspend, a_then_else, a-then, an_else, a_bracket, a-halt, a-sustain, an_await_lem, an_abort_lem, a_weak_abort, a-single, a-sequence, a_pair, a-branch}
+use Rattle.grammar.specs.Grammar.{Category, Derives, a-nothing, a-pause, an-emit, an-exit, a-signal, a-trap, a-loop, a-suspend, a_then_else, a-then, an_else, a_bracket, a-halt, a-sustain, an-await, an-abort, a_weak_abort, a-single, a-sequence, a_pair, a-branch}
 use Rattle.grammar.specs.Kernel.{expand}
 use Rattle.grammar.specs.Names.{place, see}
 use Rattle.grammar.specs.Meaning.{signals_from}
@@ -21,8 +21,8 @@ seen-again ns s = rw (lt-ltb (place (see ns s) s) (length (see ns s)) (see-has n
 in_order : {w : Category} {p : Tree} {ts r : List Token} → Derives w p ts r → (ns : List Name) → see_all ns (signal_names false ts) ≡ see_all (signals_from ns (expand p)) (signal_names false r)
 in_order a-nothing ns = refl
 in_order a-pause ns = refl
-in_order an_emit_lem ns = refl
-in_order an_exit_lem ns = refl
+in_order an-emit ns = refl
+in_order an-exit ns = refl
 in_order (a-signal d) ns = in_order d _
 in_order (a-trap d) ns = in_order d ns
 in_order (a-loop d) ns = in_order d ns
@@ -33,8 +33,8 @@ in_order (an_else d) ns = in_order d _
 in_order (a_bracket d) ns = in_order d ns
 in_order a-halt ns = refl
 in_order a-sustain ns = refl
-in_order an_await_lem ns = refl
-in_order (an_abort_lem {s = s} {p = p} {r = r} d) ns = in_order d ns ∙ ap (λ (l : List Name). see_all l (signal_names false r)) (sym (seen-again (signals_from ns (expand p)) s))
+in_order an-await ns = refl
+in_order (an-abort {s = s} {p = p} {r = r} d) ns = in_order d ns ∙ ap (λ (l : List Name). see_all l (signal_names false r)) (sym (seen-again (signals_from ns (expand p)) s))
 in_order (a_weak_abort d) ns = in_order d ns
 in_order (a-single d) ns = in_order d ns
 in_order (a-sequence d e) ns = in_order d ns ∙ in_order e _

@@ -11,7 +11,7 @@ use Rattle.grammar.specs.Tokens.{Token}
 use Rattle.grammar.specs.Tree as T
 use Rattle.grammar.specs.Tree.{Tree, Name}
 use Rattle.grammar.specs.Kernel.{Kernel, leaf, one, two, expand}
-use Rattle.grammar.specs.Grammar.{Category, statement, sequence, branches, Derives, a-nothing, a-pause, an_emit_lem, an_exit_lem, a-signal, a-trap, a-loop, a-suspend, a_then_else, a-then, an_else, a_bracket, a-halt, a-sustain, an_await_lem, an_abort_lem, a_weak_abort, a-single, a-sequence, a_pair, a-branch}
+use Rattle.grammar.specs.Grammar.{Category, statement, sequence, branches, Derives, a-nothing, a-pause, an-emit, an-exit, a-signal, a-trap, a-loop, a-suspend, a_then_else, a-then, an_else, a_bracket, a-halt, a-sustain, an-await, an-abort, a_weak_abort, a-single, a-sequence, a_pair, a-branch}
 use Rattle.grammar.specs.Names.{place, has, see}
 use Rattle.grammar.specs.Meaning.{signals_from, untrapped, resolve}
 use Rattle.grammar.specs.Printing.{NoSequence, Flat, met, met_in, Ordered, Trapped}
@@ -26,8 +26,8 @@ FlatAs branches p = Flat p × NoSequence p
 pub flat : {w : Category} {p : Tree} {ts r : List Token} → Derives w p ts r → (ns us : List Name) → FlatAs w (resolve ns us (expand p))
 flat a-nothing ns us = (tt, tt)
 flat a-pause ns us = (tt, tt)
-flat an_emit_lem ns us = (tt, tt)
-flat an_exit_lem ns us = (tt, tt)
+flat an-emit ns us = (tt, tt)
+flat an-exit ns us = (tt, tt)
 flat (a-signal d) ns us = (flat d ns us, tt)
 flat (a-trap d) ns us = (flat d ns _, tt)
 flat (a-loop d) ns us = (flat d ns us, tt)
@@ -38,8 +38,8 @@ flat (an_else d) ns us = ((tt, flat d ns us), tt)
 flat (a_bracket d) ns us = flat d ns us
 flat a-halt ns us = (tt, tt)
 flat a-sustain ns us = ((tt, tt, tt), tt)
-flat an_await_lem ns us = ((tt, (tt, tt), tt), tt)
-flat (an_abort_lem d) ns us = (((flat d ns _, tt, tt), (tt, (tt, tt), tt)), tt)
+flat an-await ns us = ((tt, (tt, tt), tt), tt)
+flat (an-abort d) ns us = (((flat d ns _, tt, tt), (tt, (tt, tt), tt)), tt)
 flat (a_weak_abort d) ns us = (((flat d ns _, tt, tt), (tt, (tt, tt), tt)), tt)
 flat (a-single d) ns us = (flat d ns us).0
 flat (a-sequence d e) ns us = (flat d ns us, (flat e ns us).0, (flat e ns us).1)

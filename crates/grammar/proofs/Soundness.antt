@@ -6,7 +6,7 @@ use native.Mathlib.Omega.{arith}
 use Rattle.grammar.specs.Tokens.{Token, opening, mark, name, stray, foreign, Opening, Mark, nothing, pause, emit, exit, signal, trap, loop, present, suspend, bracket, halt, sustain, await, abort, weak, semicolon, bars, close, in-mark, then, else, end, when}
 use Rattle.grammar.specs.Tree as T
 use Rattle.grammar.specs.Tree.{Tree, Name, Strength, leaf, one}
-use Rattle.grammar.specs.Grammar.{statement, sequence, branches, Derives, a-nothing, a-pause, an_emit_lem, an_exit_lem, a-signal, a-trap, a-loop, a-suspend, a_then_else, a-then, an_else, a-halt, a-sustain, an_await_lem, an_abort_lem, a_weak_abort, a_bracket, a-single, a-sequence, a_pair, a-branch, Program}
+use Rattle.grammar.specs.Grammar.{statement, sequence, branches, Derives, a-nothing, a-pause, an-emit, an-exit, a-signal, a-trap, a-loop, a-suspend, a_then_else, a-then, an_else, a-halt, a-sustain, an-await, an-abort, a_weak_abort, a_bracket, a-single, a-sequence, a_pair, a-branch, Program}
 use Rattle.grammar.specs.Machine.{Before, alone, after, join, Open, top, within, Frame, branch, body, then_branch, else_branch, suspended, aborted, Wanting, an_emit, an_exit, a_signal, a_trap, a_present, a_suspend, a_sustain, an_await, an_abort, State, expect, have, want_name, want_in, want_branch, want_end, want_abort, at_abort, at_abort_end, Next, to, no_way, next, begin, named, go_on, at_bars, at_close, at_else, at_end, at_when, at_in, at_branch, Outcome, accepted, stuck, finish, take_step, run, parse}
 
 -- from ts to r stands the sequence before, with its semicolon
@@ -30,10 +30,10 @@ data Heads : Frame → List Token → List Token → Type 0 where
   in_body_lem : {u : T.Unary} {ts r : List Token} → Header u ts (mark in-mark ∷ r) → Heads (body u) ts r
   in_loop : {r : List Token} → Heads (body T.loop) (opening loop ∷ r) r
   in_then : {s : Name} {r : List Token} → Heads (then_branch s) (opening present ∷ name s ∷ mark then ∷ r) r
-  in_else_lem : {s : Name} {p : Tree} {ts r : List Token} → Derives sequence p ts (mark else ∷ r) → Heads (else_branch s p) (opening present ∷ name s ∷ mark then ∷ ts) r
+  in-else : {s : Name} {p : Tree} {ts r : List Token} → Derives sequence p ts (mark else ∷ r) → Heads (else_branch s p) (opening present ∷ name s ∷ mark then ∷ ts) r
   only_else : {s : Name} {r : List Token} → Heads (else_branch s (leaf T.nothing)) (opening present ∷ name s ∷ mark else ∷ r) r
-  in_suspend_lem : {r : List Token} → Heads suspended (opening suspend ∷ r) r
-  in_abort_lem : {w : Strength} {ts r : List Token} → Aborts w ts r → Heads (aborted w) ts r
+  in-suspend : {r : List Token} → Heads suspended (opening suspend ∷ r) r
+  in-abort : {w : Strength} {ts r : List Token} → Aborts w ts r → Heads (aborted w) ts r
 
 data Wants : Wanting → List Token → List Token → Type 0 where
   w-emit : {r : List Token} → Wants an_emit (opening emit ∷ r) r
@@ -76,23 +76,23 @@ begins signal o s = wants-name o s w-signal
 begins trap o s = wants-name o s w-trap
 begins loop o s = expects (inside o s in_loop) start
 begins present o s = wants-name o s w-present
-begins suspend o s = expects (inside o s in_suspend_lem) start
+begins suspend o s = expects (inside o s in-suspend) start
 begins halt o s = joins o s a-halt
 begins sustain o s = wants-name o s w-sustain
 begins await o s = wants-name o s w-await
-begins abort o s = expects (inside o s (in_abort_lem plain-abort)) start
+begins abort o s = expects (inside o s (in-abort plain-abort)) start
 begins weak o s = wants-abort o s
 begins bracket o s = expects (inside o s first-branch) start
 
 names : {w : Wanting} (n : Name) {b : Before} {k : Open} {ts us vs r : List Token} → Opened k ts us → Sofar b us vs → Wants w vs (name n ∷ r) → Reached (named w n b k) ts r
-names n o s w-emit = joins o s an_emit_lem
-names n o s w-exit = joins o s an_exit_lem
+names n o s w-emit = joins o s an-emit
+names n o s w-exit = joins o s an-exit
 names n o s w-signal = wants_in o s h_signal
 names n o s w-trap = wants_in o s h_trap
 names n o s w-present = wants-branch o s
 names n o s (w-suspend d) = joins o s (a-suspend d)
 names n o s w-sustain = joins o s a-sustain
-names n o s w-await = joins o s an_await_lem
+names n o s w-await = joins o s an-await
 names n o s (w-abort a d) = wants-end o s (ending a d)
 
 -- a state that was reached leads on to what can be reached
@@ -107,10 +107,10 @@ bars-step o s (later-branch e) d = goes (expects (inside o s (later-branch (a-br
 bars-step o s (in_body_lem h) d = ends
 bars-step o s in_loop d = ends
 bars-step o s in_then d = ends
-bars-step o s (in_else_lem e) d = ends
+bars-step o s (in-else e) d = ends
 bars-step o s only_else d = ends
-bars-step o s in_suspend_lem d = ends
-bars-step o s (in_abort_lem a) d = ends
+bars-step o s in-suspend d = ends
+bars-step o s (in-abort a) d = ends
 
 close-step : {p : Tree} {f : Frame} {b : Before} {k : Open} {ts us vs ws r : List Token} → Opened k ts us → Sofar b us vs → Heads f vs ws → Derives sequence p ws (mark close ∷ r) → Goes ts r (at_close p (within f b k))
 close-step o s first-branch d = ends
@@ -119,10 +119,10 @@ close-step o s (later-branch e) d = goes (joins o s (a_bracket (a-branch e d)))
 close-step o s (in_body_lem h) d = ends
 close-step o s in_loop d = ends
 close-step o s in_then d = ends
-close-step o s (in_else_lem e) d = ends
+close-step o s (in-else e) d = ends
 close-step o s only_else d = ends
-close-step o s in_suspend_lem d = ends
-close-step o s (in_abort_lem a) d = ends
+close-step o s in-suspend d = ends
+close-step o s (in-abort a) d = ends
 
 else_step : {p : Tree} {f : Frame} {b : Before} {k : Open} {ts us vs ws r : List Token} → Opened k ts us → Sofar b us vs → Heads f vs ws → Derives sequence p ws (mark else ∷ r) → Goes ts r (at_else p (within f b k))
 else_step o s first-branch d = ends
@@ -130,11 +130,11 @@ else_step o s (second-branch e) d = ends
 else_step o s (later-branch e) d = ends
 else_step o s (in_body_lem h) d = ends
 else_step o s in_loop d = ends
-else_step o s in_then d = goes (expects (inside o s (in_else_lem d)) start)
-else_step o s (in_else_lem e) d = ends
+else_step o s in_then d = goes (expects (inside o s (in-else d)) start)
+else_step o s (in-else e) d = ends
 else_step o s only_else d = ends
-else_step o s in_suspend_lem d = ends
-else_step o s (in_abort_lem a) d = ends
+else_step o s in-suspend d = ends
+else_step o s (in-abort a) d = ends
 
 body_end : {p : Tree} {u : T.Unary} {ts us r : List Token} → Header u ts (mark in-mark ∷ us) → Derives sequence p us (mark end ∷ r) → Derives statement (one u p) ts r
 body_end h_signal d = a-signal d
@@ -147,10 +147,10 @@ end_step o s (later-branch e) d = ends
 end_step o s (in_body_lem h) d = goes (joins o s (body_end h d))
 end_step o s in_loop d = goes (joins o s (a-loop d))
 end_step o s in_then d = goes (joins o s (a-then d))
-end_step o s (in_else_lem e) d = goes (joins o s (a_then_else e d))
+end_step o s (in-else e) d = goes (joins o s (a_then_else e d))
 end_step o s only_else d = goes (joins o s (an_else d))
-end_step o s in_suspend_lem d = ends
-end_step o s (in_abort_lem a) d = ends
+end_step o s in-suspend d = ends
+end_step o s (in-abort a) d = ends
 
 when_step : {p : Tree} {f : Frame} {b : Before} {k : Open} {ts us vs ws r : List Token} → Opened k ts us → Sofar b us vs → Heads f vs ws → Derives sequence p ws (mark when ∷ r) → Goes ts r (at_when p (within f b k))
 when_step o s first-branch d = ends
@@ -159,10 +159,10 @@ when_step o s (later-branch e) d = ends
 when_step o s (in_body_lem h) d = ends
 when_step o s in_loop d = ends
 when_step o s in_then d = ends
-when_step o s (in_else_lem e) d = ends
+when_step o s (in-else e) d = ends
 when_step o s only_else d = ends
-when_step o s in_suspend_lem d = goes (wants-name o s (w-suspend d))
-when_step o s (in_abort_lem a) d = goes (wants-name o s (w-abort a d))
+when_step o s in-suspend d = goes (wants-name o s (w-suspend d))
+when_step o s (in-abort a) d = goes (wants-name o s (w-abort a d))
 
 go_on_lem : (m : Mark) {p : Tree} {k : Open} {ts us r : List Token} → Opened k ts us → Derives sequence p us (mark m ∷ r) → Goes ts r (go_on m p k)
 go_on_lem semicolon o d = goes (expects o (follows d))
@@ -200,7 +200,7 @@ branch-step end o s = ends
 branch-step when o s = ends
 
 abort-ends : {w : Strength} {s : Name} {p : Tree} {ts us r : List Token} → Aborts w ts us → Derives sequence p us (mark when ∷ name s ∷ mark end ∷ r) → Derives statement (T.abort w s p) ts r
-abort-ends plain-abort d = an_abort_lem d
+abort-ends plain-abort d = an-abort d
 abort-ends weak_abort d = a_weak_abort d
 
 ended : {p : Tree} {ts r : List Token} → Ending p ts (mark end ∷ r) → Derives statement p ts r
@@ -231,7 +231,7 @@ abort-step halt o s = ends
 abort-step sustain o s = ends
 abort-step await o s = ends
 abort-step weak o s = ends
-abort-step abort o s = goes (expects (inside o s (in_abort_lem weak_abort)) start)
+abort-step abort o s = goes (expects (inside o s (in-abort weak_abort)) start)
 
 steps : (t : Token) {s : State} {ts r : List Token} → Reached s ts (t ∷ r) → Goes ts r (next s t)
 steps (opening x) (expects o s) = goes (begins x o s)

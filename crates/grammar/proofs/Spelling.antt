@@ -13,7 +13,7 @@ use Rattle.grammar.specs.Tokens.{Token, opening, mark, name, foreign, stray, Ope
 use Rattle.grammar.specs.Tree.{Tree, leaf, one, two}
 use Rattle.grammar.specs.Kernel as K
 use Rattle.grammar.specs.Kernel.{Kernel, expand}
-use Rattle.grammar.specs.Grammar.{Derives, statement, sequence, a-nothing, a-pause, an_emit_lem, an_exit_lem, a-signal, a-trap, a-loop, a-suspend, a_then_else, a_bracket, a-single, a-sequence, a_pair}
+use Rattle.grammar.specs.Grammar.{Derives, statement, sequence, a-nothing, a-pause, an-emit, an-exit, a-signal, a-trap, a-loop, a-suspend, a_then_else, a_bracket, a-single, a-sequence, a_pair}
 use Rattle.grammar.specs.Printing.{letter, name_of, named, print, spell_opening, spell_mark, spell, NoSequence, Flat}
 
 -- the bytes of a name
@@ -123,8 +123,8 @@ as_single s = record { whole = a-single s; single = λ h. s }
 pub derivation : (d : ℕ) (p : Stmt) → Flat p → (r : List Token) → Printed d p r
 derivation d (S.leaf S.nothing) f r = record { whole = a-single a-nothing; single = λ h. a-nothing }
 derivation d (S.leaf S.pause) f r = record { whole = a-single a-pause; single = λ h. a-pause }
-derivation d (S.leaf (S.emit s)) f r = record { whole = a-single an_emit_lem; single = λ h. an_emit_lem }
-derivation d (S.leaf (S.exit level)) f r = record { whole = a-single an_exit_lem; single = λ h. an_exit_lem }
+derivation d (S.leaf (S.emit s)) f r = record { whole = a-single an-emit; single = λ h. an-emit }
+derivation d (S.leaf (S.exit level)) f r = record { whole = a-single an-exit; single = λ h. an-exit }
 derivation d (S.one (S.signal s) p) f r = let a = a-signal (derivation d p f _).whole in record { whole = a-single a; single = λ h. a }
 derivation d (S.one (S.suspend s) p) f r = let a = a-suspend (derivation d p f _).whole in record { whole = a-single a; single = λ h. a }
 derivation d (S.one S.loop p) f r = let a = a-loop (derivation d p f _).whole in record { whole = a-single a; single = λ h. a }

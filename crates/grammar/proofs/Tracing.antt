@@ -4,7 +4,7 @@ use mathlib.Core.Path.{◌≡◌, refl, ap, ◌∙◌}
 use mathlib.Core.List.{List, [], ◌∷◌}
 use Rattle.grammar.specs.Tokens.{Token, opening, mark, name, foreign, stray, Opening, Mark, nothing, pause, emit, exit, signal, trap, loop, present, suspend, bracket, halt, sustain, await, abort, weak, semicolon, bars, close, in-mark, then, else, end, when}
 use Rattle.grammar.specs.Tree.{Tree}
-use Rattle.grammar.specs.Grammar.{Category, statement, sequence, branches, Derives, a-nothing, a-pause, an_emit_lem, an_exit_lem, a-signal, a-trap, a-loop, a-suspend, a_then_else, a-then, an_else, a_bracket, a-halt, a-sustain, an_await_lem, an_abort_lem, a_weak_abort, a-single, a-sequence, a_pair, a-branch, Production, of-nothing, of-pause, of-emit, of_exit, of-signal, of-trap, of-loop, of-suspend, of-then-else, of-then, of-else, of-bracket, of-halt, of-sustain, of-await, of-abort, of-weak-abort, of-single, of-sequence, of_pair, of-branch, productions}
+use Rattle.grammar.specs.Grammar.{Category, statement, sequence, branches, Derives, a-nothing, a-pause, an-emit, an-exit, a-signal, a-trap, a-loop, a-suspend, a_then_else, a-then, an_else, a_bracket, a-halt, a-sustain, an-await, an-abort, a_weak_abort, a-single, a-sequence, a_pair, a-branch, Production, of-nothing, of-pause, of-emit, of_exit, of-signal, of-trap, of-loop, of-suspend, of-then-else, of-then, of-else, of-bracket, of-halt, of-sustain, of-await, of-abort, of-weak-abort, of-single, of-sequence, of_pair, of-branch, productions}
 
 -- whether a statement is the first of its sequence, and what is told of the sequence when it is over
 pub data Place : Type 0 where
@@ -243,8 +243,8 @@ Traced branches told ts r = (b : Place) (k : Stack) → Closes r → trace (expe
 pub traced : {what : Category} {p : Tree} {ts r : List Token} (d : Derives what p ts r) → Traced what (productions d) ts r
 traced a-nothing = λ b k. refl
 traced a-pause = λ b k. refl
-traced an_emit_lem = λ b k. refl
-traced an_exit_lem = λ b k. refl
+traced an-emit = λ b k. refl
+traced an-exit = λ b k. refl
 traced (a-signal d) = λ b k. traced d (within (in_body of-signal) b k)
 traced (a-trap d) = λ b k. traced d (within (in_body of-trap) b k)
 traced (a-loop d) = λ b k. traced d (within (in_body of-loop) b k)
@@ -255,8 +255,8 @@ traced (an_else d) = λ b k. traced d (within (in_else of-else) b k)
 traced (a_bracket d) = λ b k. traced d b k by-close
 traced a-halt = λ b k. refl
 traced a-sustain = λ b k. refl
-traced an_await_lem = λ b k. refl
-traced (an_abort_lem d) = λ b k. traced d (within (in_abort of-abort) b k)
+traced an-await = λ b k. refl
+traced (an-abort d) = λ b k. traced d (within (in_abort of-abort) b k)
 traced (a_weak_abort d) = λ b k. traced d (within (in_abort of-weak-abort) b k)
 traced (a-single d) = λ k. traced d first k
 traced (a-sequence d e) = λ k. traced d k ∙ ap (productions d) (traced e later k)

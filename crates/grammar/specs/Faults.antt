@@ -4,7 +4,7 @@ use Rattle.esterel.specs.Limits.{signals as max_signals}
 use Rattle.grammar.specs.Tokens.{Token, opening, mark, name, foreign, stray, Opening, Mark, nothing, pause, emit, exit, signal, trap, loop, present, suspend, bracket, halt, sustain, await, abort, weak, semicolon, bars, close, in-mark, then, else, end, when}
 use Rattle.grammar.specs.Tree.{Tree, Name}
 use Rattle.grammar.specs.Kernel.{added}
-use Rattle.grammar.specs.Grammar.{Category, Derives, a-nothing, a-pause, an_emit_lem, an_exit_lem, a-signal, a-trap, a-loop, a-suspend, a_then_else, a-then, an_else, a_bracket, a-halt, a-sustain, an_await_lem, an_abort_lem, a_weak_abort, a-single, a-sequence, a_pair, a-branch, Program}
+use Rattle.grammar.specs.Grammar.{Category, Derives, a-nothing, a-pause, an-emit, an-exit, a-signal, a-trap, a-loop, a-suspend, a_then_else, a-then, an_else, a_bracket, a-halt, a-sustain, an-await, an-abort, a_weak_abort, a-single, a-sequence, a_pair, a-branch, Program}
 use Rattle.grammar.specs.Names.{has, see}
 
 -- tokens can go on to a text of the grammar: some tokens complete them
@@ -33,8 +33,8 @@ number_of_fault (stray ∷ us) = 14
 abbrev pub lost_from : {what : Category} {p : Tree} {us r : List Token} → List Name → Derives what p us r → List Token → List Token
 lost_from ts a-nothing later = later
 lost_from ts a-pause later = later
-lost_from ts an_emit_lem later = later
-lost_from ts (an_exit_lem {t = t} {r = r}) later = cond (has ts t) later (name t ∷ r)
+lost_from ts an-emit later = later
+lost_from ts (an-exit {t = t} {r = r}) later = cond (has ts t) later (name t ∷ r)
 lost_from ts (a-signal d) later = lost_from ts d later
 lost_from ts (a-trap {t = t} d) later = lost_from (t ∷ ts) d later
 lost_from ts (a-loop d) later = lost_from ts d later
@@ -45,8 +45,8 @@ lost_from ts (an_else d) later = lost_from ts d later
 lost_from ts (a_bracket d) later = lost_from ts d later
 lost_from ts a-halt later = later
 lost_from ts a-sustain later = later
-lost_from ts an_await_lem later = later
-lost_from ts (an_abort_lem d) later = lost_from (added ∷ ts) d later
+lost_from ts an-await later = later
+lost_from ts (an-abort d) later = lost_from (added ∷ ts) d later
 lost_from ts (a_weak_abort d) later = lost_from (added ∷ ts) d later
 lost_from ts (a-single d) later = lost_from ts d later
 lost_from ts (a-sequence d e) later = lost_from ts d (lost_from ts e later)

@@ -22,8 +22,8 @@ pub data Category : Type 0 where
 pub data Derives : Category → Tree → List Token → List Token → Type 0 where
   a-nothing : {r : List Token} → Derives statement (leaf T.nothing) (opening nothing ∷ r) r
   a-pause : {r : List Token} → Derives statement (leaf T.pause) (opening pause ∷ r) r
-  an_emit_lem : {s : Name} {r : List Token} → Derives statement (leaf (T.emit s)) (opening emit ∷ name s ∷ r) r
-  an_exit_lem : {t : Name} {r : List Token} → Derives statement (leaf (T.exit t)) (opening exit ∷ name t ∷ r) r
+  an-emit : {s : Name} {r : List Token} → Derives statement (leaf (T.emit s)) (opening emit ∷ name s ∷ r) r
+  an-exit : {t : Name} {r : List Token} → Derives statement (leaf (T.exit t)) (opening exit ∷ name t ∷ r) r
   a-signal : {s : Name} {p : Tree} {ts r : List Token} →
       Derives sequence p ts (mark end ∷ r) →
       Derives statement (one (T.signal s) p) (opening signal ∷ name s ∷ mark in-mark ∷ ts) r
@@ -50,8 +50,8 @@ pub data Derives : Category → Tree → List Token → List Token → Type 0 wh
       Derives statement p (opening bracket ∷ ts) r
   a-halt : {r : List Token} → Derives statement T.halt (opening halt ∷ r) r
   a-sustain : {s : Name} {r : List Token} → Derives statement (T.sustain s) (opening sustain ∷ name s ∷ r) r
-  an_await_lem : {s : Name} {r : List Token} → Derives statement (T.await s) (opening await ∷ name s ∷ r) r
-  an_abort_lem : {s : Name} {p : Tree} {ts r : List Token} →
+  an-await : {s : Name} {r : List Token} → Derives statement (T.await s) (opening await ∷ name s ∷ r) r
+  an-abort : {s : Name} {p : Tree} {ts r : List Token} →
       Derives sequence p ts (mark when ∷ name s ∷ mark end ∷ r) →
       Derives statement (T.abort T.strong s p) (opening abort ∷ ts) r
   a_weak_abort : {s : Name} {p : Tree} {ts r : List Token} →
@@ -83,8 +83,8 @@ pub data Production : Type 0 where
 abbrev pub productions : {what : Category} {p : Tree} {ts r : List Token} → Derives what p ts r → List Production → List Production
 productions a-nothing more = of-nothing ∷ more
 productions a-pause more = of-pause ∷ more
-productions an_emit_lem more = of-emit ∷ more
-productions an_exit_lem more = of_exit ∷ more
+productions an-emit more = of-emit ∷ more
+productions an-exit more = of_exit ∷ more
 productions (a-signal d) more = productions d (of-signal ∷ more)
 productions (a-trap d) more = productions d (of-trap ∷ more)
 productions (a-loop d) more = productions d (of-loop ∷ more)
@@ -95,8 +95,8 @@ productions (an_else d) more = productions d (of-else ∷ more)
 productions (a_bracket d) more = productions d (of-bracket ∷ more)
 productions a-halt more = of-halt ∷ more
 productions a-sustain more = of-sustain ∷ more
-productions an_await_lem more = of-await ∷ more
-productions (an_abort_lem d) more = productions d (of-abort ∷ more)
+productions an-await more = of-await ∷ more
+productions (an-abort d) more = productions d (of-abort ∷ more)
 productions (a_weak_abort d) more = productions d (of-weak-abort ∷ more)
 productions (a-single d) more = productions d (of-single ∷ more)
 productions (a-sequence d e) more = productions d (productions e (of-sequence ∷ more))

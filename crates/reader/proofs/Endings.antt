@@ -25,7 +25,7 @@ use Rattle.reader.specs.declared.Form.{Form}
 use Rattle.reader.specs.declared.Form.TheVariants.{Bracket, Body, Then, Else, Suspend, Abort}
 use Rattle.reader.specs.declared.Found.{Found}
 use Rattle.reader.specs.declared.Found.TheVariants.{Unread}
-use Rattle.reader.specs.Reading.{LeafOf, is-nothing, is-pause, is-emit, is-exit, is-halt, is-sustain, is-await, AbortOf, FrameOf, in_bracket, in_signal, in_loop, in_trap, in_then, in_else_lem, in_suspend_lem, in_abort_lem, RestIs, RestRead, Plain, PlainEnd, end_of}
+use Rattle.reader.specs.Reading.{LeafOf, is-nothing, is-pause, is-emit, is-exit, is-halt, is-sustain, is-await, AbortOf, FrameOf, in_bracket, in_signal, in_loop, in_trap, in_then, in-else, in-suspend, in-abort, RestIs, RestRead, Plain, PlainEnd, end_of}
 
 -- the frame of a form
 pub bracket_frame : {kind : ℕ} {s : Name} {f : Frame} → FrameOf Bracket kind s f → f ≡ branch alone
@@ -35,10 +35,10 @@ pub then-frame : {kind : ℕ} {s : Name} {f : Frame} → FrameOf Then kind s f �
 then-frame (in_then r) = refl
 
 else_frame : {kind : ℕ} {s : Name} {f : Frame} → FrameOf Else kind s f → f ≡ else_branch s (leaf T.nothing)
-else_frame (in_else_lem r) = refl
+else_frame (in-else r) = refl
 
 suspend-frame : {kind : ℕ} {s : Name} {f : Frame} → FrameOf Suspend kind s f → f ≡ suspended
-suspend-frame (in_suspend_lem k r) = refl
+suspend-frame (in-suspend k r) = refl
 
 pub record AbortFrame (kind : ℕ) (s : Name) (f : Frame) : Type 0 where
   pub strength : T.Strength
@@ -47,7 +47,7 @@ pub record AbortFrame (kind : ℕ) (s : Name) (f : Frame) : Type 0 where
   pub form : AbortOf kind strength
 
 abort-frame : {kind : ℕ} {s : Name} {f : Frame} → FrameOf Abort kind s f → AbortFrame kind s f
-abort-frame (in_abort_lem s e w) = record { strength = _; is = refl; nameless = e; form = w }
+abort-frame (in-abort s e w) = record { strength = _; is = refl; nameless = e; form = w }
 
 -- a leaf's node
 module _ (x : List ℕ) (t : List ℕ) (n : ℕ) (start stop : ℕ) where
@@ -144,9 +144,9 @@ module _ (x : List ℕ) (t : List ℕ) (n : ℕ) (start stop : ℕ) where
   none-enters form kind nb nt ne na f (in_loop r) v ts g h c = absurd (nb refl)
   none-enters form kind nb nt ne na f (in_trap r) v ts g h c = absurd (nb refl)
   none-enters form kind nb nt ne na f (in_then r) v ts g h c = absurd (nt refl)
-  none-enters form kind nb nt ne na f (in_else_lem r) v ts g h c = absurd (ne refl)
-  none-enters form kind nb nt ne na f (in_suspend_lem k r) v ts g h c = c
-  none-enters form kind nb nt ne na f (in_abort_lem r z w) v ts g h c = absurd (na refl)
+  none-enters form kind nb nt ne na f (in-else r) v ts g h c = absurd (ne refl)
+  none-enters form kind nb nt ne na f (in-suspend k r) v ts g h c = c
+  none-enters form kind nb nt ne na f (in-abort r z w) v ts g h c = absurd (na refl)
 
   pub abort-enters : {form : Form} {kind : ℕ} {t1 : List ℕ} → form ≡ Abort → ((k : ℕ) (ts : List Name) (g : Progress) → Part x start stop → length ts < max_levels → Filled x t k ts g → Filled x t1 k (s ∷ ts) g) → (f : Frame) → FrameOf form kind s f → Part x start stop → (ts : List Name) (g : Progress) → length ts < max_levels → Filled x t n ts g → Filled x t1 n (traps_within f ts) (past_open ts f g)
   abort-enters e a f i v ts g h c = go f (abort-frame (rw e at i)) (a n ts g v h c)
@@ -161,9 +161,9 @@ module _ (x : List ℕ) (t : List ℕ) (n : ℕ) (start stop : ℕ) where
   loop-ends e a form f (in_loop r) i v ts g c = a ts g c
   loop-ends e a form f (in_trap r) i v ts g c = absurd (omega arith)
   loop-ends e a form f (in_then r) i v ts g c = absurd i
-  loop-ends e a form f (in_else_lem r) i v ts g c = absurd (omega arith)
-  loop-ends e a form f (in_suspend_lem k r) i v ts g c = absurd i
-  loop-ends e a form f (in_abort_lem r z w) i v ts g c = absurd i
+  loop-ends e a form f (in-else r) i v ts g c = absurd (omega arith)
+  loop-ends e a form f (in-suspend k r) i v ts g c = absurd i
+  loop-ends e a form f (in-abort r z w) i v ts g c = absurd i
 
   pub trap-ends : {t1 t2 : List ℕ} {m kind : ℕ} → kind ≡ 11 → ((k : ℕ) (r : Name) (ts : List Name) (g : Progress) → Filled x t k (r ∷ ts) g → Filled x t1 k ts g) → Adds x t1 n t2 m (λ ts g. node 11 0 g) → (form : Form) (f : Frame) → FrameOf form kind s f → PlainEnd form → Part x start stop → (ts : List Name) (g : Progress) → Filled x t n (traps_within f ts) g → Filled x t2 m ts (end_of f g)
   trap-ends e a b form f (in_bracket k r) i v ts g c = absurd i
@@ -171,9 +171,9 @@ module _ (x : List ℕ) (t : List ℕ) (n : ℕ) (start stop : ℕ) where
   trap-ends e a b form f (in_loop r) i v ts g c = absurd (omega arith)
   trap-ends e a b form f (in_trap r) i v ts g c = b ts g (a n s ts g c)
   trap-ends e a b form f (in_then r) i v ts g c = absurd i
-  trap-ends e a b form f (in_else_lem r) i v ts g c = absurd (omega arith)
-  trap-ends e a b form f (in_suspend_lem k r) i v ts g c = absurd i
-  trap-ends e a b form f (in_abort_lem r z w) i v ts g c = absurd i
+  trap-ends e a b form f (in-else r) i v ts g c = absurd (omega arith)
+  trap-ends e a b form f (in-suspend k r) i v ts g c = absurd i
+  trap-ends e a b form f (in-abort r z w) i v ts g c = absurd i
 
   pub named-ends : {t1 : List ℕ} {m kind : ℕ} → (kind ≡ 8 → ⊥) → (kind ≡ 11 → ⊥) → (Part x start stop → Adds x t n t1 m (λ ts g. named kind s g)) → (form : Form) (f : Frame) → FrameOf form kind s f → PlainEnd form → Part x start stop → (ts : List Name) (g : Progress) → Filled x t n (traps_within f ts) g → Filled x t1 m ts (end_of f g)
   named-ends e d a form f (in_bracket k r) i v ts g c = absurd i
@@ -181,9 +181,9 @@ module _ (x : List ℕ) (t : List ℕ) (n : ℕ) (start stop : ℕ) where
   named-ends e d a form f (in_loop r) i v ts g c = absurd (e refl)
   named-ends e d a form f (in_trap r) i v ts g c = absurd (d refl)
   named-ends e d a form f (in_then r) i v ts g c = absurd i
-  named-ends e d a form f (in_else_lem r) i v ts g c = a v ts g c
-  named-ends e d a form f (in_suspend_lem k r) i v ts g c = absurd i
-  named-ends e d a form f (in_abort_lem r z w) i v ts g c = absurd i
+  named-ends e d a form f (in-else r) i v ts g c = a v ts g c
+  named-ends e d a form f (in-suspend k r) i v ts g c = absurd i
+  named-ends e d a form f (in-abort r z w) i v ts g c = absurd i
 
 module _ (x : List ℕ) (at : ℕ) (stops : Lacks x at (mark G.semicolon)) (t : List ℕ) (n : ℕ) where
   -- `end`
@@ -193,9 +193,9 @@ module _ (x : List ℕ) (at : ℕ) (stops : Lacks x at (mark G.semicolon)) (t : 
   no_end l form kind s f (in_loop r) i p b k = body_end p b k T.loop (rest x at) stops.first l.first
   no_end l form kind s f (in_trap r) i p b k = body_end p b k (T.trap r) (rest x at) stops.first l.first
   no_end l form kind s f (in_then r) i p b k = absurd i
-  no_end l form kind s f (in_else_lem r) i p b k = else_end p b k r (leaf T.nothing) (rest x at) stops.first l.first
-  no_end l form kind s f (in_suspend_lem m r) i p b k = absurd i
-  no_end l form kind s f (in_abort_lem r z w) i p b k = absurd i
+  no_end l form kind s f (in-else r) i p b k = else_end p b k r (leaf T.nothing) (rest x at) stops.first l.first
+  no_end l form kind s f (in-suspend m r) i p b k = absurd i
+  no_end l form kind s f (in-abort r z w) i p b k = absurd i
 
   pub end-missing : (depth : ℕ) → Lacks x at (mark G.end) → (form : Form) (kind : ℕ) (s : Name) (f : Frame) → FrameOf form kind s f → PlainEnd form → RestRead f x at depth t n t Unread
   end-missing depth l form kind s f i j p b k q h = absurd (refuses q (no_end l form kind s f i j p b k) h)
@@ -231,9 +231,9 @@ module _ (x : List ℕ) (at : ℕ) (stops : Lacks x at (mark G.semicolon)) (t : 
     end-closes form kind s f (in_loop r) i w = body_is T.loop w
     end-closes form kind s f (in_trap r) i w = body_is (T.trap r) w
     end-closes form kind s f (in_then r) i w = absurd i
-    end-closes form kind s f (in_else_lem r) i w = else_is r w
-    end-closes form kind s f (in_suspend_lem k r) i w = absurd i
-    end-closes form kind s f (in_abort_lem r y v) i w = absurd i
+    end-closes form kind s f (in-else r) i w = else_is r w
+    end-closes form kind s f (in-suspend k r) i w = absurd i
+    end-closes form kind s f (in-abort r y v) i w = absurd i
 
   -- `when`, a name and `end`
   pub abort_unfinished : (depth : ℕ) (w : T.Strength) → Lacks x at (mark G.when) → RestRead (aborted w) x at depth t n t Unread

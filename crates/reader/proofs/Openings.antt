@@ -24,7 +24,7 @@ use Rattle.reader.specs.declared.Opened.TheVariants.{Whole, Inside, Unopened}
 use Rattle.scan.specs.Scanning.{Lacks}
 use Rattle.sheet.specs.Sheet.{part, Part}
 use Rattle.sheet.proofs.Sheets.{empty-bounds, empty-part}
-use Rattle.reader.specs.Reading.{NoWay, LeafOf, is-nothing, is-pause, is-emit, is-exit, is-halt, is-sustain, is-await, NamedLeaf, an_emit_lem, an_exit_lem, a-sustain, an_await_lem, is_strong, is_weak, FrameOf, in_bracket, in_loop, in_then, in_else_lem, in_suspend_lem, in_abort_lem, LeafRead, Entered, OpenedFrom}
+use Rattle.reader.specs.Reading.{NoWay, LeafOf, is-nothing, is-pause, is-emit, is-exit, is-halt, is-sustain, is-await, NamedLeaf, an-emit, an-exit, a-sustain, an-await, is_strong, is_weak, FrameOf, in_bracket, in_loop, in_then, in-else, in-suspend, in-abort, LeafRead, Entered, OpenedFrom}
 use Rattle.grammar.proofs.Stops.{Without, wants-name, wants_in, wants-branch, wants-abort, refuses}
 
 -- one token that leads from the states s to the states s', before what follows
@@ -72,10 +72,10 @@ module _ {x : List ℕ} {at : ℕ} where
     }
 
     pub leaf-named : (kind : ℕ) (w : Wanting) → NamedLeaf kind w → LeafRead (want_name w) x at kind start e e
-    leaf-named kind w an_emit_lem = with_name an_emit (leaf (T.emit called)) 3 (is-emit called) (λ b k. refl)
-    leaf-named kind w an_exit_lem = with_name an_exit (leaf (T.exit called)) 4 (is-exit called) (λ b k. refl)
+    leaf-named kind w an-emit = with_name an_emit (leaf (T.emit called)) 3 (is-emit called) (λ b k. refl)
+    leaf-named kind w an-exit = with_name an_exit (leaf (T.exit called)) 4 (is-exit called) (λ b k. refl)
     leaf-named kind w a-sustain = with_name a_sustain (T.sustain called) 13 (is-sustain called) (λ b k. refl)
-    leaf-named kind w an_await_lem = with_name an_await (T.await called) 14 (is-await called) (λ b k. refl)
+    leaf-named kind w an-await = with_name an_await (T.await called) 14 (is-await called) (λ b k. refl)
 
     pub in_missing : (w : Wanting) (u : Name → T.Unary) → ((n : Name) (b : Before) (k : Open) (ts : List G.Token) → run (want_name w b k) (name n ∷ ts) ≡ run (want_in (u n) b k) ts) → Lacks x e (mark G.in-mark) → NoWay (want_name w) x at
     in_missing w u m h =
@@ -104,7 +104,7 @@ module _ {x : List ℕ} {at : ℕ} where
     pub else_entered : {f : ℕ} → Lexed x e f (mark G.else) → Entered (want_name a_present) x at Else 6 start e f
     else_entered l = record {
       frame = else_branch called (leaf T.nothing);
-      fits = in_else_lem called;
+      fits = in-else called;
       bounds = name-bounds;
       from = omega (arith, d.lexed.from, l.from);
       to = l.to;
@@ -149,18 +149,18 @@ module _ {x : List ℕ} {at : ℕ} where
     loop-entered d = inside-frame loop Body 8 (body T.loop) (in_loop (part x e e)) (λ b k. refl) d
 
     pub suspend-entered : Lexed x at e (opening suspend) → Entered expect x at Suspend 7 e e e
-    suspend-entered d = inside-frame suspend Suspend 7 suspended (in_suspend_lem 7 (part x e e)) (λ b k. refl) d
+    suspend-entered d = inside-frame suspend Suspend 7 suspended (in-suspend 7 (part x e e)) (λ b k. refl) d
 
     pub bracket_entered : Lexed x at e (opening bracket) → Entered expect x at Bracket 10 e e e
     bracket_entered d = inside-frame bracket Bracket 10 (branch alone) (in_bracket 10 (part x e e)) (λ b k. refl) d
 
     pub abort-entered : Lexed x at e (opening abort) → Entered expect x at Abort 15 e e e
-    abort-entered d = inside-frame abort Abort 15 (aborted T.strong) (in_abort_lem (part x e e) (empty-part x e) is_strong) (λ b k. refl) d
+    abort-entered d = inside-frame abort Abort 15 (aborted T.strong) (in-abort (part x e e) (empty-part x e) is_strong) (λ b k. refl) d
 
     pub weak_entered : Lexed x at e (opening abort) → Entered want_abort x at Abort 16 e e e
     weak_entered d = record {
       frame = aborted T.weak;
-      fits = in_abort_lem (part x e e) (empty-part x e) is_weak;
+      fits = in-abort (part x e e) (empty-part x e) is_weak;
       bounds = empty-bounds x e d.to;
       from = d.from;
       to = d.to;

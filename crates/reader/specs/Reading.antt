@@ -29,10 +29,10 @@ pub data LeafOf : ℕ → Name → Tree → Type 0 where
 
 -- those with names, and what their names are wanted for
 pub data NamedLeaf : ℕ → Wanting → Type 0 where
-  an_emit_lem : NamedLeaf 3 an_emit
-  an_exit_lem : NamedLeaf 4 an_exit
+  an-emit : NamedLeaf 3 an_emit
+  an-exit : NamedLeaf 4 an_exit
   a-sustain : NamedLeaf 13 a_sustain
-  an_await_lem : NamedLeaf 14 an_await
+  an-await : NamedLeaf 14 an_await
 
 -- the forms of abort
 pub data AbortOf : ℕ → T.Strength → Type 0 where
@@ -46,9 +46,9 @@ pub data FrameOf : Form → ℕ → Name → Frame → Type 0 where
   in_loop : (s : Name) → FrameOf Body 8 s (body T.loop)
   in_trap : (s : Name) → FrameOf Body 11 s (body (T.trap s))
   in_then : (s : Name) → FrameOf Then 6 s (then_branch s)
-  in_else_lem : (s : Name) → FrameOf Else 6 s (else_branch s (leaf T.nothing))
-  in_suspend_lem : (n : ℕ) (s : Name) → FrameOf Suspend n s suspended
-  in_abort_lem : {n : ℕ} {w : T.Strength} (s : Name) → s ≡ added → AbortOf n w → FrameOf Abort n s (aborted w)
+  in-else : (s : Name) → FrameOf Else 6 s (else_branch s (leaf T.nothing))
+  in-suspend : (n : ℕ) (s : Name) → FrameOf Suspend n s suspended
+  in-abort : {n : ℕ} {w : T.Strength} (s : Name) → s ≡ added → AbortOf n w → FrameOf Abort n s (aborted w)
 
 -- from the states s at a place the machine accepts nothing
 abbrev pub NoWay : (Before → Open → State) → List ℕ → ℕ → Type 0

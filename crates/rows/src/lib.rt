@@ -9,7 +9,7 @@ ghost use Rattle.table.specs.Kinds.{leaf_of, leaf_code};
 ghost use Rattle.table.specs.Program.{program_of};
 ghost use Rattle.table.specs.Columns.{stmt_at};
 ghost use Rattle.starts.specs.declared.Weight.TheVariants.{Answers, Entries};
-ghost use Rattle.starts.specs.Summary.{tested as tested_of, without_ended, followed as followedOf, caught as caught_of, weigh, weights, best};
+ghost use Rattle.starts.specs.Summary.{tested as tested_of, without_ended, followed as followed_of, caught as caught_of, weigh, weights, best};
 ghost use Rattle.rows.specs.Rows.{value_of, values_of, max_number, Gets, Picks, Joins, LowRow, Holds, Found};
 ghost use Rattle.rows.specs.Steps.{beside_at, IsInner, IsRow, UpIf};
 ghost use Rattle.rows.specs.Filled.{Formed, RowAt, Stored, RowsTo};
@@ -140,7 +140,7 @@ fn without_ended(weight: Weight, body: &[u16; 64], k: usize) -> u16
 // The first of a sequence, then the second if the first ends.
 fn followed(weight: Weight, first: &[u16; 64], second: &[u16; 64], k: usize) -> u16
     requires { LowRow max_number first.now × LowRow max_number second.now × (k < 64) }
-    ensures { Gets (followedOf (weights weight) (values_of first.now) (values_of second.now) k) result }
+    ensures { Gets (followed_of (weights weight) (values_of first.now) (values_of second.now) k) result }
 {
     let both = join(first[0], second[k]);
     if k == 0 {
