@@ -307,7 +307,7 @@ fn fill_contexts(table: &[u8], sets: &[u64], anys: &[u64], contexts: &mut [u64],
 }
 
 // The answer of checks 4 to 11, and the loop depth where they pass.
-#[derive(Drop)]
+#[derive(Clone, Copy)]
 pub struct Acceptance {
     pub check: Check,
     pub loops: usize,
@@ -385,7 +385,7 @@ pub fn check_sized(table: &[u8], room: bool, sizes: &mut [u16]) -> Check
 }
 
 // What an analysis answers: the number of nodes and the loop depth, or the number and the node of the refusal.
-#[derive(Drop)]
+#[derive(Clone, Copy)]
 pub enum Analysed {
     Done { nodes: usize, loops: usize },
     Refused { number: u8, node: usize },

@@ -344,7 +344,7 @@ fn join(
 }
 
 // A part of the file.
-#[derive(Drop)]
+#[derive(Clone, Copy)]
 pub struct Span {
     pub from: usize,
     pub length: usize,
@@ -385,7 +385,7 @@ pub fn part(file: &[u8], program: u16, edition: u16, number: u8) -> &[u8]
 }
 
 // What a fetch answers.
-#[derive(Drop)]
+#[derive(Clone, Copy)]
 pub enum Fetched {
     Done {
         length: usize,

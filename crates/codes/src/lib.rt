@@ -6,7 +6,7 @@ ghost use Rattle.codes.specs.Codes.{catch_code};
 ghost use Rattle.codes.specs.Words.{◌∋◌, singleton_of, union_of, without_ended_of, meets_of, lowest_of, highest_of, larger_of, parallel_of, caught_of, under_trap_of, under_parallel_of, span_of};
 
 // A code of a set, or that the set has none.
-#[derive(Drop)]
+#[derive(Clone, Copy)]
 pub enum Found {
     Code(u32),
     NoCode,

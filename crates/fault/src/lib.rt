@@ -24,7 +24,7 @@ use scan::{Mark, Opening, Token};
 
 // What a name that comes next belongs to, and so what comes after it: a statement that is whole with it, a body, a present, an
 // abort.
-#[derive(Drop)]
+#[derive(Clone, Copy)]
 pub enum Named {
     Leaf,
     Body,
@@ -34,7 +34,7 @@ pub enum Named {
 
 // What may come next: a statement; more after a sequence; a name; `in`; `then` or `else`; the `end` of an abort; the `abort`
 // after `weak`; or nothing at all.
-#[derive(Drop)]
+#[derive(Clone, Copy)]
 pub enum Mode {
     Statement,
     More,
@@ -47,7 +47,7 @@ pub enum Mode {
 }
 
 // What may come next, and how many statements are open.
-#[derive(Drop)]
+#[derive(Clone, Copy)]
 pub struct Walk {
     pub mode: Mode,
     pub height: usize,
@@ -72,7 +72,7 @@ const ABORTED: u8 = 6;
 const NONE: u8 = 7;
 
 // Whose name comes next: that of a trap, of an exit, or another.
-#[derive(Drop)]
+#[derive(Clone, Copy)]
 pub enum Wanted {
     NoName,
     TrapName,
@@ -80,14 +80,14 @@ pub enum Wanted {
 }
 
 // What became of a token: it is passed, and then this name comes next; or it is the name of an exit without its trap.
-#[derive(Drop)]
+#[derive(Clone, Copy)]
 pub enum Passed {
     On(Wanted),
     Lost,
 }
 
 // The number of a fault, 14 or 20, and its place.
-#[derive(Drop)]
+#[derive(Clone, Copy)]
 pub struct Fault {
     pub number: u8,
     pub place: usize,

@@ -57,7 +57,7 @@ impl<R: Read> Read for Source<R> {
 }
 
 // What came: how many bytes, or that a read failed.
-#[derive(Drop)]
+#[derive(Clone, Copy)]
 pub enum Input {
     Bytes { length: usize },
     Failed,

@@ -27,7 +27,7 @@ pub enum Ran {
 
 // What an instant answers: closed with its code, the answers taken and the entries; or the number and the node of the
 // refusal.
-#[derive(Drop)]
+#[derive(Clone, Copy)]
 pub enum Reaction {
     Closed {
         code: usize,

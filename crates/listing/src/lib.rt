@@ -274,7 +274,7 @@ fn write_listing(
 }
 
 // What a rendering answers: the length of the text, or that the buffer is too short for it.
-#[derive(Drop)]
+#[derive(Clone, Copy)]
 pub enum Rendered {
     Whole { length: usize },
     TooShort,

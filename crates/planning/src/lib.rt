@@ -15,14 +15,14 @@ use starts::Weight;
 use table::{Check, Kind};
 
 // What a plan answers: the greatest number of entries, or the number and the node of the refusal.
-#[derive(Drop)]
+#[derive(Clone, Copy)]
 pub enum Planned {
     Entries { entries: usize },
     Refused { number: u8, node: usize },
 }
 
 // What is told of the answers that reach it: the entries and the length of the list, or the refusal.
-#[derive(Drop)]
+#[derive(Clone, Copy)]
 pub enum Longest {
     Reached { entries: usize, length: usize },
     Refused { number: u8, node: usize },

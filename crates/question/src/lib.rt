@@ -139,7 +139,7 @@ fn look_at(table: &[u8], sizes: &[u16], node: usize, code: usize) -> Answer
 
 // What a question answers: whether the code is in the node's start set and the number of nodes looked at, or the number and the node of
 // the refusal.
-#[derive(Drop)]
+#[derive(Clone, Copy)]
 pub enum Asked {
     Known { answer: bool, count: usize },
     Refused { number: u8, node: usize },

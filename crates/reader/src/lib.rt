@@ -44,7 +44,7 @@ const WEAK_ABORT: u16 = 16;
 
 // The beginning of a statement: all of one without children, or one that is open. Both with the kind of its node, or its form, and
 // the places of its name, which are the same where it has none so far.
-#[derive(Drop)]
+#[derive(Clone, Copy)]
 pub enum Opened {
     Whole {
         kind: u16,
@@ -64,7 +64,7 @@ pub enum Opened {
 
 // What a reader found: where it ended and how many nodes are written then; or that no text of the grammar goes on so, unless by
 // more levels than a text within the length has.
-#[derive(Drop)]
+#[derive(Clone, Copy)]
 pub enum Found {
     Read { end: usize, nodes: usize },
     Unread,

@@ -52,7 +52,7 @@ pub enum Token {
 }
 
 // A token, and the part of the text that it is.
-#[derive(Drop)]
+#[derive(Clone, Copy)]
 pub struct Scanned {
     pub token: Token,
     pub start: usize,
@@ -60,14 +60,14 @@ pub struct Scanned {
 }
 
 // The place after a mark that was wanted, if it came next.
-#[derive(Drop)]
+#[derive(Clone, Copy)]
 pub enum Past {
     At(usize),
     Not,
 }
 
 // A name's part of the text, if a name came next.
-#[derive(Drop)]
+#[derive(Clone, Copy)]
 pub enum Called {
     Named { start: usize, stop: usize },
     Nameless,

@@ -6,7 +6,7 @@ ghost use Rattle.grammar.specs.Limits.{max_source};
 ghost use Rattle.listing.specs.Rendering.{WholeText};
 ghost use Rattle.spot.specs.Spots.{line_after, column_after, SpotOf, spot_text};
 
-#[derive(Drop)]
+#[derive(Clone, Copy)]
 pub struct Spot {
     pub line: usize,
     pub column: usize,

@@ -184,14 +184,14 @@ pub fn field_at(table: &[u8], node: usize) -> usize
 }
 
 // What a check answers: passed, or the number and the node of its refusal.
-#[derive(Drop)]
+#[derive(Clone, Copy)]
 pub enum Check {
     Passed,
     Refused { number: u8, node: usize },
 }
 
 // What a survey finds: the answer of checks 8, 9 and 10, and the loop depth.
-#[derive(Drop)]
+#[derive(Clone, Copy)]
 pub struct Survey {
     pub check: Check,
     pub loops: usize,

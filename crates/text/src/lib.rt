@@ -22,7 +22,7 @@ use table::Check;
 
 // What became of a text: how many nodes and signals its program has, or its refusal and the byte where it is at fault, which is 0
 // where none is named.
-#[derive(Drop)]
+#[derive(Clone, Copy)]
 pub enum Reading {
     Done {
         nodes: usize,

@@ -16,7 +16,7 @@ ghost use Rattle.tied.specs.Calls.{are_ties, room_for, refusal_of, Narrowing};
 use table::{Check, Kind};
 
 // What `narrow` answers: the number of nodes, or the number and the node of the refusal.
-#[derive(Drop)]
+#[derive(Clone, Copy)]
 pub enum Narrowed {
     Done { nodes: usize },
     Refused { number: u8, node: usize },

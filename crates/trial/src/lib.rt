@@ -114,7 +114,7 @@ fn gather(table: &[u8], sizes: &[u16; esterel::MAX_NODES], first: usize, node: u
 }
 
 // What `trial` answers: the set and the number of presents in the node, or the number and the node of the refusal.
-#[derive(Drop)]
+#[derive(Clone, Copy)]
 pub enum Tried {
     Gathered { set: u64, presents: usize },
     Refused { number: u8, node: usize },

@@ -13,7 +13,7 @@ use table::Check;
 
 // What is told of a table: the loop whose body ends at once and the length of the list; or the nodes and the loop depth of an
 // accepted one; or the number and the node of the refusal.
-#[derive(Drop)]
+#[derive(Clone, Copy)]
 pub enum Tick {
     Ends { node: usize, length: usize },
     Accepted { nodes: usize, loops: usize },
