@@ -13,7 +13,7 @@ run:
 	@rm -f target-run.log
 	@if [ -n "$(TEXT)" ]; then tools/run_text.sh $(PROGRAM) $(TEXT); else crates/$(PROGRAM)/out/$(PROGRAM) < $(TABLE); fi
 
-# the gate: everything proved from nothing, every must-fail edit refused, every program's output compared, all formatted
+# the gate: everything proved (by this run, or of the same files by an earlier one on the machine), every must-fail edit refused, every program's output compared, all formatted
 test:
 	@tools/test.sh
 

@@ -34,7 +34,7 @@ written() {
     fi
 }
 
-# All crates proved from nothing, all must-fail edits refused, all outputs compared, all laid out. An edit that cannot be tried says nothing of
+# All crates proved, all must-fail edits refused, all outputs compared, all laid out. An edit that cannot be tried says nothing of
 # a contract, and fails here.
 prove_all() {
     { rt ci 2>&1; echo $? > target/ci.status; } | tee target/ci.log
