@@ -60,3 +60,6 @@ reply-once (Ok a) (Ok b) e = ap Ok (ap (value a) e)
 reply-once (Ok a) (Err s) e = absurd (subst Gives e tt)
 reply-once (Err r) (Ok b) e = absurd (subst Gives (sym e) tt)
 reply-once (Err r) (Err s) e = ap Err (same r s (number-once r.check s.check (ap number e)) (ap node e))
+
+pub refuses≢gives : {A : Type 0} {a : A} {n v : ℕ} → refuses n v ≡ gives a → ⊥
+refuses≢gives {A = A} e = subst (Gives {A = A}) (sym e) tt

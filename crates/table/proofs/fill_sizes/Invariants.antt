@@ -6,6 +6,3 @@ use Rattle.table.proofs.fill_sizes.Given as goal
 
 abbrev pub invariant-loop-i : goal.invariant-loop-i
 invariant-loop-i l = Sizing (program_of l.table) l.fn.sizes l.sizes l.last l.i
-
-abbrev pub decreases-loop-i : goal.decreases-loop-i
-decreases-loop-i l = l.n - l.i
