@@ -1,13 +1,13 @@
 -- The comparison of two kinds that is derived is that of their numbers.
-use mathlib.Core.Path.{◌≡◌, refl, sym, ◌∙◌}
+use mathlib.Core.Path.{◌≡◌, sym, ◌∙◌}
 use mathlib.Core.Bool.{Bool, true, false, not}
 use denote.Enum.Bare.{sameb}
 use Rattle.std.proofs.Common.{rules}
 use Rattle.std.proofs.lemmas.Bool.{not-true, not-false}
-use Rattle.table.specs.Kinds.{number_of, is_same}
+use Rattle.table.specs.Kinds.{is_same}
 use Rattle.table.specs.Check.{known_of}
 use Rattle.table.specs.declared.Kind.{Kind}
-use Rattle.table.specs.declared.Kind.TheVariants.{Nothing, Pause, Emit, Exit, Signal, Present, Suspend, Loop, Sequence, Parallel, Trap, Unknown}
+use Rattle.table.specs.declared.Kind.TheVariants.{Unknown}
 use Rattle.table.specs.contracts.Kind.{the_type}
 
 pub same-is : (k j : Kind) → sameb the_type k j ≡ is_same k j

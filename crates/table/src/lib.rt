@@ -3,7 +3,7 @@
 
 ghost use Rattle.std.specs.Prelude.{◌≡◌, cond, ◌+◌, ◌-◌, ◌*◌, ◌/◌, ◌<◌, ◌≤◌, length, get_or};
 ghost use Rattle.esterel.specs.Limits.{max_nodes};
-ghost use Rattle.esterel.specs.Refusal.{gives, reply};
+ghost use Rattle.esterel.specs.Refusal.{yields, reply};
 ghost use Rattle.esterel.specs.Statement.{size};
 ghost use Rattle.table.specs.Kinds.{kind_of, arity_of, plain_of};
 ghost use Rattle.table.specs.Program.{program_of, Readable};
@@ -212,7 +212,7 @@ fn seen(faults: Faults, kind: Kind, field: usize, node: usize, nesting: Nesting)
 
 // The first refusal: each check comes before the next.
 fn first_refusal(faults: Faults) -> Result<(), Refusal>
-    ensures { reply result ≡ refuse_below 8 faults.depths (refuse_below 9 faults.traps (refuse_below 10 faults.exits (gives tt))) }
+    ensures { reply result ≡ refuse_below 8 faults.depths (refuse_below 9 faults.traps (refuse_below 10 faults.exits (yields tt))) }
 {
     if faults.depths < esterel::MAX_NODES {
         return Err(Refusal {

@@ -1,5 +1,4 @@
 -- The entries before `i` are the sizes of the subtrees at the nodes before it, and the last of them is at hand.
-use Rattle.std.proofs.Common.{◌-◌}
 use Rattle.table.specs.Program.{program_of}
 use Rattle.table.proofs.Sizing.{Sizing}
 use Rattle.table.proofs.fill_sizes.Given as goal

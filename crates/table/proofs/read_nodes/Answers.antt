@@ -2,7 +2,7 @@
 use Rattle.std.proofs.Common.{◌≡◌, refl, ◌∙◌, ℕ, List, arith}
 use Rattle.std.proofs.lemmas.Result.{err_from_is_err_and}
 use Rattle.esterel.specs.Refusal.{Reply}
-use Rattle.esterel.proofs.Replies.{refuses≢gives}
+use Rattle.esterel.proofs.Replies.{rejects≢yields}
 use Rattle.table.specs.Kinds.{kind_of}
 use Rattle.table.specs.Check.{node_check}
 use Rattle.table.specs.declared.Kind.{Kind}
@@ -18,7 +18,7 @@ returns-in_err-check_node c =
     let p = err_from_is_err_and c.from_residual.result c.from_residual.ensures.1 in
     rw (p.1, p.2)
     (refusing _ _ _ c.loop-i.invariant.reading (omega arith) _
-    (checked c.args.table.now c.loop-i.unused c.loop-i.i c.kind_at-kind.ensures c.field_at.ensures.0 c.in_err-check_node.ensures) refuses≢gives)
+    (checked c.args.table.now c.loop-i.unused c.loop-i.i c.kind_at-kind.ensures c.field_at.ensures.0 c.in_err-check_node.ensures) rejects≢yields)
 
 pub overflow_sub-unused : goal.overflow_sub-unused
 overflow_sub-unused c =

@@ -1,5 +1,5 @@
 -- Before each node the table reads to `unused` statements.
-use Rattle.std.proofs.Common.{◌-◌, ◌/◌, ◌≤◌, length}
+use Rattle.std.proofs.Common.{◌/◌, ◌≤◌, length}
 use Rattle.table.proofs.Pass.{Reading}
 use Rattle.table.proofs.read_nodes.Given as goal
 
