@@ -1,5 +1,5 @@
 -- What the checks answer.
-use Rattle.std.specs.Prelude.{ℕ, zero, suc, ◌+◌, ◌-◌, ◌*◌, ◌%◌, ◌<◌, ◌≤◌, ◌≡◌, Bool, true, false, not, ◌&&◌, ◌||◌, cond, List, [], length, get_or, set, eqb, leb, ltb}
+use Rattle.std.specs.Prelude.{ℕ, zero, suc, ◌+◌, ◌-◌, ◌*◌, ◌%◌, ◌<◌, ◌≤◌, ◌≡◌, Bool, true, false, not, ◌&&◌, ◌||◌, cond, List, [], map, length, get_or, set, eqb, leb, ltb}
 use Rattle.std.proofs.Math.Option.{Option, none, some}
 use Rattle.esterel.specs.Limits.{max_nodes, max_depth, max_traps}
 use Rattle.esterel.specs.Statement.{Stmt, loop_depth}
@@ -15,6 +15,7 @@ use Rattle.esterel.specs.Refusal.{Reply, yields, rejects, reply}
 use Rattle.table.specs.declared.Survey.{Survey}
 use Rattle.table.specs.declared.Faults.{Faults}
 use Rattle.table.specs.declared.Nesting.{Nesting}
+use Rattle.table.specs.declared.Level.{Level}
 
 -- the number and the node of an answer, where it refuses, before what comes next
 abbrev pub refuse : Reply (Unit {0}) → Verdict → Verdict
@@ -109,6 +110,16 @@ pub record Shallow (m : ℕ) (n : Nesting) : Type 0 where
   pub depth : n.depth ≤ m
   pub traps : n.traps ≤ m
   pub loops : n.loops ≤ m
+
+-- what is on the stack, as three
+abbrev pub depths_of : List Level → List ℕ
+depths_of = map (λ x. x.depth)
+
+abbrev pub traps_of : List Level → List ℕ
+traps_of = map (λ x. x.traps)
+
+abbrev pub loops_of : List Level → List ℕ
+loops_of = map (λ x. x.loops)
 
 -- Where the walk goes on from a node, with the depths xs, the traps ys and the loops zs on the stacks. Past a leaf: what is on top
 pub record TopOf (xs ys zs : List ℕ) (waiting : ℕ) (r : Nesting) : Type 0 where
