@@ -51,6 +51,13 @@ pub enum Token {
     Finished,
 }
 
+// A part of a text, from `start` to before `stop`.
+#[derive(Clone, Copy, PartialEq, Eq)]
+pub struct Part {
+    pub start: usize,
+    pub stop: usize,
+}
+
 // A token, and the part of the text that it is.
 #[derive(Clone, Copy)]
 pub struct Scanned {
