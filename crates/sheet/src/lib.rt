@@ -177,6 +177,16 @@ impl Sheet {
         self.put(kind, field);
     }
 
+    // A signal's name is met, and then the node of a statement that has it.
+    pub fn put_met(&mut self, text: &[u8], kind: Kind, name: Part)
+        requires { self.old.nodes ≤ max_counted }
+        ensures nodes { self.new.nodes ≡ self.old.nodes + 1 }
+        ensures adds { InText text.now name → Adds text.now self.old self.new (λ ts g. P.named (number_of kind) (name_at text.now name) (P.note (name_at text.now name) g)) }
+    {
+        let number = self.note(text, name);
+        self.put(kind, number);
+    }
+
     // The level of an exit. One without a trap is marked.
     pub fn level_of(&mut self, text: &[u8], name: Part) -> u16
         ensures nodes { self.new.nodes ≡ self.old.nodes }
