@@ -9,6 +9,8 @@ use Rattle.scan.specs.declared.Mark.TheVariants.{Semicolon, Bars, Close, In, The
 use Rattle.scan.specs.declared.Token.{Token}
 use Rattle.scan.specs.declared.Token.TheVariants.{Opens, Marks, Names, Foreign, Stray, Finished}
 use Rattle.scan.specs.declared.Part.{Part}
+use Rattle.scan.specs.declared.Scanned.{Scanned}
+use Rattle.scan.specs.declared.Tokens.{Tokens}
 
 -- the words and signs as the theory has them
 abbrev pub opening_is : Opening → G.Opening
@@ -116,3 +118,16 @@ CalledAs x at None = (n : List ℕ) → Lacks x at (G.name n)
 abbrev pub none : List G.Token → Bool
 none [] = true
 none (t ∷ ts) = false
+
+-- the next token of s is x, and those from t on come after it
+pub record TakesToken (s : Tokens) (x : Scanned) (t : Tokens) : Type 0 where
+  pub text : t.text.now ≡ s.text.now
+  pub at : t.at ≡ x.part.stop
+  pub scanned : ScannedAs s.text.now s.at x.part.start x.part.stop x.token
+  pub begins : BeginsAs s.text.now s.at x.part.start x.part.stop x.token
+  pub one : x.token ≡ Finished → ⊥
+
+-- a token, or none is left
+abbrev pub Takes : Tokens → Option Scanned → Tokens → Type 0
+Takes s (Some x) t = TakesToken s x t
+Takes s None t = (rest s.text.now s.at ≡ []) × (starts s.text.now s.at ≡ [])

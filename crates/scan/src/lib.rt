@@ -1,10 +1,10 @@
 // Tokens of a text: words, signs and other bytes.
 #![tactic(auto)]
 
-ghost use Rattle.std.specs.Prelude.{◌≡◌, [], ◌∷◌, ◌<◌, ◌≤◌, length, get_or};
+ghost use Rattle.std.specs.Prelude.{◌≡◌, [], ◌∷◌, ◌-◌, ◌<◌, ◌≤◌, length, get_or};
 ghost use Rattle.grammar.specs.Tokens.{class_of, is_in_word, is_blank, sign_of, word_token, is_count, name_or};
 ghost use Rattle.grammar.specs.Tokens as G;
-ghost use Rattle.scan.specs.Scanning.{token_is, rest, Skipped, Worded, ScannedAs, BeginsAs, PastMark, CalledAs, none};
+ghost use Rattle.scan.specs.Scanning.{token_is, rest, Skipped, Worded, ScannedAs, BeginsAs, PastMark, CalledAs, none, Takes};
 
 // The words and the sign that a statement begins with.
 #[derive(Clone, Copy, PartialEq, Eq)]
@@ -260,4 +260,41 @@ pub fn is_finished(text: &[u8], at: usize) -> bool
     ensures { result ≡ none (rest text.now at) }
 {
     matches!(next_token(text, at).token, Token::Finished)
+}
+
+// The tokens of a text from a place on, one after the other.
+#[derive(Clone, Copy)]
+pub struct Tokens<'a> {
+    text: &'a [u8],
+    at: usize,
+}
+
+impl<'a> Tokens<'a> {
+    // The tokens of a whole text.
+    pub fn new(text: &'a [u8]) -> Tokens<'a>
+        ensures { (result.text.now ≡ text.now) × (result.at ≡ 0) }
+    {
+        Tokens { text, at: 0 }
+    }
+}
+
+impl<'a> Iterator for Tokens<'a> {
+    ghost use Rattle.std.specs.Iterator.{at_most};
+
+    type Item = Scanned;
+
+    ghost can_next = { λ s. s.at ≤ length s.text.now };
+
+    ghost next_gives = { Takes };
+
+    ghost remaining = { λ s. at_most (length s.text.now - s.at) };
+
+    fn next(&mut self) -> Option<Scanned> {
+        let scanned = next_token(self.text, self.at);
+        if scanned.token == Token::Finished {
+            return None;
+        }
+        self.at = scanned.part.stop;
+        Some(scanned)
+    }
 }
