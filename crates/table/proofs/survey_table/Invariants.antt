@@ -5,6 +5,3 @@ use Rattle.table.proofs.survey_table.Given as goal
 
 abbrev pub invariant-loop-i : goal.invariant-loop-i
 invariant-loop-i l = State (program_of l.table) l.depths l.traps l.loops l.node l.faults l.most l.i
-
-abbrev pub decreases-loop-i : goal.decreases-loop-i
-decreases-loop-i l = l.i
