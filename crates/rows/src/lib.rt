@@ -201,7 +201,7 @@ pub fn row_of(weight: Weight, kind: Kind, first: &Row, second: &Row) -> Row
         second: 0,
     };
     for k in 0..64 {
-        if table::is_parallel(kind) {
+        if kind == Kind::Parallel {
             up = up_to(weight, pair_at(first, second, k), up);
         }
         of[k] = join(own, inner_at(weight, kind, first, second, up, k));
@@ -228,7 +228,7 @@ fn row_at(weight: Weight, table: &[u8], sizes: &[u16], rows: &[Row], node: usize
 {
     let kind = table::kind_at(table, node);
     let field = table::field_at(table, node);
-    let children = table::arity(kind);
+    let children = kind.arity();
     if children == 0 {
         return leaf_row(weight, kind, field);
     }
