@@ -9,9 +9,8 @@ use Rattle.esterel.specs.Reentry.{Reached, Happens, Twice, Holding, Started}
 use Rattle.packing.specs.Packing.{state_bytes, pack, unpack}
 use Rattle.analysis.specs.Analysis.{Analysis}
 use Rattle.analysis.specs.declared.Analysed.TheVariants.{Done}
-use Rattle.instant.specs.Calls.{Starting, Resuming}
+use Rattle.instant.specs.Calls.{reacts, Starting, Resuming}
 use Rattle.instant.specs.Theorems.{Exact}
-use Rattle.instant.specs.declared.Reaction.TheVariants.{Closed}
 
 -- t is the table of the program p, and `marks'` is what `analyse` over it left in the buffer for the marks
 pub record MarksOf (t : List ℕ) (p : Stmt) (marks' : List ℕ) : Type 0 where
@@ -32,11 +31,11 @@ pub record MarksOf (t : List ℕ) (p : Stmt) (marks' : List ℕ) : Type 0 where
 pub data Left (t : List ℕ) : List ℕ → Type 0 where
   fresh :
       (answers state emissions state' emissions' : List ℕ) (taken entries : ℕ) →
-      Starting t answers state emissions state' emissions' (Closed 1 taken entries) → Left t (take state_bytes state')
+      Starting t answers state emissions state' emissions' (reacts 1 taken entries) → Left t (take state_bytes state')
   onward :
       (answers state emissions state' emissions' : List ℕ) (taken entries : ℕ) →
       Left t (take state_bytes state) →
-      Resuming t answers state emissions state' emissions' (Closed 1 taken entries) → Left t (take state_bytes state')
+      Resuming t answers state emissions state' emissions' (reacts 1 taken entries) → Left t (take state_bytes state')
 
 -- A closed call is the rules' instant x and an instant of a run, in which `held` is held when it begins; so what `NoUnmarkedReentry` says of
 -- such an instant is said of the call. Whichever node stands at two places of its trail has entry 1 in `marks`, and so has one that is held
@@ -51,13 +50,13 @@ pub record NoUnmarkedReentryOfCalls : Type 0 where
   pub starts :
       (t answers state emissions state' emissions' marks : List ℕ) (p : Stmt) (code taken entries : ℕ) →
       MarksOf t p marks →
-      Starting t answers state emissions state' emissions' (Closed code taken entries) →
+      Starting t answers state emissions state' emissions' (reacts code taken entries) →
       Marked p marks (zeros (size p)) (start 0 p answers) state' emissions' code taken entries
   pub resumes :
       (t answers state emissions state' emissions' marks : List ℕ) (p : Stmt) (code taken entries : ℕ) →
       MarksOf t p marks →
       Left t (take state_bytes state) →
-      Resuming t answers state emissions state' emissions' (Closed code taken entries) →
+      Resuming t answers state emissions state' emissions' (reacts code taken entries) →
       Marked p marks (unpack (size p) state) (resume 0 p (unpack (size p) state) answers) state' emissions' code taken entries
   -- what calls can leave is what a run can reach, packed
   pub same :
