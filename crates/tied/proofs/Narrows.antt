@@ -2,6 +2,9 @@
 use mathlib.Core.Path.{◌≡◌, refl, sym, ap, subst, ◌∙◌}
 use mathlib.Core.Bool.{Bool, true, false, cond}
 use mathlib.Core.List.{List}
+use Rattle.std.proofs.Common.{Ok, Err}
+use Rattle.esterel.specs.declared.Refusal.{Refusal}
+use Rattle.tied.specs.declared.Tie.{Tie}
 use Prim.Native.Nat.{ℕ, ◌/◌, ◌≤◌}
 use native.Mathlib.Omega.{arith}
 use borrow.Author.Tests.{leb-true}
@@ -21,23 +24,15 @@ use Rattle.table.proofs.Found.{pass-true}
 use Rattle.analysis.specs.Analysis.{checked, Sized, SizesChecked}
 use Rattle.analysis.proofs.Analyses.{verdict-refused, nodes-are}
 use Rattle.tied.specs.Ties.{ties_of}
-use Rattle.tied.specs.Passes.{Sound, Known, SetsFilled}
+use Rattle.tied.specs.Passes.{TiesRead, tied_by, Sound, Known, SetsFilled}
 use Rattle.tied.specs.Calls.{room_for, are_ties, check_ties, verdict_for, answer_of, sets_after, Narrowing, refusal_of}
 use Rattle.tied.specs.declared.Narrowed.{Narrowed}
 use Rattle.tied.specs.declared.Narrowed.TheVariants.{Done, Refused}
-
-pub are-ties : Tests are_ties (λ b. leb b 2)
-are-ties = record { none = refl; first = λ b bs. refl }
 
 -- nothing lent has changed
 refusing : {t ties sets : List ℕ} {x : Narrowed} (number node : ℕ) → verdict_for t ties sets ≡ refused number node → x ≡ Refused number node → Narrowing t ties sets sets x
 unfolding answer_of sets_after
 refusing {t} {ties} {sets} number node v e = record { answer = e ∙ sym (ap answer_of v); sets_are = sym (ap (λ w. sets_after w ties sets) v) }
-
--- a check that refuses is check 19
-only_19 : (b : Bool) (number node : ℕ) → pass_if 19 b ≡ RefusedCheck number node → (b ≡ false) × (refused 19 0 ≡ refused number node)
-only_19 true number node e = (cc, cc)
-only_19 false number node e = (refl, cc)
 
 module _ (ties sets : List ℕ) {t sizes : List ℕ} {room : Bool} (er : room ≡ room_for (length t / 2) (length sets) (length ties)) {r : Check} (o : SizesChecked room t sizes r) where
   pub table-refused : {x : Narrowed} (number node : ℕ) → r ≡ RefusedCheck number node → x ≡ refusal_of r → Narrowing t ties sets sets x
@@ -64,17 +59,14 @@ module _ (ties sets : List ℕ) {t sizes : List ℕ} {room : Bool} (er : room �
     then-ties : (b : Bool) → are_ties (take signals ties) ≡ b → verdict_for t ties sets ≡ cond b (passed (program_of t)) (refused 19 0)
     then-ties b e = ap (check_ties ties) sized.verdict ∙ ap (λ a. cond a (passed (program_of t)) (refused 19 0)) e
 
-    module _ {c : Check} (ec : c ≡ pass_if 19 (are_ties (take signals ties))) where
-      pub ties-refused : {x : Narrowed} (number node : ℕ) → c ≡ RefusedCheck number node → x ≡ refusal_of c → Narrowing t ties sets sets x
-      ties-refused number node y e =
-          let (no-ties, is) = only_19 (are_ties (take signals ties)) number node (sym ec ∙ y) in
-          refusing number node (then-ties false no-ties ∙ is) (e ∙ ap refusal_of y)
+    pub ties-refused : (r : Refusal) → TiesRead ties (Err r) → Narrowing t ties sets sets (Refused 19 0)
+    ties-refused r e = refusing 19 0 (then-ties false e.0) refl
 
-      pub narrowed : {known sets' : List ℕ} {n : ℕ} → c ≡ Passed → n ≡ length t / 2 → Known (ties_of (take signals ties)) t known → SetsFilled t known sets sets' → Narrowing t ties sets sets' (Done n)
-      unfolding answer_of sets_after
-      narrowed y en k f =
-          let v = then-ties true (pass-true 19 _ (sym ec ∙ y)) in
-          record {
-            answer = ap Done (en ∙ nodes-are sized.ready) ∙ sym (ap answer_of v);
-            sets_are = f.is (ties_of (take signals ties)) k ∙ sym (ap (λ w. sets_after w ties sets) v);
-          }
+    pub narrowed : (read : List Tie) {known : List Tie} {sets' : List ℕ} {n : ℕ} → TiesRead ties (Ok read) → n ≡ length t / 2 → Known (tied_by read) t known → SetsFilled t known sets sets' → Narrowing t ties sets sets' (Done n)
+    unfolding answer_of sets_after
+    narrowed read {known} e en k f =
+        let v = then-ties true e.0 in
+        record {
+          answer = ap Done (en ∙ nodes-are sized.ready) ∙ sym (ap answer_of v);
+          sets_are = f.is (ties_of (take signals ties)) (subst (λ c. Known c t known) e.1 k) ∙ sym (ap (λ w. sets_after w ties sets) v);
+        }

@@ -28,7 +28,8 @@ use Rattle.table.specs.Columns.{onto}
 use Rattle.analysis.specs.Analysis.{checked}
 use Rattle.analysis.proofs.Theorems.{verdict-nodes, checked-room, checked-passed, checked-told}
 use Rattle.analysis.proofs.Analyses.{checked-program}
-use Rattle.tied.specs.Ties.{unknown, Ties, tie_of, ties_of, none_tied}
+use Rattle.tied.specs.Ties.{Ties, tie_of, ties_of, none_tied}
+use Rattle.tied.specs.declared.Tie.TheVariants.{Unknown}
 use Rattle.tied.specs.Narrowed.{narrowed_at, words_of}
 use Rattle.tied.specs.Calls.{room_for, are_ties, check_ties, verdict_for, answer_of, sets_after, Narrowing}
 use Rattle.tied.specs.Theorems.{Lent, TieBytes, NarrowedSets, OfNarrow}
@@ -36,7 +37,7 @@ use Rattle.tied.specs.declared.Narrowed.{Narrowed}
 use Rattle.tied.specs.declared.Narrowed.TheVariants.{Done, Refused}
 use Rattle.tied.proofs.Theorems.{exact, untied, fewer, never_empty, none_lost}
 use Rattle.tied.proofs.Words.{length-words, words-at}
-use Rattle.tied.proofs.Narrows.{are-ties}
+use Rattle.tied.proofs.Reading.{are-ties}
 
 -- ---- the bytes
 
@@ -61,7 +62,7 @@ module _ (ties : List ℕ) (room : signals ≤ length ties) where
 tie-at : (l : List ℕ) (s : ℕ) → s < signals → ties_of (take signals l) s ≡ tie_of (get_or l s 0)
 tie-at l s h = ap tie_of (get_or-take signals l s 0 h)
 
-tie_past : (l : List ℕ) (s : ℕ) → (s < signals → ⊥) → ties_of (take signals l) s ≡ unknown
+tie_past : (l : List ℕ) (s : ℕ) → (s < signals → ⊥) → ties_of (take signals l) s ≡ Unknown
 tie_past l s h = ap tie_of (get_or-eq_default (take signals l) 0 (omega (arith, length-take signals l)))
 
 -- ---- an answer is of one verdict
@@ -201,7 +202,7 @@ untied_sets {ties = ties} {new = new} o f p e i h =
     none : (s : ℕ) → ties_of (take signals ties) s ≡ none_tied s
     none s = go (dec_lt s signals)
       where
-        go : Dec (s < signals) → ties_of (take signals ties) s ≡ unknown
+        go : Dec (s < signals) → ties_of (take signals ties) s ≡ Unknown
         go (yes l) = tie-at ties s l ∙ ap tie_of (f s l)
         go (no l) = tie_past ties s l
 
@@ -211,10 +212,10 @@ fewer_codes t ties old new old' new' n s b z o o' i k h e =
     let more = (done-set o' p v i h).bits k in
     (done-set o p v i h).bits k ∙ fewer.several (ties_of (take signals ties)) (ties_of (take signals (set ties s b))) freer p i k (sym more ∙ e)
   where
-    freer : (x : ℕ) → (ties_of (take signals (set ties s b)) x ≡ ties_of (take signals ties) x) ⊎ (ties_of (take signals ties) x ≡ unknown)
+    freer : (x : ℕ) → (ties_of (take signals (set ties s b)) x ≡ ties_of (take signals ties) x) ⊎ (ties_of (take signals ties) x ≡ Unknown)
     freer x = go (dec_lt x signals) (eqb x s) refl
       where
-        go : Dec (x < signals) → (c : Bool) → eqb x s ≡ c → (ties_of (take signals (set ties s b)) x ≡ ties_of (take signals ties) x) ⊎ (ties_of (take signals ties) x ≡ unknown)
+        go : Dec (x < signals) → (c : Bool) → eqb x s ≡ c → (ties_of (take signals (set ties s b)) x ≡ ties_of (take signals ties) x) ⊎ (ties_of (take signals ties) x ≡ Unknown)
         go (no l) c w = inr (tie_past ties x l)
         go (yes l) true w = inr (tie-at ties x l ∙ ap (λ y. tie_of (get_or ties y 0)) (eqb-true x s w) ∙ ap tie_of z)
         go (yes l) false w = inl (tie-at (set ties s b) x l ∙ ap tie_of (get_or-set_other ties s x b 0 (eqb-false x s w)) ∙ sym (tie-at ties x l))

@@ -10,7 +10,9 @@ use Rattle.esterel.specs.Checks.{verdict}
 use Rattle.esterel.specs.Instant.{Entry, Result, closed, starved, stuck, start}
 use Rattle.esterel.specs.Outcome.{statement_at}
 use Rattle.esterel.specs.Theorems.{Finishes, Accepted}
-use Rattle.tied.specs.Ties.{Tie, unknown, Ties, ties_of, none_tied, tie, by_tie, start_tied}
+use Rattle.tied.specs.Ties.{Ties, ties_of, none_tied, tie, by_tie, start_tied}
+use Rattle.tied.specs.declared.Tie.{Tie}
+use Rattle.tied.specs.declared.Tie.TheVariants.{Unknown}
 use Rattle.tied.specs.Narrowed.{tested, narrowed, ties_under, ties_at, narrowed_at}
 use Rattle.tied.specs.Calls.{Narrowing}
 use Rattle.tied.specs.declared.Narrowed.{Narrowed}
@@ -32,7 +34,7 @@ pub record InBody (p : Stmt) (s i : ℕ) : Type 0 where
 
 -- there s is unknown, and elsewhere it is as it was tied
 pub record Places : Type 0 where
-  pub in_body : (c : Ties) (p : Stmt) (s i : ℕ) → InBody p s i → ties_at c p i s ≡ unknown
+  pub in_body : (c : Ties) (p : Stmt) (s i : ℕ) → InBody p s i → ties_at c p i s ≡ Unknown
   pub elsewhere : (c : Ties) (p : Stmt) (s i : ℕ) → i < size p → (InBody p s i → ⊥) → ties_at c p i s ≡ c s
 
 -- With none tied the set is K, and the start is that of document 01.
@@ -43,10 +45,10 @@ pub record Untied : Type 0 where
 -- Tying one more unknown signal never adds a code, nor does tying several. So each narrowed set is a part of K.
 pub record Fewer : Type 0 where
   pub one_more :
-      (c : Ties) (s : ℕ) (t : Tie) → c s ≡ unknown →
+      (c : Ties) (s : ℕ) (t : Tie) → c s ≡ Unknown →
       (p : Stmt) (i k : ℕ) → narrowed_at (tie s t c) p i k ≡ true → narrowed_at c p i k ≡ true
   pub several :
-      (c d : Ties) → ((s : ℕ) → (d s ≡ c s) ⊎ (c s ≡ unknown)) →
+      (c d : Ties) → ((s : ℕ) → (d s ≡ c s) ⊎ (c s ≡ Unknown)) →
       (p : Stmt) (i k : ℕ) → narrowed_at d p i k ≡ true → narrowed_at c p i k ≡ true
   pub in_k : (c : Ties) (p : Stmt) (i k : ℕ) → narrowed_at c p i k ≡ true → start_set (statement_at (nodes p) i) k ≡ true
 

@@ -5,6 +5,3 @@ use Rattle.tied.proofs.fill_narrowed.Given as goal
 
 abbrev pub invariant-loop-i : goal.invariant-loop-i
 invariant-loop-i l = SetsTo l.table l.known l.fn.sets l.sets l.i
-
-abbrev pub decreases-loop-i : goal.decreases-loop-i
-decreases-loop-i l = l.n - l.i

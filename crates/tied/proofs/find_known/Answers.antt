@@ -15,11 +15,10 @@ kind_at-kind-requires c = in_reach c.requires.0 c.loop-i.invariant (omega arith)
 pub field_at-signal-requires : goal.field_at-signal-requires
 field_at-signal-requires c = in_reach c.requires.0 c.loop-i.invariant (omega arith)
 
-pub overflow_sub-i-in-loop-i : goal.overflow_sub-i-in-loop-i
-overflow_sub-i-in-loop-i c = omega (arith, c.size_at.ensures, fits c.requires.0 c.loop-i.invariant (omega arith))
+pub overflow_sub-i : goal.overflow_sub-i
+overflow_sub-i c = omega (arith, c.size_at.ensures, fits c.requires.0 c.loop-i.invariant (omega arith))
 
 pub loop-i-preserved : goal.loop-i-preserved
 loop-i-preserved c =
     let (field, low) = c.field_at-signal.ensures in
-    let own = ap tie_of (sym (get_or-take signals c.args.ties.now c.field_at-signal.result 0 low)) in
-    finding-next c.requires.0 c.loop-i.invariant (omega arith) c.kind_at-kind.ensures field low _ own c.tie_at.ensures (rw (← c.size_at.ensures) c.reach.ensures) c.requires.2
+    finding-next c.requires.0 c.loop-i.invariant (omega arith) c.kind_at-kind.ensures field low c.tie_at.ensures (rw (← c.size_at.ensures) c.reach.ensures) c.requires.1

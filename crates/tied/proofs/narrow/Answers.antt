@@ -6,12 +6,11 @@ use Rattle.tied.proofs.narrow.Goals as goal
 pub returns-in_default : goal.returns-in_default
 returns-in_default c = table-refused c.args.ties.now c.args.sets.now c.has_room-room.ensures c.check_sized-check.ensures _ _ c.in_default.is c.refused.ensures
 
-pub check_ties-tied-requires : goal.check_ties-tied-requires
-check_ties-tied-requires c = ties-lent c.args.ties.now c.args.sets.now c.has_room-room.ensures c.check_sized-check.ensures c.in-Passed.is
+pub read_ties-requires : goal.read_ties-requires
+read_ties-requires c = ties-lent c.args.ties.now c.args.sets.now c.has_room-room.ensures c.check_sized-check.ensures c.in-Passed.is
 
-pub returns-in_default-tied : goal.returns-in_default-tied
-returns-in_default-tied c =
-    ties-refused c.args.ties.now c.args.sets.now c.has_room-room.ensures c.check_sized-check.ensures c.in-Passed.is c.check_ties-tied.ensures _ _ c.in_default-tied.is c.refused-in_default-tied.ensures
+pub returns-in_default-read_ties : goal.returns-in_default-read_ties
+returns-in_default-read_ties c = ?
 
 pub fill_narrowed-requires : goal.fill_narrowed-requires
 fill_narrowed-requires c =
@@ -19,4 +18,4 @@ fill_narrowed-requires c =
 
 pub returns : goal.returns
 returns c =
-    narrowed c.args.ties.now c.args.sets.now c.has_room-room.ensures c.check_sized-check.ensures c.in-Passed.is c.check_ties-tied.ensures c.in-Passed-tied.is refl c.find_known.ensures c.fill_narrowed.ensures
+    narrowed c.args.ties.now c.args.sets.now c.has_room-room.ensures c.check_sized-check.ensures c.in-Passed.is _ c.in-Ok.ensures refl c.find_known.ensures c.fill_narrowed.ensures
