@@ -30,10 +30,10 @@ number_of NoNode = 21  -- a node outside the table
 number_of TooManyPresents = 22  -- too many presents to try
 
 pub data Reply (A : Type 0) : Type 0 where
-  gives : (a : A) → Reply A
-  refuses : (number node : ℕ) → Reply A
+  yields : (a : A) → Reply A
+  rejects : (number node : ℕ) → Reply A
 
 -- what a call's result says
 abbrev pub reply : {A : Type 0} → Result A Refusal → Reply A
-reply (Ok a) = gives a
-reply (Err r) = refuses (number_of r.check) r.node
+reply (Ok a) = yields a
+reply (Err r) = rejects (number_of r.check) r.node

@@ -19,8 +19,9 @@ use Rattle.table.specs.Program.{program_in, program_of, Readable}
 use Rattle.table.specs.Stacks.{Moves}
 use Rattle.table.specs.Check.{refuse_below, places_check, Shallow, Descended, Seen, Surveyed}
 use Rattle.table.specs.declared.Kind.{Kind}
-use Rattle.table.specs.declared.Check.{Check}
-use Rattle.table.specs.declared.Check.TheVariants.{Passed}
+use Rattle.std.specs.Prelude.{Result}
+use Rattle.esterel.specs.Refusal.{yields, reply}
+use Rattle.esterel.specs.declared.Refusal.{Refusal}
 use Rattle.table.specs.declared.Faults.{Faults}
 use Rattle.table.specs.declared.Nesting.{Nesting}
 use Rattle.table.proofs.Bytes.{children_of, arity_of_lem, table-length, kind_byte, field_byte}
@@ -126,7 +127,7 @@ module _ {p : Stmt} {depths traps loops : List ℕ} {node : Nesting} {faults : F
   few_wait o = omega (arith, o.count, o.walk.left, nodes_wait o.ws)
 
   -- at the end all are seen
-  pub finish : State p depths traps loops node faults m 0 → size p ≤ max_nodes → (check : Check) → check ≡ refuse_below 8 faults.depths (refuse_below 9 faults.traps (refuse_below 10 faults.exits Passed))
+  pub finish : State p depths traps loops node faults m 0 → size p ≤ max_nodes → (check : Result (Unit {0}) Refusal) → reply check ≡ refuse_below 8 faults.depths (refuse_below 9 faults.traps (refuse_below 10 faults.exits (yields tt)))
       → Surveyed p (record { check = check; loops = m })
   finish o few check e =
       let z = ended p o.ws o.walk in

@@ -5,6 +5,3 @@ use Rattle.analysis.proofs.fill_contexts.Given as goal
 
 abbrev pub invariant-loop-i : goal.invariant-loop-i
 invariant-loop-i l = Walking (program_of l.table) l.pending l.counts l.node l.fn.contexts l.contexts l.fn.marks l.marks l.i
-
-abbrev pub decreases-loop-i : goal.decreases-loop-i
-decreases-loop-i l = l.i
