@@ -1,5 +1,5 @@
 -- Check 19: the bytes are read from the first on.
-use Rattle.std.proofs.Common.{◌≡◌, refl, sym, ap, ◌∙◌, true, false, leb, ℕ, ◌+◌, ◌<◌, ◌≤◌, List, length, get_or, set, take, Ok, Err, arith}
+use Rattle.std.proofs.Common.{◌≡◌, refl, sym, ap, ◌∙◌, leb, ℕ, ◌+◌, ◌<◌, ◌≤◌, List, length, get_or, set, take, Ok, Err, arith}
 use Rattle.std.proofs.Math.ListN.{length-set, length-take, get_or-eq_default}
 use Rattle.std.proofs.Math.Seq.{length-take-le, get_or-take, get_or-set_same, get_or-set_other}
 use mathlib.Core.Path.{fun_ext}

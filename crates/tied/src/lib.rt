@@ -4,39 +4,23 @@
 
 ghost use Rattle.std.specs.Prelude.{◌≡◌, cond, ◌&&◌, ◌<◌, ◌≤◌, leb, ltb, length, get_or, take};
 ghost use Rattle.esterel.specs.Limits.{signals};
+ghost use Rattle.esterel.specs.Refusal.{reply};
 ghost use Rattle.esterel.specs.Statement.{size};
 ghost use Rattle.table.specs.Kinds.{is_signal};
 ghost use Rattle.table.specs.Program.{program_of};
 ghost use Rattle.table.specs.Columns.{Measured};
 ghost use Rattle.tied.specs.declared.Tie.TheVariants.{Unknown};
 ghost use Rattle.tied.specs.Passes.{TieRead, TiesRead, tied_by, tested_of, codes_under, Known, Sound, NextSet, SetsFilled};
-ghost use Rattle.tied.specs.Calls.{room_for, refusal_of, Narrowing};
+ghost use Rattle.tied.specs.Calls.{room_for, Narrowing};
 
 use esterel::{Check, Refusal};
 use table::Kind;
-
-// What `narrow` answers: the number of nodes, or the number and the node of the refusal.
-#[derive(Clone, Copy)]
-pub enum Narrowed {
-    Done { nodes: usize },
-    Refused { number: u8, node: usize },
-}
-
-// The refusal that a check answers. It is not asked of one that passed.
-fn refused(check: table::Check) -> Narrowed
-    ensures { result ≡ refusal_of check }
-{
-    match check {
-        table::Check::Passed => Narrowed::Refused { number: 0, node: 0 },
-        table::Check::Refused { number, node } => Narrowed::Refused { number, node },
-    }
-}
 
 // Whether there is a set for each of n nodes, and a byte for each signal.
 fn has_room(n: usize, sets: usize, ties: usize) -> bool
     ensures { result ≡ room_for n sets ties }
 {
-    (n <= sets) & (esterel::SIGNALS <= ties)
+    n <= sets && esterel::SIGNALS <= ties
 }
 
 // What is known of a signal.
@@ -99,7 +83,7 @@ fn tie_at(
 fn reach(kind: Kind, lowest: usize, first: usize) -> usize
     ensures { result ≡ cond (is_signal kind && ltb first lowest) first lowest }
 {
-    if table::is_signal(kind) & (first < lowest) {
+    if kind == Kind::Signal && first < lowest {
         return first;
     }
     lowest
@@ -136,7 +120,7 @@ fn tested(tie: Tie, first: u64, second: u64) -> u64
 fn codes_under(tie: Tie, kind: Kind, first: u64, second: u64) -> u64
     ensures { result ≡ codes_under tie kind first second }
 {
-    if table::is_present(kind) {
+    if kind == Kind::Present {
         return tested(tie, first, second);
     }
     analysis::codes_of(false, kind, 0, first, second)
@@ -155,7 +139,7 @@ fn set_at(
 {
     let kind = table::kind_at(table, node);
     let field = table::field_at(table, node);
-    let children = table::arity(kind);
+    let children = kind.arity();
     if children == 0 {
         return analysis::codes_of(false, kind, field, 0, 0);
     }
@@ -179,25 +163,16 @@ fn fill_narrowed(table: &[u8], sizes: &[u16], known: &[Tie; esterel::MAX_NODES],
 
 // The narrowed start sets of all nodes in postorder: checks 1, 2, 3, 4 to 11, by K as ever, then 19. A refusal changes nothing that
 // is lent.
-pub fn narrow(table: &[u8], ties: &[u8], sets: &mut [u64]) -> Narrowed
-    ensures { Narrowing table.now ties.now sets.old sets.new result }
+pub fn narrow(table: &[u8], ties: &[u8], sets: &mut [u64]) -> Result<usize, Refusal>
+    ensures { Narrowing table.now ties.now sets.old sets.new (reply result) }
 {
+    let nodes = table.len() / 2;
     let mut sizes = [0u16; esterel::MAX_NODES];
-    let room = has_room(table.len() / 2, sets.len(), ties.len());
-    let check = analysis::check_sized(table, room, &mut sizes);
-    let table::Check::Passed = check else {
-        return refused(check);
-    };
-    let Ok(ties) = read_ties(ties) else {
-        return Narrowed::Refused {
-            number: 19,
-            node: 0,
-        };
-    };
+    let room = has_room(nodes, sets.len(), ties.len());
+    analysis::check_sized(table, room, &mut sizes)?;
+    let tied = read_ties(ties)?;
     let mut known = [Tie::Unknown; esterel::MAX_NODES];
-    find_known(table, &sizes, &ties, &mut known);
+    find_known(table, &sizes, &tied, &mut known);
     fill_narrowed(table, &sizes, &known, sets);
-    Narrowed::Done {
-        nodes: table.len() / 2,
-    }
+    Ok(nodes)
 }

@@ -1,5 +1,4 @@
 -- The entries before `i` are the sets of the nodes before it.
-use Rattle.std.proofs.Common.{◌-◌}
 use Rattle.tied.proofs.Words.{SetsTo}
 use Rattle.tied.proofs.fill_narrowed.Given as goal
 

@@ -1,8 +1,5 @@
 -- Each turn finds what is known of one more node's signal (proofs/Known.antt).
-use Rattle.std.proofs.Common.{sym, ap, arith}
-use Rattle.std.proofs.Math.Seq.{get_or-take}
-use Rattle.esterel.specs.Limits.{signals}
-use Rattle.tied.specs.Ties.{tie_of}
+use Rattle.std.proofs.Common.{arith}
 use Rattle.tied.proofs.Known.{begin, in_reach, fits, finding-next}
 use Rattle.tied.proofs.find_known.Goals as goal
 

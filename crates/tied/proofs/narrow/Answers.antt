@@ -1,21 +1,29 @@
 -- One law for each return.
-use Rattle.std.proofs.Common.{refl}
+use Rattle.std.proofs.Common.{◌∙◌, refl, sym, ap, subst}
+use Rattle.esterel.proofs.Replies.{handed}
+use Rattle.esterel.specs.Refusal.{rejects, number_of}
+use Rattle.tied.specs.Calls.{Narrowing}
 use Rattle.tied.proofs.Narrows.{table-refused, sound, ties-lent, sets-lent, ties-refused, narrowed}
 use Rattle.tied.proofs.narrow.Goals as goal
 
-pub returns-in_default : goal.returns-in_default
-returns-in_default c = table-refused c.args.ties.now c.args.sets.now c.has_room-room.ensures c.check_sized-check.ensures _ _ c.in_default.is c.refused.ensures
+pub returns-in_err-check_sized : goal.returns-in_err-check_sized
+returns-in_err-check_sized c =
+    subst (Narrowing _ _ _ _) (sym (handed c.from_residual.result _ c.from_residual.ensures.1))
+    (table-refused c.args.ties.now c.args.sets.now c.has_room-room.ensures c.in_err-check_sized.ensures)
 
 pub read_ties-requires : goal.read_ties-requires
-read_ties-requires c = ties-lent c.args.ties.now c.args.sets.now c.has_room-room.ensures c.check_sized-check.ensures c.in-Passed.is
+read_ties-requires c = ties-lent c.args.ties.now c.args.sets.now c.has_room-room.ensures c.in_ok-check_sized.ensures
 
-pub returns-in_default-read_ties : goal.returns-in_default-read_ties
-returns-in_default-read_ties c = ?
+pub returns-in_err-tied : goal.returns-in_err-tied
+returns-in_err-tied c =
+    let refusal = ap (λ r. rejects (number_of r.check) r.node) c.in_err-tied.ensures.1 in
+    subst (Narrowing _ _ _ _) (sym (handed c.from_residual-in_err-tied.result _ c.from_residual-in_err-tied.ensures.1 ∙ refusal))
+    (ties-refused c.args.ties.now c.args.sets.now c.has_room-room.ensures c.in_ok-check_sized.ensures c.in_err-tied.ensures.0)
 
 pub fill_narrowed-requires : goal.fill_narrowed-requires
 fill_narrowed-requires c =
-    (sound c.args.ties.now c.args.sets.now c.has_room-room.ensures c.check_sized-check.ensures c.in-Passed.is, sets-lent c.args.ties.now c.args.sets.now c.has_room-room.ensures c.check_sized-check.ensures c.in-Passed.is)
+    (sound c.args.ties.now c.args.sets.now c.has_room-room.ensures c.in_ok-check_sized.ensures, sets-lent c.args.ties.now c.args.sets.now c.has_room-room.ensures c.in_ok-check_sized.ensures)
 
 pub returns : goal.returns
 returns c =
-    narrowed c.args.ties.now c.args.sets.now c.has_room-room.ensures c.check_sized-check.ensures c.in-Passed.is _ c.in-Ok.ensures refl c.find_known.ensures c.fill_narrowed.ensures
+    narrowed c.args.ties.now c.args.sets.now c.has_room-room.ensures c.in_ok-check_sized.ensures _ c.in_ok-tied.ensures refl c.find_known.ensures c.fill_narrowed.ensures

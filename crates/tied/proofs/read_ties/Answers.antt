@@ -6,7 +6,7 @@ use Rattle.tied.proofs.read_ties.Goals as goal
 
 pub returns-in_err-tie : goal.returns-in_err-tie
 returns-in_err-tie c =
-    let (is, same) = err_from_is_err_and c.from_residual.result c.from_residual.ensures.1 in
+    let (e, is, same) = err_from_is_err_and c.from_residual.result c.from_residual.ensures.1 in
     rw (is, same) (reading_fails c.requires c.loop-signal.invariant (omega arith) _ c.in_err-tie.ensures)
 
 pub loop-signal-preserved : goal.loop-signal-preserved
