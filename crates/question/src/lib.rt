@@ -134,7 +134,8 @@ fn look_at(table: &[u8], sizes: &[u16], node: usize, code: usize) -> Asked
         return own.joined(look_at(table, sizes, last, code));
     }
     let then = look_at(table, sizes, first, code);
-    if then.answer {
+    let has = then.answer;
+    if has {
         return then.passed_up();
     }
     then.joined(look_at(table, sizes, last, code))

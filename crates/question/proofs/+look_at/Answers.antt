@@ -78,16 +78,16 @@ look_at-then-requires t c =
     let (ok, h, low) = c.requires in
     (omega (arith, c.decreases, after-child ok h c.kind_at-kind.ensures low c.looks_at_all.ensures c.if-looks_at_all.false), (ok, omega (arith, h), low))
 
-pub passed_up-requires-then-then : goal.passed_up-requires-then-then
-passed_up-requires-then-then t c =
+pub passed_up-requires-then-has : goal.passed_up-requires-then-has
+passed_up-requires-then-has t c =
     let (ok, h, low) = c.requires in
     looked-few ok (omega (arith, h)) _ c.look_at-then.ensures
 
-pub returns-then-then : goal.returns-then-then
-returns-then-then t c =
+pub returns-then-has : goal.returns-then-has
+returns-then-has t c =
     let (ok, h, low) = c.requires in
     then-has ok h c.kind_at-kind.ensures low c.looks_at_all.ensures c.if-looks_at_all.false c.arity.ensures c.if-arity-eq1.false c.size_at-2.ensures
-    (c.eq.ensures ∙ same-is c.kind_at-kind.result Sequence) c.if-eq.false c.look_at-then.ensures c.if-then.true c.passed_up-then-then.ensures
+    (c.eq.ensures ∙ same-is c.kind_at-kind.result Sequence) c.if-eq.false c.look_at-then.ensures c.if-has.true c.passed_up-then-has.ensures
 
 pub look_at-requires-2 : goal.look_at-requires-2
 look_at-requires-2 t c =
@@ -103,4 +103,4 @@ pub returns : goal.returns
 returns t c =
     let (ok, h, low) = c.requires in
     else_asked ok h c.kind_at-kind.ensures low c.looks_at_all.ensures c.if-looks_at_all.false c.arity.ensures c.if-arity-eq1.false c.size_at-2.ensures
-    (c.eq.ensures ∙ same-is c.kind_at-kind.result Sequence) c.if-eq.false c.look_at-then.ensures c.if-then.false c.look_at-2.ensures c.joined-2.ensures
+    (c.eq.ensures ∙ same-is c.kind_at-kind.result Sequence) c.if-eq.false c.look_at-then.ensures c.if-has.false c.look_at-2.ensures c.joined-2.ensures
