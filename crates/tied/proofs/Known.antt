@@ -25,7 +25,6 @@ use Rattle.tied.specs.declared.Tie.{Tie}
 use Rattle.tied.specs.declared.Tie.TheVariants.{Unknown}
 use Rattle.tied.specs.Narrowed.{ties_at}
 use Rattle.tied.specs.Theorems.{InBody}
-use Rattle.tied.specs.Passes.{Known}
 use Rattle.tied.proofs.Theorems.{places}
 
 -- a kind tells a signal statement
@@ -142,9 +141,6 @@ module _ {c : Ties} {t sizes lowest : List ℕ} {room known : List Tie} {i : ℕ
   here : i - 1 < size (program_of t)
   here = omega (arith, o.bound)
 
-  pub in_reach : 2 * (i - 1) + 1 < length t
-  in_reach = omega (arith, o.bound, table-length t ok.readable)
-
   low-here : (s : ℕ) → s < signals → Lowest (program_of t) s (suc (i - 1)) (get_or lowest s 0)
   low-here s l = let e : i ≡ suc (i - 1) = omega arith in subst (λ n. Lowest (program_of t) s n (get_or lowest s 0)) e (o.lows s l)
 
@@ -189,6 +185,3 @@ module _ {c : Ties} {t sizes lowest : List ℕ} {room known : List Tie} {i : ℕ
           same = length-set known (i - 1) v ∙ o.same;
           long = length-set lowest f v' ∙ o.long;
         }
-
-pub finding-end : {c : Ties} {t lowest : List ℕ} {room known : List Tie} {i : ℕ} → i ≤ 0 → Finding c t room known lowest i → Known c t known
-finding-end z o = record { at = λ j h. o.tied j (omega arith) h }

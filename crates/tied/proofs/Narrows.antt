@@ -8,7 +8,7 @@ use borrow.Author.Tests.{leb-true}
 use lib.Dec.{leb}
 use lib.ListN.{length, take}
 use Rattle.std.specs.Prelude.{Ok}
-use Rattle.codes.proofs.Bools.{left, right}
+use Rattle.codes.proofs.Bools.{left}
 use Rattle.esterel.specs.Limits.{signals}
 use Rattle.esterel.specs.Refusal.{yields, rejects}
 use Rattle.esterel.specs.Statement.{size}
@@ -36,9 +36,6 @@ module _ (ties sets : List ℕ) {t sizes : List ℕ} {room : Bool} (er : room �
 
     pub sound : Sound t sizes
     sound = record { placed = sized.ready.placed; measured = sized.measured }
-
-    pub ties-lent : signals ≤ length ties
-    ties-lent = leb-true signals (length ties) (right (leb (length t / 2) (length sets)) sized.suffices)
 
     pub sets-lent : size (program_of t) ≤ length sets
     sets-lent = omega (arith, nodes-are sized.ready, leb-true (length t / 2) (length sets) (left (leb (length t / 2) (length sets)) (leb signals (length ties)) sized.suffices))

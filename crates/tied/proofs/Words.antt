@@ -109,9 +109,6 @@ pub record SetsTo (t : List ℕ) (known : List Tie) (old now : List ℕ) (i : �
   pub long : length now ≡ length old
   pub is : (c : Ties) → Known c t known → Filling (words_of c (program_of t)) old now (size (program_of t)) i
 
-pub none_yet : (t : List ℕ) (known : List Tie) (old : List ℕ) → SetsTo t known old old 0
-none_yet t known old = record { long = refl; is = λ c o. record { bound = omega arith; is = refl } }
-
 module _ {t : List ℕ} {known : List Tie} {old now : List ℕ} {i : ℕ} (room : size (program_of t) ≤ length old) (o : SetsTo t known old now i) where
   abbrev has : (c : Ties) → size (program_of t) ≤ length (words_of c (program_of t))
   has c = omega (arith, length-words c (program_of t))

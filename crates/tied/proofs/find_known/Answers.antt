@@ -1,16 +1,10 @@
 -- Each turn finds what is known of one more node's signal (proofs/Known.antt).
 use Rattle.std.proofs.Common.{arith}
-use Rattle.tied.proofs.Known.{begin, in_reach, fits, finding-next}
+use Rattle.tied.proofs.Known.{begin, fits, finding-next}
 use Rattle.tied.proofs.find_known.Goals as goal
 
 pub loop-i-init : goal.loop-i-init
 loop-i-init c = begin _ _ c.requires.0.readable
-
-pub kind_at-kind-requires : goal.kind_at-kind-requires
-kind_at-kind-requires c = in_reach c.requires.0 c.loop-i.invariant (omega arith)
-
-pub field_at-signal-requires : goal.field_at-signal-requires
-field_at-signal-requires c = in_reach c.requires.0 c.loop-i.invariant (omega arith)
 
 pub overflow_sub-i : goal.overflow_sub-i
 overflow_sub-i c = omega (arith, c.size_at.ensures, fits c.requires.0 c.loop-i.invariant (omega arith))

@@ -3,16 +3,13 @@ use Rattle.std.proofs.Common.{◌∙◌, refl, sym, ap, subst}
 use Rattle.esterel.proofs.Replies.{handed}
 use Rattle.esterel.specs.Refusal.{rejects, number_of}
 use Rattle.tied.specs.Calls.{Narrowing}
-use Rattle.tied.proofs.Narrows.{table-refused, sound, ties-lent, sets-lent, ties-refused, narrowed}
+use Rattle.tied.proofs.Narrows.{table-refused, sound, sets-lent, ties-refused, narrowed}
 use Rattle.tied.proofs.narrow.Goals as goal
 
 pub returns-in_err-check_sized : goal.returns-in_err-check_sized
 returns-in_err-check_sized c =
     subst (Narrowing _ _ _ _) (sym (handed c.from_residual.result _ c.from_residual.ensures.1))
     (table-refused c.args.ties.now c.args.sets.now c.has_room-room.ensures c.in_err-check_sized.ensures)
-
-pub read_ties-requires : goal.read_ties-requires
-read_ties-requires c = ties-lent c.args.ties.now c.args.sets.now c.has_room-room.ensures c.in_ok-check_sized.ensures
 
 pub returns-in_err-tied : goal.returns-in_err-tied
 returns-in_err-tied c =
