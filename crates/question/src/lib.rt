@@ -78,6 +78,8 @@ fn passed_code(kind: Kind, code: usize) -> usize
 }
 
 // The start set of the statement at a node, from those of the statements beneath it: every node of the subtree is looked at, and no other.
+// The new form is no plainer: one function for this and `set_at` of the crate tied would be handed the way to a child's set, which is a read
+// of a list there and a call of the function itself here.
 fn set_at(table: &[u8], sizes: &[u16], node: usize) -> u64
     requires { Sized true table.now sizes.now × (node < size (program_of table.now)) }
     ensures { result ≡ word (start_set (stmt_at table.now node)) }

@@ -2,7 +2,7 @@
 // the nodes: from the last to the first, what is known of each node's own signal there; then from the first to the last, the sets.
 #![tactic(auto)]
 
-ghost use Rattle.std.specs.Prelude.{◌≡◌, cond, ◌&&◌, ◌<◌, ◌≤◌, leb, ltb, length, get_or, take};
+ghost use Rattle.std.specs.Prelude.{◌≡◌, cond, ◌&&◌, ◌<◌, ◌≤◌, leb, ltb, length, get_or};
 ghost use Rattle.esterel.specs.Limits.{signals};
 ghost use Rattle.esterel.specs.Refusal.{reply};
 ghost use Rattle.esterel.specs.Statement.{size};
