@@ -8,6 +8,8 @@ use borrow.Author.Tests.{leb-true}
 use lib.Dec.{leb}
 use lib.ListN.{length, get_or, drop, get_or-append}
 use lib.Seq.{drop_at}
+use Rattle.esterel.specs.Refusal.{Reply, yields, rejects}
+use Rattle.esterel.proofs.Replies.{rejects≢yields}
 use Rattle.codes.specs.Codes.{empty, word}
 use Rattle.codes.proofs.Bools.{left, right}
 use Rattle.esterel.specs.Limits.{max_nodes}
@@ -19,51 +21,40 @@ use Rattle.esterel.proofs.Accepted.{statements}
 use Rattle.esterel.proofs.Reading.{length-passed}
 use Rattle.table.specs.Program.{program_of, Readable}
 use Rattle.table.specs.Columns.{sizes_of}
-use Rattle.table.specs.Check.{refuse, pass_if, length_check}
+use Rattle.table.specs.Check.{refuse, length_check}
 use Rattle.table.specs.Check.{answer_of as check_of}
-use Rattle.table.specs.declared.Check.{Check}
-use Rattle.table.specs.declared.Check.TheVariants.{Passed}
-use Rattle.table.specs.declared.Check.TheVariants.{Refused as RefusedCheck}
 use Rattle.table.proofs.Bytes.{table-length}
 use Rattle.table.proofs.Sizing.{measured}
 use Rattle.table.proofs.Surveying.{few-nodes}
 use Rattle.analysis.specs.Steps.{set_of_stmt}
-use Rattle.analysis.specs.Passes.{Filled, words_of, onto, flags_of, Fillable, context_word, contexts_of, marks_of, Ready, Accepting, Walkable}
-use Rattle.analysis.specs.Analysis.{check_room, checked, TableChecked, SizesChecked, room_for, answer_of, refusal_of, k_of, a_of, s_of, mark_of, column, verdict_for, Analysis}
-use Rattle.analysis.specs.declared.Acceptance.{Acceptance}
-use Rattle.analysis.specs.declared.Analysed.{Analysed}
-use Rattle.analysis.specs.declared.Analysed.TheVariants.{Done, Refused}
-use Rattle.analysis.proofs.Accepts.{length_law, answer-passed, not-both}
+use Rattle.analysis.specs.Passes.{Filled, words_of, onto, flags_of, Fillable, context_word, contexts_of, marks_of, Ready, depth_of, Accepting, Walkable}
+use Rattle.analysis.specs.Analysis.{check_room, checked, TableChecked, SizesChecked, room_for, done, answer_of, k_of, a_of, s_of, mark_of, column, verdict_for, Analysis}
+use Rattle.analysis.proofs.Accepts.{length_law}
 use Rattle.analysis.proofs.Contexts.{length-marks}
 use Rattle.analysis.proofs.Filling.{filled, length-flags, flags-at}
 
 -- ---- the verdict of a call
 
--- check 3 by its answer
-room-check : (b : Bool) (next : Verdict) → check_room b next ≡ refuse (pass_if 3 b) next
-room-check true next = refl
-room-check false next = refl
-
 module _ (t : List ℕ) (room : Bool) where
   abbrev later : Bool → Verdict
   later b = check_room b (check_program (scan t 0 []))
 
-  after-length : (c : Check) → c ≡ length_check t → checked room t ≡ refuse c (later room)
+  after-length : (c : Reply (Unit {0})) → c ≡ length_check t → checked room t ≡ refuse c (later room)
   unfolding checked
   after-length c e = length_law t (later room) ∙ ap (λ x. refuse x (later room)) (sym e)
 
-  length-refused : (c : Check) (number node : ℕ) → c ≡ length_check t → c ≡ RefusedCheck number node → checked room t ≡ refused number node
-  length-refused c number node e z = after-length c e ∙ ap (λ x. refuse x (later room)) z
+  pub length-refused : (number node : ℕ) → rejects number node ≡ length_check t → checked room t ≡ refused number node
+  length-refused number node e = after-length (rejects number node) e
 
-  module _ (c : Check) (e : c ≡ length_check t) (z : c ≡ Passed) (r : Check) (er : r ≡ pass_if 3 room) where
-    after-room : checked room t ≡ refuse r (check_program (scan t 0 []))
-    after-room = after-length c e ∙ ap (λ x. refuse x (later room)) z ∙ room-check room (check_program (scan t 0 [])) ∙ ap (λ x. refuse x (check_program (scan t 0 []))) (sym er)
+  module _ (e : yields tt ≡ length_check t) where
+    after-room : checked room t ≡ check_room room (check_program (scan t 0 []))
+    after-room = after-length (yields tt) e
 
-    room-refused : (number node : ℕ) → r ≡ RefusedCheck number node → checked room t ≡ refused number node
-    room-refused number node f = after-room ∙ ap (λ x. refuse x (check_program (scan t 0 []))) f
+    pub room-refused : room ≡ false → checked room t ≡ refused 3 0
+    room-refused f = after-room ∙ ap later f
 
-    room-passed : r ≡ Passed → checked room t ≡ check_program (scan t 0 [])
-    room-passed f = after-room ∙ ap (λ x. refuse x (check_program (scan t 0 []))) f
+    pub room-passed : room ≡ true → checked room t ≡ check_program (scan t 0 [])
+    room-passed f = after-room ∙ ap later f
 
 -- where it passes, the buffers suffice and the program passes
 pub checked-program : (room : Bool) (t : List ℕ) (p : Stmt) → checked room t ≡ passed p → (room ≡ true) × (check_program (scan t 0 []) ≡ passed p)
@@ -72,73 +63,76 @@ checked-program true t p e = (refl, length-passed t (check_program (scan t 0 [])
 checked-program false t p e = let z = length-passed t (refused 3 0) p e in (cc, cc)
 
 -- a refusal's number and node are its verdict's
-pub verdict-refused : (v : Verdict) (c : Check) (number node : ℕ) → c ≡ check_of v → c ≡ RefusedCheck number node → v ≡ refused number node
-verdict-refused (passed p) c number node e z = let f : RefusedCheck number node ≡ Passed = sym z ∙ e in cc
-verdict-refused (refused x y) c number node e z = let f : RefusedCheck number node ≡ RefusedCheck x y = sym z ∙ e in cc
+pub verdict-refused : (v : Verdict) (number node : ℕ) → rejects number node ≡ check_of v → v ≡ refused number node
+verdict-refused (passed p) number node e = absurd (rejects≢yields e)
+verdict-refused (refused x y) number node e = cc
+
+depth-refused : (v : Verdict) (number node : ℕ) → rejects number node ≡ depth_of v → v ≡ refused number node
+depth-refused (passed p) number node e = absurd (rejects≢yields e)
+depth-refused (refused x y) number node e = cc
+
+depth-passed : (v : Verdict) (d : ℕ) → yields d ≡ depth_of v → (p : Stmt) × (v ≡ passed p)
+depth-passed (passed p) d e = (p, refl)
+depth-passed (refused x y) d e = absurd (rejects≢yields (sym e))
 
 -- ---- the returns of `check_table`
 
 module _ {t : List ℕ} {room : Bool} where
-  not-passed : {r : Acceptance} (number node : ℕ) → checked room t ≡ refused number node → r.check ≡ RefusedCheck number node → TableChecked room t r
-  not-passed number node v e = record { answer = e ∙ sym (ap check_of v); loops = λ z. absurd (not-both e z); ready = λ z. absurd (not-both e z) }
+  pub not-passed : {number node : ℕ} → checked room t ≡ refused number node → TableChecked room t (rejects number node)
+  not-passed v = record { answer = sym (ap depth_of v); ready = λ d z. absurd (rejects≢yields z) }
 
-  module _ {c : Check} (e : c ≡ length_check t) where
-    pub length-fails : (loops number node : ℕ) → c ≡ RefusedCheck number node → TableChecked room t (record { check = c; loops = loops })
-    length-fails loops number node z = not-passed number node (length-refused t room c number node e z) z
+  pub table-checked : {r : Reply ℕ} → yields tt ≡ length_check t → room ≡ true → Accepting t r → TableChecked room t r
+  table-checked e f o = record { answer = o.answer ∙ ap depth_of (sym (room-passed t room e f)); ready = o.ready }
 
-    module _ (z : c ≡ Passed) {b : Check} (eb : b ≡ pass_if 3 room) where
-      pub room-fails : (loops number node : ℕ) → b ≡ RefusedCheck number node → TableChecked room t (record { check = b; loops = loops })
-      room-fails loops number node f = not-passed number node (room-refused t room c e z b eb number node f) f
+  -- a call that was refused
+  pub table-refused : {number node : ℕ} → TableChecked room t (rejects number node) → checked room t ≡ refused number node
+  table-refused o = depth-refused (checked room t) _ _ o.answer
 
-      pub table-checked : {r : Acceptance} → b ≡ Passed → Accepting t r → TableChecked room t r
-      table-checked f o = record { answer = o.answer ∙ ap check_of (sym (room-passed t room c e z b eb f)); loops = o.loops; ready = o.ready }
+  pub sizes_fail : {number node : ℕ} (sizes : List ℕ) → TableChecked room t (rejects number node) → SizesChecked room t sizes (rejects number node)
+  sizes_fail sizes o = record { answer = sym (ap check_of (table-refused o)); sized = λ y. absurd (rejects≢yields y) }
 
 -- a call that passed
-module _ {t : List ℕ} {room : Bool} {r : Acceptance} (o : TableChecked room t r) where
-  pub table-refused : (number node : ℕ) → r.check ≡ RefusedCheck number node → checked room t ≡ refused number node
-  table-refused number node z = verdict-refused (checked room t) r.check number node o.answer z
+module _ {t : List ℕ} {room : Bool} {d : ℕ} (o : TableChecked room t (yields d)) where
+  pub ready : Ready t
+  ready = o.ready d refl
 
-  pub table-passed : r.check ≡ Passed → (room ≡ true) × (checked room t ≡ passed (program_of t))
-  table-passed z =
-      let (p, e) = answer-passed (checked room t) (sym z ∙ o.answer) in
+  pub table-passed : (room ≡ true) × (checked room t ≡ passed (program_of t))
+  table-passed =
+      let (p, e) = depth-passed (checked room t) d o.answer in
       let (suffices, v) = checked-program room t p e in
-      (suffices, e ∙ sym v ∙ (o.ready z).verdict)
+      (suffices, e ∙ sym v ∙ ready.verdict)
 
-  pub sizes_fail : (sizes : List ℕ) (number node : ℕ) → r.check ≡ RefusedCheck number node → SizesChecked room t sizes r.check
-  sizes_fail sizes number node z = record { answer = o.answer; sized = λ y. absurd (not-both z y) }
+  pub depth-is : d ≡ loop_depth (program_of t)
+  depth-is = let e : yields d ≡ yields (loop_depth (program_of t)) = o.answer ∙ ap depth_of table-passed.1 in cc
 
-  module _ (z : r.check ≡ Passed) where
-    abbrev fine : Readable t
-    fine = (o.ready z).placed.readable
+  abbrev fine : Readable t
+  fine = ready.placed.readable
 
-    -- what the sizes need
-    pub sizable : (old : List ℕ) → max_nodes ≤ length old → Readable t × (size (program_of t) ≤ length old)
-    sizable old long = (fine, omega (arith, few-nodes t fine))
+  -- what the sizes need
+  pub sizable : (old : List ℕ) → max_nodes ≤ length old → Readable t × (size (program_of t) ≤ length old)
+  sizable old long = (fine, omega (arith, few-nodes t fine))
 
-    -- they are filled in, in the place of old
-    pub sizes_checked : (old sizes : List ℕ) → max_nodes ≤ length sizes → sizes ≡ onto (sizes_of (program_of t)) old → SizesChecked room t sizes Passed
-    sizes_checked old sizes long is =
-        let (suffices, verdict) = table-passed z in
-        let few = few-nodes t fine in
-        record {
-          answer = sym z ∙ o.answer;
-          sized = λ _. record { suffices = suffices; verdict = verdict; ready = o.ready z; measured = measured old fine (omega arith) is; few = few };
-        }
+  -- they are filled in, in the place of old
+  pub sizes_checked : (old sizes : List ℕ) → max_nodes ≤ length sizes → sizes ≡ onto (sizes_of (program_of t)) old → SizesChecked room t sizes (yields tt)
+  sizes_checked old sizes long is =
+      let (suffices, verdict) = table-passed in
+      let few = few-nodes t fine in
+      record {
+        answer = sym (ap check_of verdict);
+        sized = λ _. record { suffices = suffices; verdict = verdict; ready = ready; measured = measured old fine (omega arith) is; few = few };
+      }
 
 -- nothing lent has changed
-pub refusing : {t k a s m : List ℕ} {r : Analysed} (number node : ℕ) → verdict_for t k a s m ≡ refused number node → r ≡ Refused number node → Analysis t k a s m k a s m r
+pub refusing : {t k a s m : List ℕ} {number node : ℕ} → verdict_for t k a s m ≡ refused number node → Analysis t k a s m k a s m (rejects number node)
 unfolding answer_of column
-refusing {k = k} {a = a} {s = s} {m = m} number node v e =
+refusing {k = k} {a = a} {s = s} {m = m} v =
     record {
-      answer = e ∙ sym (ap answer_of v);
+      answer = sym (ap answer_of v);
       starts_are = sym (ap (λ x. column k_of x k) v);
       anys_are = sym (ap (λ x. column a_of x a) v);
       contexts_are = sym (ap (λ x. column s_of x s) v);
       marks_are = sym (ap (λ x. column mark_of x m) v);
     }
-
-pub refusal_is : {c : Check} {r : Analysed} (number node : ℕ) → c ≡ RefusedCheck number node → r ≡ refusal_of c → r ≡ Refused number node
-refusal_is number node z e = e ∙ ap refusal_of z
 
 -- ---- room
 
@@ -243,11 +237,11 @@ module _ {t : List ℕ} (o : Ready t) where
             marks_room = omega (arith, nodes-are, room.marks);
           }
 
-      pub finishing : {s' m' : List ℕ} {n loops : ℕ} → verdict_for t k a s m ≡ passed p → n ≡ length t / 2 → loops ≡ loop_depth p → s' ≡ onto (contexts_of p) s → m' ≡ onto (marks_of p) f → Analysis t k a s m k' a' s' m' (Done n loops)
+      pub finishing : {s' m' : List ℕ} {n loops : ℕ} → verdict_for t k a s m ≡ passed p → n ≡ length t / 2 → loops ≡ loop_depth p → s' ≡ onto (contexts_of p) s → m' ≡ onto (marks_of p) f → Analysis t k a s m k' a' s' m' (done n loops)
       unfolding answer_of
       finishing {n = n} z en el es em =
           record {
-            answer = ap₂ Done (en ∙ nodes-are) el ∙ sym (ap answer_of z);
+            answer = ap₂ done (en ∙ nodes-are) el ∙ sym (ap answer_of z);
             starts_are = ek ∙ column-is k_of p _ _ k z (starts-column p);
             anys_are = ea ∙ column-is a_of p _ _ a z (anys-column p);
             contexts_are = es ∙ column-is s_of p _ _ s z (contexts-column p);

@@ -7,6 +7,7 @@ use Prim.Native.Nat.{ℕ, suc, ◌+◌, ◌-◌, ◌*◌, ◌≤◌, ◌<◌}
 use native.Mathlib.Omega.{arith}
 use lib.Dec.{ltb, nltb→le}
 use lib.ListN.{get_or}
+use Rattle.esterel.specs.Refusal.{Reply, yields}
 use Rattle.codes.specs.Codes.{Codes, union, given, without_ended, word}
 use Rattle.codes.specs.Words.{union_of, without_ended_of}
 use Rattle.codes.specs.Theorems.{AtMost}
@@ -29,8 +30,6 @@ use Rattle.table.specs.Program.{program_of}
 use Rattle.table.specs.Check.{refuse_found, places_check}
 use Rattle.table.specs.declared.Kind.{Kind}
 use Rattle.table.specs.declared.Kind.TheVariants.{Exit}
-use Rattle.table.specs.declared.Check.{Check}
-use Rattle.table.specs.declared.Check.TheVariants.{Passed}
 use Rattle.table.proofs.Bytes.{kind_byte, field_byte}
 use Rattle.table.proofs.Stacks.{First}
 use Rattle.table.proofs.Walk.{Waiting, place_of}
@@ -38,7 +37,7 @@ use Rattle.analysis.specs.Steps.{pause_set, set_of_stmt, sequence_of, codes_of}
 use Rattle.analysis.specs.Passes.{Placed}
 
 -- the checks of places that passed
-found_none : (number : ℕ) (o : Option ℕ) (next : Check) → refuse_found number o next ≡ Passed → (o ≡ Option.none) × (next ≡ Passed)
+found_none : (number : ℕ) (o : Option ℕ) (next : Reply (Unit {0})) → refuse_found number o next ≡ yields tt → (o ≡ Option.none) × (next ≡ yields tt)
 found_none number Option.none next e = (refl, e)
 found_none number (Option.some n) next e = (cc, cc)
 
@@ -47,7 +46,7 @@ pub record PlacesPass (ps : List Place) : Type 0 where
   pub traps : Passes too_many_traps ps
   pub exits : Passes uncaught ps
 
-pub places-pass : (ps : List Place) → places_check ps 0 ≡ Passed → PlacesPass ps
+pub places-pass : (ps : List Place) → places_check ps 0 ≡ yields tt → PlacesPass ps
 unfolding places_check
 places-pass ps e =
     let e8 = found_none 8 (first_node too_deep ps 0) _ e in

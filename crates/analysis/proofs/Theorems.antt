@@ -9,6 +9,7 @@ use native.Mathlib.Omega.{arith}
 use borrow.Author.Tests.{le-leb}
 use lib.Dec.{leb}
 use lib.ListN.{length, get_or, get_or-append}
+use Rattle.esterel.specs.Refusal.{Reply, yields, rejects}
 use Rattle.codes.specs.Codes.{Codes, word}
 use Rattle.codes.specs.Theorems.{Represents}
 use Rattle.codes.proofs.Bools.{both}
@@ -26,10 +27,9 @@ use Rattle.esterel.proofs.Refusals.{Told, refuses, told-numbered, length-told, p
 use Rattle.esterel.proofs.Figure9.{figure9}
 use Rattle.esterel.proofs.Theorems.{exactness, loop_check}
 use Rattle.analysis.specs.Passes.{onto}
-use Rattle.analysis.specs.Analysis.{checked, room_for, verdict_for, answer_of, k_of, a_of, s_of, mark_of, column, Analysis}
+use Rattle.analysis.specs.Analysis.{done, checked, room_for, verdict_for, answer_of, k_of, a_of, s_of, mark_of, column, Analysis}
 use Rattle.analysis.specs.Theorems.{Lent, ByLoops, ExactSets, Unchanged, Demand2OfCall}
 use Rattle.analysis.specs.declared.Analysed.{Analysed}
-use Rattle.analysis.specs.declared.Analysed.TheVariants.{Done, Refused}
 use Rattle.analysis.proofs.Contexts.{length-by-place, by-place-at}
 use Rattle.analysis.proofs.Analyses.{map_lines, line_k, line-a, line-s, line-mark}
 
@@ -66,19 +66,27 @@ refused_late false t number node e h =
     absurd (omega (arith, (told-numbered (subst (Told 3) e short)).known))
 
 -- an answer is of one verdict
-refused_of : (v : Verdict) (number node : ℕ) → Refused number node ≡ answer_of v → v ≡ refused number node
+refused_of : (v : Verdict) (number node : ℕ) → rejects number node ≡ answer_of v → v ≡ refused number node
 unfolding answer_of
 refused_of (passed p) number node e = cc
 refused_of (refused a b) number node e = cc
 
-done_of : (v : Verdict) (n d : ℕ) → Done n d ≡ answer_of v → (p : Stmt) × (v ≡ passed p) × (n ≡ size p) × (d ≡ loop_depth p)
+done_of : (v : Verdict) (n d : ℕ) → done n d ≡ answer_of v → (p : Stmt) × (v ≡ passed p) × (n ≡ size p) × (d ≡ loop_depth p)
 unfolding answer_of
-done_of (passed p) n d e = (p, refl, cc, cc)
+done_of (passed p) n d e = (p, refl, ap nodes_in e, ap loops_in e)
+  where
+    nodes_in : Reply Analysed → ℕ
+    nodes_in (yields a) = a.nodes
+    nodes_in (rejects x y) = 0
+
+    loops_in : Reply Analysed → ℕ
+    loops_in (yields a) = a.loops
+    loops_in (rejects x y) = 0
 done_of (refused a b) n d e = let z : ◌≡◌ {A = ℕ} 0 1 = cc in absurd (omega arith)
 
 -- ---- refusal for a loop
 
-module _ {t k a s m k' a' s' m' : List ℕ} {p : Stmt} {r : Analysed} (l : Lent t p k a s m) (o : Analysis t k a s m k' a' s' m' r) where
+module _ {t k a s m k' a' s' m' : List ℕ} {p : Stmt} {r : Reply Analysed} (l : Lent t p k a s m) (o : Analysis t k a s m k' a' s' m' r) where
   count : length t / 2 ≡ size p
   count = omega (arith, ap length (reads_only_lem t p l.well_formed.reads), length-postfix p)
 
@@ -90,15 +98,15 @@ module _ {t k a s m k' a' s' m' : List ℕ} {p : Stmt} {r : Analysed} (l : Lent 
   answer-is : r ≡ answer_of (verdict t)
   answer-is = o.answer ∙ ap answer_of (ap (λ b. checked b t) room ∙ checked-room t)
 
-  refused_as : (i : ℕ) → (r ≡ Refused 11 i) ↔ (verdict t ≡ refused 11 i)
+  refused_as : (i : ℕ) → (r ≡ rejects 11 i) ↔ (verdict t ≡ refused 11 i)
   unfolding answer_of
   refused_as i = (λ e. refused_of (verdict t) 11 i (sym e ∙ answer-is), λ e. answer-is ∙ ap answer_of e)
 
-  done_as : (r ≡ Done (size p) (loop_depth p)) ↔ (verdict t ≡ passed p)
+  done_as : (r ≡ done (size p) (loop_depth p)) ↔ (verdict t ≡ passed p)
   unfolding answer_of
   done_as = (λ e. decides l.well_formed ∙ only (first_node ends_at_once (places_of p) 0) (sym e ∙ answer-is ∙ ap answer_of (decides l.well_formed)), λ e. answer-is ∙ ap answer_of e)
     where
-      only : (x : Option ℕ) → Done (size p) (loop_depth p) ≡ answer_of (refuse_at 11 x (passed p)) → refuse_at 11 x (passed p) ≡ passed p
+      only : (x : Option ℕ) → done (size p) (loop_depth p) ≡ answer_of (refuse_at 11 x (passed p)) → refuse_at 11 x (passed p) ≡ passed p
       only none e = refl
       only (some i) e = cc
 
@@ -127,7 +135,7 @@ module _ (f : Line → ℕ) (set : Place → Codes) (is_IsWord : (x : Place) →
   entry-represents : (i : ℕ) → i < size p → Represents (word (set (place_at p i))) (set (place_at p i)) → Represents (get_or new i 0) (set (place_at p i))
   entry-represents i h whole = rw (ap (λ l. get_or l i 0) is ∙ entry-is f p old i h ∙ is_IsWord (place_at p i)) whole
 
-module _ {t k a s m k' a' s' m' : List ℕ} {n d : ℕ} (o : Analysis t k a s m k' a' s' m' (Done n d)) where
+module _ {t k a s m k' a' s' m' : List ℕ} {n d : ℕ} (o : Analysis t k a s m k' a' s' m' (done n d)) where
   exact-sets : ExactSets t s m k' a' s' m' n d
   unfolding column
   exact-sets =
@@ -156,7 +164,7 @@ module _ {t k a s m k' a' s' m' : List ℕ} {n d : ℕ} (o : Analysis t k a s m 
 
 -- ---- refusals
 
-module _ {t k a s m k' a' s' m' : List ℕ} {number node : ℕ} (o : Analysis t k a s m k' a' s' m' (Refused number node)) where
+module _ {t k a s m k' a' s' m' : List ℕ} {number node : ℕ} (o : Analysis t k a s m k' a' s' m' (rejects number node)) where
   unchanged : Unchanged number node k a s m k' a' s' m'
   unfolding column
   unchanged =

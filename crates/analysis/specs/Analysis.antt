@@ -2,16 +2,14 @@
 use Rattle.std.specs.Prelude.{ℕ, ◌/◌, ◌≤◌, ◌≡◌, Bool, true, false, ◌&&◌, List, [], map, leb, length}
 use Rattle.esterel.specs.Limits.{max_nodes}
 use Rattle.esterel.specs.Statement.{size, loop_depth}
+use Rattle.esterel.specs.Refusal.{Reply, yields, rejects}
 use Rattle.esterel.specs.Table.{Verdict, passed, refused, scan, check_length}
 use Rattle.esterel.specs.Checks.{check_program, Line, line, listing}
-use Rattle.table.specs.declared.Check.{Check}
 use Rattle.table.specs.Check.{answer_of as check_of}
 use Rattle.table.specs.Program.{program_of}
 use Rattle.table.specs.Columns.{Measured}
-use Rattle.analysis.specs.Passes.{onto, Ready}
-use Rattle.analysis.specs.declared.Acceptance.{Acceptance}
+use Rattle.analysis.specs.Passes.{onto, Ready, depth_of}
 use Rattle.analysis.specs.declared.Analysed.{Analysed}
-use Rattle.analysis.specs.declared.Analysed.TheVariants.{Done, Refused}
 
 -- check 3, between 2 and 4: whether the lent buffers suffice
 abbrev pub check_room : Bool → Verdict → Verdict
@@ -23,10 +21,9 @@ unfoldable pub checked : Bool → List ℕ → Verdict
 checked room t = check_length t (check_room room (check_program (scan t 0 [])))
 
 -- what they answer, where `room` says whether the lent buffers suffice
-pub record TableChecked (room : Bool) (t : List ℕ) (r : Acceptance) : Type 0 where
-  pub answer : r.check ≡ check_of (checked room t)
-  pub loops : r.check ≡ Check.Passed → r.loops ≡ loop_depth (program_of t)
-  pub ready : r.check ≡ Check.Passed → Ready t
+pub record TableChecked (room : Bool) (t : List ℕ) (r : Reply ℕ) : Type 0 where
+  pub answer : r ≡ depth_of (checked room t)
+  pub ready : (d : ℕ) → r ≡ yields d → Ready t
 
 -- a call that passes them, with the sizes of the subtrees
 pub record Sized (room : Bool) (t sizes : List ℕ) : Type 0 where
@@ -36,23 +33,21 @@ pub record Sized (room : Bool) (t sizes : List ℕ) : Type 0 where
   pub measured : Measured t sizes
   pub few : size (program_of t) ≤ max_nodes
 
-pub record SizesChecked (room : Bool) (t sizes : List ℕ) (r : Check) : Type 0 where
+pub record SizesChecked (room : Bool) (t sizes : List ℕ) (r : Reply (Unit {0})) : Type 0 where
   pub answer : r ≡ check_of (checked room t)
-  pub sized : r ≡ Check.Passed → Sized room t sizes
+  pub sized : r ≡ yields tt → Sized room t sizes
 
 -- n entries for each of K, A, S and marks
 abbrev pub room_for : (n starts anys contexts marks : ℕ) → Bool
 room_for n starts anys contexts marks = leb n starts && leb n anys && leb n contexts && leb n marks
 
 -- the number and values of this paper for each case of the answer
-unfoldable pub answer_of : Verdict → Analysed
-answer_of (passed p) = Done (size p) (loop_depth p)
-answer_of (refused number node) = Refused number node
+abbrev pub done : (nodes loops : ℕ) → Reply Analysed
+done n d = yields (record { nodes = n; loops = d })
 
--- a check's answer where it refuses
-abbrev pub refusal_of : Check → Analysed
-refusal_of Check.Passed = Refused 0 0  -- never asked
-refusal_of (Check.Refused number node) = Refused number node
+unfoldable pub answer_of : Verdict → Reply Analysed
+answer_of (passed p) = done (size p) (loop_depth p)
+answer_of (refused number node) = rejects number node
 
 -- the columns of the listing
 abbrev pub k_of : Line → ℕ
@@ -77,7 +72,7 @@ abbrev pub verdict_for : (t starts anys contexts marks : List ℕ) → Verdict
 verdict_for t starts anys contexts marks = checked (room_for (length t / 2) (length starts) (length anys) (length contexts) (length marks)) t
 
 -- the contract of `analyse`: the answer, and the whole content of each buffer, from the table and the buffers' old contents
-pub record Analysis (t starts anys contexts marks starts' anys' contexts' marks' : List ℕ) (r : Analysed) : Type 0 where
+pub record Analysis (t starts anys contexts marks starts' anys' contexts' marks' : List ℕ) (r : Reply Analysed) : Type 0 where
   pub answer : r ≡ answer_of (verdict_for t starts anys contexts marks)
   pub starts_are : starts' ≡ column k_of (verdict_for t starts anys contexts marks) starts
   pub anys_are : anys' ≡ column a_of (verdict_for t starts anys contexts marks) anys

@@ -3,21 +3,19 @@ use Rattle.std.specs.Prelude.{ℕ, ◌<◌, ◌≤◌, ◌≡◌, Bool, true, fa
 use Rattle.codes.specs.Codes.{bit, word}
 use Rattle.esterel.specs.Statement.{present, sequence, parallel, Stmt, leaf, one, two, size, nodes, loop_depth}
 use Rattle.esterel.specs.Sets.{start_set, Place, context_of, places_of, mark}
-use Rattle.esterel.specs.Table.{passed, scan}
+use Rattle.esterel.specs.Refusal.{Reply, yields, rejects}
+use Rattle.esterel.specs.Table.{Verdict, passed, refused, scan}
 use Rattle.esterel.specs.Checks.{first_node, ends_at_once, check_program}
 use Rattle.esterel.specs.Outcome.{statement_at}
 use Rattle.table.specs.Program.{program_of, Readable}
 pub use Rattle.table.specs.Columns.{onto}
-use Rattle.table.specs.Check.{refuse_found, places_check, answer_of}
-use Rattle.table.specs.declared.Check.{Check}
-use Rattle.table.specs.declared.Check.TheVariants.{Passed}
+use Rattle.table.specs.Check.{refuse_found, places_check}
 use Rattle.analysis.specs.Steps.{set_of_stmt}
-use Rattle.analysis.specs.declared.Acceptance.{Acceptance}
 
 -- a table that passes checks 1, 2 and 4 to 10
 pub record Placed (t : List ℕ) : Type 0 where
   pub readable : Readable t
-  pub passes : places_check (places_of (program_of t)) 0 ≡ Passed
+  pub passes : places_check (places_of (program_of t)) 0 ≡ yields tt
 
 -- the words of all nodes
 unfoldable pub words_of : Bool → Stmt → List ℕ
@@ -28,8 +26,8 @@ unfoldable pub Filled : Bool → Stmt → List ℕ → Type 0
 Filled any p sets = (j : ℕ) → j < size p → get_or sets j 0 ≡ word (set_of_stmt any (statement_at (nodes p) j))
 
 -- check 11
-unfoldable pub loops_check : Stmt → Check
-loops_check p = refuse_found 11 (first_node ends_at_once (places_of p) 0) Passed
+unfoldable pub loops_check : Stmt → Reply (Unit {0})
+loops_check p = refuse_found 11 (first_node ends_at_once (places_of p) 0) (yields tt)
 
 -- whether a sequence's first child may end at once, as a byte
 abbrev pub first_ends : Stmt → ℕ
@@ -75,8 +73,12 @@ pub record Ready (t : List ℕ) : Type 0 where
   pub verdict : check_program (scan t 0 []) ≡ passed (program_of t)
   pub placed : Placed t
 
+-- the loop depth of a program that passes
+abbrev pub depth_of : Verdict → Reply ℕ
+depth_of (passed p) = yields (loop_depth p)
+depth_of (refused number node) = rejects number node
+
 -- what checks 4 to 11 answer
-pub record Accepting (t : List ℕ) (r : Acceptance) : Type 0 where
-  pub answer : r.check ≡ answer_of (check_program (scan t 0 []))
-  pub loops : r.check ≡ Passed → r.loops ≡ loop_depth (program_of t)
-  pub ready : r.check ≡ Passed → Ready t
+pub record Accepting (t : List ℕ) (r : Reply ℕ) : Type 0 where
+  pub answer : r ≡ depth_of (check_program (scan t 0 []))
+  pub ready : (d : ℕ) → r ≡ yields d → Ready t

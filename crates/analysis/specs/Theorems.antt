@@ -6,6 +6,7 @@ use Rattle.esterel.specs.Limits.{max_nodes}
 use Rattle.esterel.specs.Statement.{Stmt, size, nodes, loop_depth}
 use Rattle.esterel.specs.Codes.{Represents}
 use Rattle.esterel.specs.Sets.{start_set, any_instant_set, context_of, place_at, mark}
+use Rattle.esterel.specs.Refusal.{Reply, rejects}
 use Rattle.esterel.specs.Table.{passed}
 use Rattle.esterel.specs.Checks.{verdict}
 use Rattle.esterel.specs.Instant.{start}
@@ -13,9 +14,8 @@ use Rattle.esterel.specs.Outcome.{statement_at}
 use Rattle.esterel.specs.Figure9.{figure_listing}
 use Rattle.esterel.specs.Theorems.{Finishes, WellFormed, EndedInK, EndsAtOnce, LowestLoop, NoLoop, NoneLost}
 use Rattle.analysis.specs.Passes.{onto}
-use Rattle.analysis.specs.Analysis.{s_of, mark_of, Analysis}
+use Rattle.analysis.specs.Analysis.{done, s_of, mark_of, Analysis}
 use Rattle.analysis.specs.declared.Analysed.{Analysed}
-use Rattle.analysis.specs.declared.Analysed.TheVariants.{Done, Refused}
 
 -- the table of the program p passes checks 1, 2 and 4 to 10, and the lent buffers suffice
 pub record Lent (t : List ℕ) (p : Stmt) (starts anys contexts marks : List ℕ) : Type 0 where
@@ -27,11 +27,11 @@ pub record Lent (t : List ℕ) (p : Stmt) (starts anys contexts marks : List ℕ
 
 -- the answer is a refusal for a loop exactly if some loop's body has 0 in K, hence exactly if some body, started, ends for some
 -- answers, and names the lowest such loop; it is Done exactly if there is none
-pub record ByLoops (p : Stmt) (r : Analysed) : Type 0 where
-  pub refuses : (i : ℕ) → (r ≡ Refused 11 i) ↔ LowestLoop p EndedInK i
-  pub refuses_exactly : (i : ℕ) → (r ≡ Refused 11 i) ↔ LowestLoop p EndsAtOnce i
-  pub accepts : (r ≡ Done (size p) (loop_depth p)) ↔ NoLoop p EndedInK
-  pub accepts_exactly : (r ≡ Done (size p) (loop_depth p)) ↔ NoLoop p EndsAtOnce
+pub record ByLoops (p : Stmt) (r : Reply Analysed) : Type 0 where
+  pub refuses : (i : ℕ) → (r ≡ rejects 11 i) ↔ LowestLoop p EndedInK i
+  pub refuses_exactly : (i : ℕ) → (r ≡ rejects 11 i) ↔ LowestLoop p EndsAtOnce i
+  pub accepts : (r ≡ done (size p) (loop_depth p)) ↔ NoLoop p EndedInK
+  pub accepts_exactly : (r ≡ done (size p) (loop_depth p)) ↔ NoLoop p EndsAtOnce
 
 -- after Done the table is that of an accepted program; bit k of entry i of the start sets is 1 exactly if some answers make the
 -- statement at node i, started, finish with code k; the contexts and marks are those of document 004's Figure 9 and its footnote; and entry i
@@ -65,9 +65,9 @@ pub record Unchanged (number node : ℕ) (starts anys contexts marks starts' any
 
 pub record Demand2OfCall : Type 0 where
   pub loops :
-      (t k a s m k' a' s' m' : List ℕ) (p : Stmt) (r : Analysed) →
+      (t k a s m k' a' s' m' : List ℕ) (p : Stmt) (r : Reply Analysed) →
       Lent t p k a s m → Analysis t k a s m k' a' s' m' r → ByLoops p r
-  pub sets : (t k a s m k' a' s' m' : List ℕ) (n d : ℕ) → Analysis t k a s m k' a' s' m' (Done n d) → ExactSets t s m k' a' s' m' n d
+  pub sets : (t k a s m k' a' s' m' : List ℕ) (n d : ℕ) → Analysis t k a s m k' a' s' m' (done n d) → ExactSets t s m k' a' s' m' n d
   pub refusals :
       (t k a s m k' a' s' m' : List ℕ) (number node : ℕ) →
-      Analysis t k a s m k' a' s' m' (Refused number node) → Unchanged number node k a s m k' a' s' m'
+      Analysis t k a s m k' a' s' m' (rejects number node) → Unchanged number node k a s m k' a' s' m'

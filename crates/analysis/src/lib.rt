@@ -5,16 +5,18 @@ ghost use Rattle.std.specs.Prelude.{◌≡◌, true, false, ◌&&◌, ◌+◌, �
 ghost use Rattle.codes.specs.Words.{◌∋◌, singleton_of, meets_of};
 ghost use Rattle.codes.specs.Codes.{bit, word};
 ghost use Rattle.esterel.specs.Limits.{max_nodes, max_depth, max_traps};
+ghost use Rattle.esterel.specs.Refusal.{reply};
 ghost use Rattle.table.specs.declared.Kind.TheVariants.{Exit};
 ghost use Rattle.table.specs.Kinds.{is_loop, is_sequence};
 ghost use Rattle.table.specs.Program.{program_of};
-ghost use Rattle.table.specs.Check.{WellSized, pass_if};
+ghost use Rattle.table.specs.Check.{WellSized};
 ghost use Rattle.analysis.specs.Steps.{pause_set, sequence_of, codes_of, under_first_of, under_second_of};
-ghost use Rattle.analysis.specs.Contexts.{TopOf, OnlyOf, SecondOf, Descended};
+ghost use Rattle.analysis.specs.Contexts.{contexts_in, traps_in, TopOf, OnlyOf, SecondOf, Descended};
 ghost use Rattle.analysis.specs.Passes.{Placed, onto, loops_check, words_of, flags_of, Fillable, contexts_of, marks_of, Walkable, Accepting};
-ghost use Rattle.analysis.specs.Analysis.{TableChecked, SizesChecked, refusal_of, room_for, Analysis};
+ghost use Rattle.analysis.specs.Analysis.{TableChecked, SizesChecked, room_for, Analysis};
 
-use table::{Check, Kind};
+use esterel::{Check, Refusal};
+use table::Kind;
 
 // The codes of a pause in K, or in A where `any` says so.
 fn pause_codes(any: bool) -> u64
@@ -82,41 +84,39 @@ fn push_codes(
 fn ends_at_once(kind: Kind, body: u64) -> bool
     ensures { result ≡ (is_loop kind && (body ∋ 0)) }
 {
-    table::is_loop(kind) & codes::has(body, 0)
+    (kind == Kind::Loop) & codes::has(body, 0)
 }
 
 // Check 11: the lowest loop whose body may end at once. No more statements are unused at a time than the depth limit, which check 8 has
 // seen to.
-fn check_loops(table: &[u8]) -> Check
+fn check_loops(table: &[u8]) -> Result<(), Refusal>
     requires { Placed table.now }
-    ensures { result ≡ loops_check (program_of table.now) }
+    ensures { reply result ≡ loops_check (program_of table.now) }
 {
     let n = table.len() / 2;
     let mut starts = [0u64; esterel::MAX_DEPTH + 1];
     let mut unused: usize = 0;
-    let mut i: usize = 0;
-    while i < n {
+    for i in 0..n {
         let kind = table::kind_at(table, i);
         let field = table::field_at(table, i);
-        unused -= table::arity(kind);
+        unused -= kind.arity();
         if ends_at_once(kind, starts[unused]) {
-            return Check::Refused {
-                number: 11,
+            return Err(Refusal {
+                check: Check::EndsAtOnce,
                 node: i,
-            };
+            });
         }
         push_codes(false, kind, field, &mut starts, unused);
         unused += 1;
-        i += 1;
     }
-    Check::Passed
+    Ok(())
 }
 
 // Whether a node is a sequence whose first child, with these start codes, may end at once: 1 or 0.
 fn first_ends(kind: Kind, first: u64) -> u8
     ensures { result ≡ bit (is_sequence kind && (first ∋ 0)) }
 {
-    (table::is_sequence(kind) & codes::has(first, 0)) as u8
+    u8::from((kind == Kind::Sequence) & codes::has(first, 0))
 }
 
 // K and A of all nodes, children before parents, and for each node whether it is a sequence whose first child may end at once. The walk
@@ -131,18 +131,16 @@ fn fill_sets(table: &[u8], start_sets: &mut [u64], any_sets: &mut [u64], flags: 
     let mut starts = [0u64; esterel::MAX_DEPTH + 1];
     let mut anys = [0u64; esterel::MAX_DEPTH + 1];
     let mut unused: usize = 0;
-    let mut i: usize = 0;
-    while i < n {
+    for i in 0..n {
         let kind = table::kind_at(table, i);
         let field = table::field_at(table, i);
-        unused -= table::arity(kind);
+        unused -= kind.arity();
         flags[i] = first_ends(kind, starts[unused]);
         push_codes(false, kind, field, &mut starts, unused);
         push_codes(true, kind, field, &mut anys, unused);
         start_sets[i] = starts[unused];
         any_sets[i] = anys[unused];
         unused += 1;
-        i += 1;
     }
 }
 
@@ -172,20 +170,23 @@ struct Surroundings {
     waiting: usize,
 }
 
+// What a subtree that waits needs: its context, and the traps around it.
+#[derive(Clone, Copy)]
+struct Pending {
+    context: u64,
+    traps: u32,
+}
+
 // Past a leaf: the subtree that waits next.
-fn next_waiting(
-    pending: &[u64; esterel::MAX_DEPTH + 1],
-    counts: &[u32; esterel::MAX_DEPTH + 1],
-    waiting: usize,
-) -> Surroundings
+fn next_waiting(stack: &[Pending; esterel::MAX_DEPTH + 1], waiting: usize) -> Surroundings
     requires { (0 < waiting) × (waiting ≤ max_depth) }
-    ensures { TopOf pending.now counts.now waiting result }
+    ensures { TopOf (contexts_in stack.now) (traps_in stack.now) waiting result }
 {
-    let top = waiting - 1;
+    let next = stack[waiting - 1];
     Surroundings {
-        context: pending[top],
-        traps: counts[top],
-        waiting: top,
+        context: next.context,
+        traps: next.traps,
+        waiting: waiting - 1,
     }
 }
 
@@ -202,55 +203,54 @@ fn only_child(node: Surroundings, context: u64, traps: u32) -> Surroundings
 
 // Into the second of two children, with the contexts of both. The first waits.
 fn second_child(
-    pending: &mut [u64; esterel::MAX_DEPTH + 1],
-    counts: &mut [u32; esterel::MAX_DEPTH + 1],
+    stack: &mut [Pending; esterel::MAX_DEPTH + 1],
     node: Surroundings,
     first: u64,
     second: u64,
 ) -> Surroundings
     requires { node.waiting ≤ max_depth }
-    ensures { SecondOf node first second pending.old counts.old pending.new counts.new result }
+    ensures { SecondOf node first second (contexts_in stack.old) (traps_in stack.old) (contexts_in stack.new) (traps_in stack.new) result }
 {
-    let place = node.waiting;
-    pending[place] = first;
-    counts[place] = node.traps;
+    stack[node.waiting] = Pending {
+        context: first,
+        traps: node.traps,
+    };
     Surroundings {
         context: second,
         traps: node.traps,
-        waiting: place + 1,
+        waiting: node.waiting + 1,
     }
 }
 
-// From a node to the node before it, with the contexts of the other subtrees that wait in `pending` and the traps around them in
-// `counts`. `last` is the start set of the last child, if there is one, and `ends` says whether a sequence's first child may end at once.
+// From a node to the node before it; on the stack are the other subtrees that wait. `last` is the start set of the last child, if
+// there is one, and `ends` says whether a sequence's first child may end at once.
 fn descend(
     kind: Kind,
-    pending: &mut [u64; esterel::MAX_DEPTH + 1],
-    counts: &mut [u32; esterel::MAX_DEPTH + 1],
+    stack: &mut [Pending; esterel::MAX_DEPTH + 1],
     node: Surroundings,
     last: u64,
     ends: u8,
 ) -> Surroundings
     requires { (node.traps ≤ max_traps) × (0 < node.waiting) × (node.waiting ≤ max_depth) }
-    ensures { Descended kind node last ends pending.old counts.old pending.new counts.new result }
+    ensures { Descended kind node last ends (contexts_in stack.old) (traps_in stack.old) (contexts_in stack.new) (traps_in stack.new) result }
 {
     let context = node.context;
     let traps = node.traps;
     match kind {
         Kind::Nothing | Kind::Pause | Kind::Emit | Kind::Exit | Kind::Unknown => {
-            next_waiting(pending, counts, node.waiting)
+            next_waiting(stack, node.waiting)
         }
         Kind::Signal | Kind::Suspend => only_child(node, context, traps),
         Kind::Loop => only_child(node, codes::union(context, codes::singleton(0)), traps),
         Kind::Trap => only_child(node, codes::under_trap(context), traps + 1),
-        Kind::Present => second_child(pending, counts, node, context, context),
+        Kind::Present => second_child(stack, node, context, context),
         Kind::Sequence => {
             let first = first_context(context, last);
-            second_child(pending, counts, node, first, second_context(context, ends))
+            second_child(stack, node, first, second_context(context, ends))
         }
         Kind::Parallel => {
             let branch = codes::under_parallel(context, traps);
-            second_child(pending, counts, node, branch, branch)
+            second_child(stack, node, branch, branch)
         }
     }
 }
@@ -259,7 +259,7 @@ fn descend(
 fn mark(set: u64, context: u64) -> u8
     ensures { result ≡ bit (meets_of set context) }
 {
-    if codes::meets(set, context) { 1 } else { 0 }
+    u8::from(codes::meets(set, context))
 }
 
 // The start set of the node before, which is the last child of a node that has children; nothing at the first node, which has none.
@@ -274,131 +274,73 @@ fn last_set(sets: &[u64], node: usize) -> u64
 }
 
 // The contexts and the marks, in one walk from the last node to the first. What waits are the subtrees that end right before the nodes
-// done. The context of the one that ends next, and the traps around it, are at hand, and those of the others are on two stacks, the next
-// one on top.
+// done. The context of the one that ends next, and the traps around it, are at hand, and those of the others are on a stack, the next one
+// on top.
 fn fill_contexts(table: &[u8], sets: &[u64], anys: &[u64], contexts: &mut [u64], marks: &mut [u8])
     requires { Walkable table.now sets.now anys.now contexts.old marks.old }
     ensures contexts { contexts.new ≡ onto (contexts_of (program_of table.now)) contexts.old }
     ensures marks { marks.new ≡ onto (marks_of (program_of table.now)) marks.old }
 {
-    let mut pending = [0u64; esterel::MAX_DEPTH + 1];
-    let mut counts = [0u32; esterel::MAX_DEPTH + 1];
+    let nothing = Pending {
+        context: 0,
+        traps: 0,
+    };
+    let mut stack = [nothing; esterel::MAX_DEPTH + 1];
     let mut node = Surroundings {
         context: 0,
         traps: 0,
         waiting: 1,
     };
-    let mut i = table.len() / 2;
-    while 0 < i {
-        i -= 1;
+    for i in (0..table.len() / 2).rev() {
         let kind = table::kind_at(table, i);
         let ends = marks[i];
         contexts[i] = node.context;
         marks[i] = mark(anys[i], node.context);
-        node = descend(
-            kind,
-            &mut pending,
-            &mut counts,
-            node,
-            last_set(sets, i),
-            ends,
-        );
+        node = descend(kind, &mut stack, node, last_set(sets, i), ends);
     }
 }
 
-// The answer of checks 4 to 11, and the loop depth where they pass.
-#[derive(Clone, Copy)]
-pub struct Acceptance {
-    pub check: Check,
-    pub loops: usize,
-}
-
-// Checks 4 to 11 of a table that passes 1 and 2.
-fn accept(table: &[u8]) -> Acceptance
+// Checks 4 to 11 of a table that passes 1 and 2, and its loop depth.
+fn accept(table: &[u8]) -> Result<usize, Refusal>
     requires { WellSized table.now }
-    ensures { Accepting table.now result }
+    ensures { Accepting table.now (reply result) }
 {
-    let read = table::read_nodes(table);
-    let Check::Passed = read else {
-        return Acceptance {
-            check: read,
-            loops: 0,
-        };
-    };
+    table::read_nodes(table)?;
     let found = table::survey_table(table);
-    let placed = found.check;
-    let Check::Passed = placed else {
-        return Acceptance {
-            check: placed,
-            loops: 0,
-        };
-    };
-    Acceptance {
-        check: check_loops(table),
-        loops: found.loops,
-    }
+    found.check?;
+    check_loops(table)?;
+    Ok(found.loops)
 }
 
-// Check 3, by whether the lent buffers suffice.
-fn check_room(room: bool) -> Check
-    ensures { result ≡ pass_if 3 room }
+// Checks 1, 2, 3 and 4 to 11 of a call, and the loop depth; `room` says whether the lent buffers suffice.
+pub fn check_table(table: &[u8], room: bool) -> Result<usize, Refusal>
+    ensures { TableChecked room table.now (reply result) }
 {
-    if room {
-        return Check::Passed;
+    table::check_length(table)?;
+    if !room {
+        return Err(Refusal {
+            check: Check::NoRoom,
+            node: 0,
+        });
     }
-    Check::Refused { number: 3, node: 0 }
-}
-
-// Checks 1, 2, 3 and 4 to 11 of a call; `room` says whether the lent buffers suffice.
-pub fn check_table(table: &[u8], room: bool) -> Acceptance
-    ensures { TableChecked room table.now result }
-{
-    let length = table::check_length(table);
-    let Check::Passed = length else {
-        return Acceptance {
-            check: length,
-            loops: 0,
-        };
-    };
-    let lent = check_room(room);
-    let Check::Passed = lent else {
-        return Acceptance {
-            check: lent,
-            loops: 0,
-        };
-    };
     accept(table)
 }
 
 // The same of a call that walks the tree: where the checks pass, the sizes of all subtrees are filled in.
-pub fn check_sized(table: &[u8], room: bool, sizes: &mut [u16]) -> Check
+pub fn check_sized(table: &[u8], room: bool, sizes: &mut [u16]) -> Result<(), Refusal>
     requires { max_nodes ≤ length sizes.old }
-    ensures { SizesChecked room table.now sizes.new result }
+    ensures { SizesChecked room table.now sizes.new (reply result) }
 {
-    let accepted = check_table(table, room);
-    let check = accepted.check;
-    let Check::Passed = check else {
-        return check;
-    };
+    check_table(table, room)?;
     table::fill_sizes(table, sizes);
-    Check::Passed
+    Ok(())
 }
 
-// What an analysis answers: the number of nodes and the loop depth, or the number and the node of the refusal.
-#[derive(Clone, Copy)]
-pub enum Analysed {
-    Done { nodes: usize, loops: usize },
-    Refused { number: u8, node: usize },
-}
-
-// The refusal that a check answers. It is not asked of one that passed.
-fn refused(check: Check) -> Analysed
-    ensures { result ≡ refusal_of check }
-{
-    match check {
-        Check::Passed => Analysed::Refused { number: 0, node: 0 },
-        Check::Refused { number, node } => Analysed::Refused { number, node },
-    }
+// What is told of a table that passes the checks: the number of nodes and the loop depth.
+#[derive(Clone, Copy, PartialEq, Eq)]
+pub struct Analysed {
+    pub nodes: usize,
+    pub loops: usize,
 }
 
 // Whether each of four buffers has an entry for each of n nodes.
@@ -416,8 +358,8 @@ pub fn analyse(
     any_sets: &mut [u64],
     contexts: &mut [u64],
     marks: &mut [u8],
-) -> Analysed
-    ensures { Analysis table.now start_sets.old any_sets.old contexts.old marks.old start_sets.new any_sets.new contexts.new marks.new result }
+) -> Result<Analysed, Refusal>
+    ensures { Analysis table.now start_sets.old any_sets.old contexts.old marks.old start_sets.new any_sets.new contexts.new marks.new (reply result) }
 {
     let n = table.len() / 2;
     let room = has_room(
@@ -427,15 +369,8 @@ pub fn analyse(
         contexts.len(),
         marks.len(),
     );
-    let accepted = check_table(table, room);
-    let check = accepted.check;
-    let Check::Passed = check else {
-        return refused(check);
-    };
+    let loops = check_table(table, room)?;
     fill_sets(table, start_sets, any_sets, marks);
     fill_contexts(table, start_sets, any_sets, contexts, marks);
-    Analysed::Done {
-        nodes: n,
-        loops: accepted.loops,
-    }
+    Ok(Analysed { nodes: n, loops })
 }

@@ -10,7 +10,7 @@ use lib.Count.{count_trailing_zeros, count_leading_zeros, leading_top, under}
 use Rattle.codes.specs.Codes.{Codes, up_to}
 use Rattle.codes.specs.Words.{◌∋◌, set_of, least_from, greatest_below}
 use Rattle.codes.specs.Theorems.{Lowest, Highest}
-use Rattle.codes.specs.declared.Found.TheVariants.{Code}
+use Rattle.std.specs.Prelude.{Some}
 use Rattle.codes.proofs.Bits.{∋_low, ∋_suc, ∋_none}
 use Rattle.codes.proofs.WordBits.{code_lt}
 use Rattle.codes.proofs.Members.{up_to_in}
@@ -47,22 +47,22 @@ leading_highest n w p h =
 
 -- ---- the searches
 
-pub least-found : (n i k : ℕ) (a : Codes) → i ≤ k → k < i + n → Lowest a k → least_from n i a ≡ Code k
+pub least-found : (n i k : ℕ) (a : Codes) → i ≤ k → k < i + n → Lowest a k → least_from n i a ≡ Some k
 unfolding least_from
 least-found zero i k a l h m = absurd (omega arith)
 least-found (suc n) i k a l h m = go (a i) refl (λ q. least-found n (suc i) k a q (omega arith) m)
   where
-    go : (b : Bool) → a i ≡ b → (suc i ≤ k → least_from n (suc i) a ≡ Code k) → cond b (Code i) (least_from n (suc i) a) ≡ Code k
-    go true q ih = let g = m.least i q in ap Code (omega arith)
+    go : (b : Bool) → a i ≡ b → (suc i ≤ k → least_from n (suc i) a ≡ Some k) → cond b (Some i) (least_from n (suc i) a) ≡ Some k
+    go true q ih = let g = m.least i q in ap Some (omega arith)
     go false q ih = ih (lt_of_le-ne l (λ r. false≢true (sym q ∙ ap a r ∙ m.is_in)))
 
-pub greatest-found : (n k : ℕ) (a : Codes) → k < n → Highest a k → greatest_below n a ≡ Code k
+pub greatest-found : (n k : ℕ) (a : Codes) → k < n → Highest a k → greatest_below n a ≡ Some k
 unfolding greatest_below
 greatest-found zero k a h m = absurd (omega arith)
 greatest-found (suc n) k a h m = go (a n) refl (λ q. greatest-found n k a q m)
   where
-    go : (b : Bool) → a n ≡ b → (k < n → greatest_below n a ≡ Code k) → cond b (Code n) (greatest_below n a) ≡ Code k
-    go true q ih = let g = m.most n q in ap Code (omega arith)
+    go : (b : Bool) → a n ≡ b → (k < n → greatest_below n a ≡ Some k) → cond b (Some n) (greatest_below n a) ≡ Some k
+    go true q ih = let g = m.most n q in ap Some (omega arith)
     go false q ih = ih (lt_of_le-ne (omega arith) (λ r. false≢true (sym q ∙ ap a (sym r) ∙ m.is_in)))
 
 -- ---- some code up to k

@@ -13,8 +13,7 @@ use lib.Count.{count_trailing_zeros, count_leading_zeros}
 use Rattle.codes.specs.Codes.{Codes, without_ended, up_to, larger, caught, meets, under_trap}
 use Rattle.codes.specs.Words.{◌∋◌, set_of, singleton_of, union_of, without_ended_of, meets_of, least_from, greatest_below, lowest_of, highest_of, larger_of, parallel_of, caught_of, under_trap_of, under_parallel_of, span_of}
 use Rattle.codes.specs.Theorems.{Lowest, Highest}
-use Rattle.codes.specs.declared.Found.{Found}
-use Rattle.codes.specs.declared.Found.TheVariants.{Code, NoCode}
+use Rattle.std.specs.Prelude.{Option, Some, None}
 use Rattle.codes.proofs.Bools.{both, left, right, either, inl_true, inr_true, same_test}
 use Rattle.codes.proofs.Members.{larger_in, larger_out}
 use Rattle.codes.proofs.Bits.{∋_none, ∋_and, ∋_or, ∋_shr, ∋_shl_mod, ∋_pow, ∋_ones, ∋_from, ∋_mod}
@@ -62,29 +61,29 @@ meets-is a b hb = some-code 63 (bit_and a b) (and-fits a b hb) ∙ up_to-same (s
 
 -- ---- `lowest`, `highest`
 
-pub lowest-is : (w : ℕ) → 0 < w → w < 2 ^ 64 → Code (count_trailing_zeros 64 w) ≡ lowest_of w
+pub lowest-is : (w : ℕ) → 0 < w → w < 2 ^ 64 → Some (count_trailing_zeros 64 w) ≡ lowest_of w
 unfolding lowest_of
 lowest-is w p h = sym (least-found 64 0 (count_trailing_zeros 64 w) (set_of w) (omega arith) (omega (arith, trailing_lt 64 w p h)) (trailing_lowest 64 w p h))
 
-pub highest-is : (w : ℕ) → 0 < w → w < 2 ^ 64 → Code (63 - count_leading_zeros 64 w) ≡ highest_of w
+pub highest-is : (w : ℕ) → 0 < w → w < 2 ^ 64 → Some (63 - count_leading_zeros 64 w) ≡ highest_of w
 unfolding highest_of
 highest-is w p h = sym (greatest-found 64 (63 - count_leading_zeros 64 w) (set_of w) (omega arith) (leading_highest 63 w p h).1)
 
 -- the search in 0 computes
-pub lowest-none : NoCode ≡ lowest_of 0
+pub lowest-none : None ≡ lowest_of 0
 unfolding ◌∋◌ least_from lowest_of
 lowest-none = refl
 
-pub highest-none : NoCode ≡ highest_of 0
+pub highest-none : None ≡ highest_of 0
 unfolding ◌∋◌ greatest_below highest_of
 highest-none = refl
 
 -- ---- `parallel`
 
 -- an end of the set that w holds: there is none in 0, and else a code of this kind
-pub data End (P : Codes → ℕ → Type 0) (w : ℕ) : Found → Type 0 where
-  without : w ≡ 0 → End P w NoCode
-  ends : (k : ℕ) → k < 64 → P (set_of w) k → End P w (Code k)
+pub data End (P : Codes → ℕ → Type 0) (w : ℕ) : Option ℕ → Type 0 where
+  without : w ≡ 0 → End P w None
+  ends : (k : ℕ) → k < 64 → P (set_of w) k → End P w (Some k)
 
 pub lowest-end : (w : ℕ) → w < 2 ^ 64 → End Lowest w (lowest_of w)
 lowest-end zero h = subst (End Lowest 0) lowest-none (without refl)
@@ -108,9 +107,9 @@ pub record Larger (P : Codes → ℕ → Type 0) (a b k : ℕ) : Type 0 where
   pub below : k < 64
 
 -- what is found as that: nothing where one set is empty
-pub data LargerFound (P : Codes → ℕ → Type 0) (a b : ℕ) : Found → Type 0 where
-  missing : 0 ≡ parallel_of a b → LargerFound P a b NoCode
-  found : (k : ℕ) → Larger P a b k → LargerFound P a b (Code k)
+pub data LargerFound (P : Codes → ℕ → Type 0) (a b : ℕ) : Option ℕ → Type 0 where
+  missing : 0 ≡ parallel_of a b → LargerFound P a b None
+  found : (k : ℕ) → Larger P a b k → LargerFound P a b (Some k)
 
 parallel_none_l : (b : ℕ) → 0 ≡ parallel_of 0 b
 unfolding parallel_of
@@ -120,23 +119,23 @@ parallel-none-r : (a : ℕ) → 0 ≡ parallel_of a 0
 unfolding parallel_of
 parallel-none-r a = sym (word-empty _ (λ k. simp (∋_none k, up_to-none (set_of 0) k ∋_none, and-false)))
 
-larger-found : {P : Codes → ℕ → Type 0} {a b : ℕ} {x y : Found} → End P a x → End P b y → LargerFound P a b (larger_of x y)
+larger-found : {P : Codes → ℕ → Type 0} {a b : ℕ} {x y : Option ℕ} → End P a x → End P b y → LargerFound P a b (larger_of x y)
 larger-found {b = b} (without e) d = missing (rw e (parallel_none_l b))
 larger-found {a = a} (ends k h m) (without e) = missing (rw e (parallel-none-r a))
 larger-found (ends i h m) (ends j l n) =
     found (max i j) (record { first = i; second = j; first_end = m; second_end = n; is = refl; below = omega arith })
 
-module _ {a b : ℕ} {x y r : Found} (fa : a < 2 ^ 64) (fb : b < 2 ^ 64) (er : r ≡ larger_of x y) where
+module _ {a b : ℕ} {x y r : Option ℕ} (fa : a < 2 ^ 64) (fb : b < 2 ^ 64) (er : r ≡ larger_of x y) where
   pub low-found : x ≡ lowest_of a → y ≡ lowest_of b → LargerFound Lowest a b r
   low-found ex ey = rw (er, ex, ey) (larger-found (lowest-end a fa) (lowest-end b fb))
 
   pub high-found : x ≡ highest_of a → y ≡ highest_of b → LargerFound Highest a b r
   high-found ex ey = rw (er, ex, ey) (larger-found (highest-end a fa) (highest-end b fb))
 
-pub is-missing : {P : Codes → ℕ → Type 0} {a b : ℕ} → LargerFound P a b NoCode → 0 ≡ parallel_of a b
+pub is-missing : {P : Codes → ℕ → Type 0} {a b : ℕ} → LargerFound P a b None → 0 ≡ parallel_of a b
 is-missing (missing e) = e
 
-pub is_found : {P : Codes → ℕ → Type 0} {a b k : ℕ} → LargerFound P a b (Code k) → Larger P a b k
+pub is_found : {P : Codes → ℕ → Type 0} {a b k : ℕ} → LargerFound P a b (Some k) → Larger P a b k
 is_found (found k l) = l
 
 -- the larger ones are the codes of either set between the larger ends

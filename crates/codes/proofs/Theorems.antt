@@ -6,7 +6,7 @@ use Prim.Native.Nat.{ℕ}
 use native.Mathlib.Omega.{arith}
 use Rattle.codes.specs.Codes.{Codes, only, union, without_ended, larger, caught, meets, under_trap, under_parallel, word}
 use Rattle.codes.specs.Words.{◌∋◌, set_of, union_of, without_ended_of, meets_of, parallel_of, caught_of, under_trap_of, under_parallel_of}
-use Rattle.codes.specs.declared.Found.{Found}
+use Rattle.std.specs.Prelude.{Option}
 use Rattle.codes.specs.Theorems.{AtMost, Represents, Lowest, Highest, FoundIn, nowhere, found, OnSets}
 use Rattle.codes.proofs.Bools.{cannot_pass}
 use Rattle.codes.proofs.Bits.{∋_none}
@@ -37,7 +37,7 @@ module _ {w : ℕ} {a : Codes} (h : Represents w a) where
   highest_of_lem : (k : ℕ) → Highest (set_of w) k → Highest a k
   highest_of_lem k l = record { is_in = sym (h.bits k) ∙ l.is_in; most = λ j e. l.most j (h.bits j ∙ e) }
 
-  found_in : {Such : Codes → ℕ → Type 0} {x : Found} → ((k : ℕ) → Such (set_of w) k → Such a k) → End Such w x → FoundIn Such a x
+  found_in : {Such : Codes → ℕ → Type 0} {x : Option ℕ} → ((k : ℕ) → Such (set_of w) k → Such a k) → End Such w x → FoundIn Such a x
   found_in of (without e) = nowhere (λ k. sym (h.bits k) ∙ ap (λ v. v ∋ k) e ∙ ∋_none k)
   found_in of (ends k l s) = found k (of k s)
 

@@ -1,10 +1,8 @@
 -- What the operations promise of sets (F-7): their answers for codes 0 to 63, and for 0 to 62 of the one that moves codes up under a trap.
 -- The statements alone; the proofs are in proofs/Theorems.antt.
-use Rattle.std.specs.Prelude.{ℕ, ◌+◌, ◌^◌, ◌≤◌, ◌<◌, ◌≡◌, ◌↔◌, true, false}
+use Rattle.std.specs.Prelude.{ℕ, ◌+◌, ◌^◌, ◌≤◌, ◌<◌, ◌≡◌, ◌↔◌, true, false, Option, Some, None}
 use Rattle.codes.specs.Codes.{Codes, only, union, without_ended, larger, caught, under_trap, under_parallel, word}
 use Rattle.codes.specs.Words.{◌∋◌, singleton_of, union_of, without_ended_of, meets_of, lowest_of, highest_of, parallel_of, caught_of, under_trap_of, under_parallel_of}
-use Rattle.codes.specs.declared.Found.{Found}
-use Rattle.codes.specs.declared.Found.TheVariants.{Code, NoCode}
 
 -- no code of a is above n
 abbrev pub AtMost : ℕ → Codes → Type 0
@@ -24,9 +22,9 @@ pub record Highest (a : Codes) (k : ℕ) : Type 0 where
   pub most : (j : ℕ) → a j ≡ true → j ≤ k
 
 -- what is found is such a code of a, or none where a is empty
-pub data FoundIn (Such : Codes → ℕ → Type 0) (a : Codes) : Found → Type 0 where
-  nowhere : ((k : ℕ) → a k ≡ false) → FoundIn Such a NoCode
-  found : (k : ℕ) → Such a k → FoundIn Such a (Code k)
+pub data FoundIn (Such : Codes → ℕ → Type 0) (a : Codes) : Option ℕ → Type 0 where
+  nowhere : ((k : ℕ) → a k ≡ false) → FoundIn Such a None
+  found : (k : ℕ) → Such a k → FoundIn Such a (Some k)
 
 pub record OnSets : Type 0 where
   -- a set is represented exactly if it has no code above 63, and then by its word alone

@@ -1,8 +1,6 @@
 -- The operations of this crate on 64-bit numbers: each does to the sets what the operation of `Codes` does. The codes are those below 64.
-use Rattle.std.specs.Prelude.{ℕ, zero, suc, ◌/◌, ◌%◌, ◌^◌, max, Bool, ◌&&◌, cond, eqb, leb}
+use Rattle.std.specs.Prelude.{ℕ, zero, suc, ◌/◌, ◌%◌, ◌^◌, max, Bool, ◌&&◌, cond, eqb, leb, Option, Some, None}
 use Rattle.codes.specs.Codes.{Codes, only, union, without_ended, larger, caught, meets, under_trap, under_parallel, word}
-use Rattle.codes.specs.declared.Found.{Found}
-use Rattle.codes.specs.declared.Found.TheVariants.{Code, NoCode}
 
 infix 40 ◌∋◌
 -- the set w has code k: bit k of w is 1
@@ -38,26 +36,26 @@ unfoldable pub under_parallel_of : ℕ → ℕ → ℕ
 under_parallel_of t p = word (under_parallel t (set_of p))
 
 -- the first of the n codes from k on that is in a
-unfoldable pub least_from : ℕ → ℕ → Codes → Found
-least_from zero k a = NoCode
-least_from (suc n) k a = cond (a k) (Code k) (least_from n (suc k) a)
+unfoldable pub least_from : ℕ → ℕ → Codes → Option ℕ
+least_from zero k a = None
+least_from (suc n) k a = cond (a k) (Some k) (least_from n (suc k) a)
 
 -- the last code below n that is in a
-unfoldable pub greatest_below : ℕ → Codes → Found
-greatest_below zero a = NoCode
-greatest_below (suc n) a = cond (a n) (Code n) (greatest_below n a)
+unfoldable pub greatest_below : ℕ → Codes → Option ℕ
+greatest_below zero a = None
+greatest_below (suc n) a = cond (a n) (Some n) (greatest_below n a)
 
-unfoldable pub lowest_of : ℕ → Found
+unfoldable pub lowest_of : ℕ → Option ℕ
 lowest_of w = least_from 64 0 (set_of w)
 
-unfoldable pub highest_of : ℕ → Found
+unfoldable pub highest_of : ℕ → Option ℕ
 highest_of w = greatest_below 64 (set_of w)
 
 -- the larger of two codes, where there are two
-abbrev pub larger_of : Found → Found → Found
-larger_of (Code a) (Code b) = Code (max a b)
-larger_of (Code a) NoCode = NoCode
-larger_of NoCode b = NoCode
+abbrev pub larger_of : Option ℕ → Option ℕ → Option ℕ
+larger_of (Some a) (Some b) = Some (max a b)
+larger_of (Some a) None = None
+larger_of None b = None
 
 -- the codes from `from` to `to`
 unfoldable pub span_of : ℕ → ℕ → ℕ

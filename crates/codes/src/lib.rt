@@ -5,13 +5,6 @@ ghost use Rattle.std.specs.Prelude.{◌≡◌, ◌+◌, ◌<◌};
 ghost use Rattle.codes.specs.Codes.{catch_code};
 ghost use Rattle.codes.specs.Words.{◌∋◌, singleton_of, union_of, without_ended_of, meets_of, lowest_of, highest_of, larger_of, parallel_of, caught_of, under_trap_of, under_parallel_of, span_of};
 
-// A code of a set, or that the set has none.
-#[derive(Clone, Copy)]
-pub enum Found {
-    Code(u32),
-    NoCode,
-}
-
 // Whether the set has the code.
 pub fn has(set: u64, code: u32) -> bool
     requires { code < 64 }
@@ -38,13 +31,11 @@ pub fn union(a: u64, b: u64) -> u64
 pub fn catch_code(code: usize) -> usize
     ensures { result ≡ catch_code code }
 {
-    if code < 2 {
-        return code;
+    match code {
+        0 | 1 => code,
+        2 => 0,
+        _ => code - 1,
     }
-    if code == 2 {
-        return 0;
-    }
-    code - 1
 }
 
 // The set without code 0: what is left once the statement has ended.
@@ -62,23 +53,23 @@ pub fn meets(a: u64, b: u64) -> bool
 }
 
 // The lowest code of a set, from its trailing zeros.
-pub fn lowest(set: u64) -> Found
+pub fn lowest(set: u64) -> Option<u32>
     ensures { result ≡ lowest_of set }
 {
     if set == 0 {
-        return Found::NoCode;
+        return None;
     }
-    Found::Code(u64::trailing_zeros(set))
+    Some(set.trailing_zeros())
 }
 
 // The highest code of a set, from its leading zeros.
-pub fn highest(set: u64) -> Found
+pub fn highest(set: u64) -> Option<u32>
     ensures { result ≡ highest_of set }
 {
     if set == 0 {
-        return Found::NoCode;
+        return None;
     }
-    Found::Code(63 - u64::leading_zeros(set))
+    Some(63 - set.leading_zeros())
 }
 
 // The codes from low to high.
@@ -90,19 +81,10 @@ fn span(low: u32, high: u32) -> u64
 }
 
 // The larger of two codes, where there are two.
-fn larger(a: Found, b: Found) -> Found
+fn larger(a: Option<u32>, b: Option<u32>) -> Option<u32>
     ensures { result ≡ larger_of a b }
 {
-    let Found::Code(x) = a else {
-        return Found::NoCode;
-    };
-    let Found::Code(y) = b else {
-        return Found::NoCode;
-    };
-    if x < y {
-        return Found::Code(y);
-    }
-    Found::Code(x)
+    Some(a?.max(b?))
 }
 
 // Every larger one of a code of a and a code of b: the codes of either, from the larger of the
@@ -110,12 +92,10 @@ fn larger(a: Found, b: Found) -> Found
 pub fn parallel(a: u64, b: u64) -> u64
     ensures { result ≡ parallel_of a b }
 {
-    let low_end = larger(lowest(a), lowest(b));
-    let Found::Code(low) = low_end else {
+    let Some(low) = larger(lowest(a), lowest(b)) else {
         return 0;
     };
-    let high_end = larger(highest(a), highest(b));
-    let Found::Code(high) = high_end else {
+    let Some(high) = larger(highest(a), highest(b)) else {
         return 0;
     };
     (a | b) & span(low, high)

@@ -1,3 +1,4 @@
+pub mod Replies
 pub mod TableW
 pub mod Lock
 pub mod Sizes

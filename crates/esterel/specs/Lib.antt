@@ -2,6 +2,7 @@ pub mod Limits
 pub mod Statement
 pub mod Codes
 pub mod Sets
+pub mod Refusal
 pub mod Table
 pub mod Checks
 pub mod Instant

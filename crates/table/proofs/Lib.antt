@@ -1,3 +1,4 @@
+pub mod Comparing
 pub mod Buffers
 pub mod Filling
 pub mod Bytes

@@ -10,9 +10,8 @@ use Rattle.esterel.specs.Statement.{Stmt}
 use Rattle.esterel.specs.Table.{node_of, Step, push, Verdict, step, scan}
 use Rattle.table.specs.Kinds.{kind_of, arity_of}
 use Rattle.table.specs.Check.{node_check, nodes_check, answer_of}
-use Rattle.table.specs.declared.Check.{Check}
-use Rattle.table.specs.declared.Check.TheVariants.{Passed, Refused}
-use Rattle.table.proofs.Stack.{Stepped, refuses, passes, stepped}
+use Rattle.esterel.specs.Refusal.{Reply, yields, rejects}
+use Rattle.table.proofs.Stack.{Stepped, faults, passes, stepped}
 
 module _ (t : List ℕ) where
   -- the table reads to `unused` statements before node i
@@ -42,7 +41,7 @@ module _ (t : List ℕ) where
     pub enough : c ≤ unused + 1
     pub again : Reading (unused + 1 - c) (i + 1)
 
-  module _ (unused i : ℕ) (o : Reading unused i) (inside : 2 * i + 1 < length t) (r : Check) (is : r ≡ node_check (kind_of (kind_at i)) (field_at i) unused i) where
+  module _ (unused i : ℕ) (o : Reading unused i) (inside : 2 * i + 1 < length t) (r : Reply (Unit {0})) (is : r ≡ node_check (kind_of (kind_at i)) (field_at i) unused i) where
     abbrev next : List Stmt → Verdict
     next s = scan (drop (2 * (i + 1)) t) (suc i) s
 
@@ -56,20 +55,20 @@ module _ (t : List ℕ) where
     own-step = rw (is, o.count) (stepped i (kind_at i) (field_at i) o.st)
 
     -- node i is refused
-    pub refusing : (r ≡ Passed → ⊥) → r ≡ nodes_check t
+    pub refusing : (r ≡ yields tt → ⊥) → r ≡ nodes_check t
     unfolding nodes_check
     refusing ne = go own-step ne on-next
       where
-        go : {s : Step} {c : ℕ} {r : Check} → Stepped o.st i s c r → (r ≡ Passed → ⊥) → scan t 0 [] ≡ step s i next → r ≡ answer_of (scan t 0 [])
-        go (refuses number c) ne z = rw z
+        go : {s : Step} {c : ℕ} {r : Reply (Unit {0})} → Stepped o.st i s c r → (r ≡ yields tt → ⊥) → scan t 0 [] ≡ step s i next → r ≡ answer_of (scan t 0 [])
+        go (faults number c) ne z = rw z
         go (passes p below c g) ne z = absurd (ne refl)
 
     -- node i passes
-    pub passing : r ≡ Passed → Turn unused i (arity_of (kind_of (kind_at i)))
+    pub passing : r ≡ yields tt → Turn unused i (arity_of (kind_of (kind_at i)))
     passing y = go own-step y on-next
       where
-        go : {s : Step} {c : ℕ} {r : Check} → Stepped o.st i s c r → r ≡ Passed → scan t 0 [] ≡ step s i next → Turn unused i c
-        go (refuses number c) y z = absurd (let x : ◌≡◌ {A = ℕ} 0 1 = cc in omega arith)
+        go : {s : Step} {c : ℕ} {r : Reply (Unit {0})} → Stepped o.st i s c r → r ≡ yields tt → scan t 0 [] ≡ step s i next → Turn unused i c
+        go (faults number c) y z = absurd (let x : ◌≡◌ {A = ℕ} 0 1 = cc in omega arith)
         go (passes p below c g) y z =
             let count = o.count in
             let low = o.low in
@@ -83,21 +82,21 @@ module _ (t : List ℕ) where
     on-end = o.on ∙ rw (drop_of_length-le t {i = 2 * i} (omega arith))
 
     -- at the end one statement is left
-    pub one_left : unused ≡ 1 → Passed ≡ nodes_check t
+    pub one_left : unused ≡ 1 → yields tt ≡ nodes_check t
     unfolding nodes_check
     one_left e = go o.st (sym o.count ∙ e) on-end
       where
-        go : (st : List Stmt) → length st ≡ 1 → scan t 0 [] ≡ scan [] i st → Passed ≡ answer_of (scan t 0 [])
+        go : (st : List Stmt) → length st ≡ 1 → scan t 0 [] ≡ scan [] i st → yields tt ≡ answer_of (scan t 0 [])
         go [] l z = absurd (omega arith)
         go (p ∷ []) l z = rw z
         go (p ∷ (q ∷ st)) l z = absurd (omega arith)
 
     -- or several: there are nodes, so not none
-    pub several-left : 0 < i → (unused ≡ 1 → ⊥) → Refused 7 0 ≡ nodes_check t
+    pub several-left : 0 < i → (unused ≡ 1 → ⊥) → rejects 7 0 ≡ nodes_check t
     unfolding nodes_check
     several-left pos ne = go o.st (λ l. ne (o.count ∙ l)) (λ l. omega (arith, o.some pos, o.count)) on-end
       where
-        go : (st : List Stmt) → (length st ≡ 1 → ⊥) → (length st ≡ 0 → ⊥) → scan t 0 [] ≡ scan [] i st → Refused 7 0 ≡ answer_of (scan t 0 [])
+        go : (st : List Stmt) → (length st ≡ 1 → ⊥) → (length st ≡ 0 → ⊥) → scan t 0 [] ≡ scan [] i st → rejects 7 0 ≡ answer_of (scan t 0 [])
         go [] l m z = absurd (m refl)
         go (p ∷ []) l m z = absurd (l refl)
         go (p ∷ (q ∷ st)) l m z = rw z

@@ -11,37 +11,36 @@ use Rattle.esterel.specs.Statement.{Leaf, nothing, pause, emit, exit, Unary, sig
 use Rattle.esterel.specs.Table.{Node, takes0, takes1, takes2, plain, node_of, Step, go_on, fault, push}
 use Rattle.table.specs.Kinds.{kind_of, arity_of}
 use Rattle.table.specs.Check.{node_check}
-use Rattle.table.specs.declared.Check.{Check}
-use Rattle.table.specs.declared.Check.TheVariants.{Passed, Refused}
+use Rattle.esterel.specs.Refusal.{Reply, yields, rejects}
 
 -- a step, the children that it takes, and its check: a statement comes in the place of its c children
-pub data Stepped (st : List Stmt) (i : ℕ) : Step → ℕ → Check → Type 0 where
-  refuses : (number c : ℕ) → Stepped st i (fault number) c (Refused number i)
-  passes : (p : Stmt) (below : List Stmt) (c : ℕ) → length below + c ≡ length st → Stepped st i (go_on (p ∷ below)) c Passed
+pub data Stepped (st : List Stmt) (i : ℕ) : Step → ℕ → Reply (Unit {0}) → Type 0 where
+  faults : (number c : ℕ) → Stepped st i (fault number) c (rejects number i)
+  passes : (p : Stmt) (below : List Stmt) (c : ℕ) → length below + c ≡ length st → Stepped st i (go_on (p ∷ below)) c (yields tt)
 
 module _ (i : ℕ) where
   -- check 6 and the step, by the number of children
-  leaf-step : (l : Leaf) (st : List Stmt) → Stepped st i (push (takes0 l) st) 0 (cond (ltb (length st) 0) (Refused 6 i) Passed)
+  leaf-step : (l : Leaf) (st : List Stmt) → Stepped st i (push (takes0 l) st) 0 (cond (ltb (length st) 0) (rejects 6 i) (yields tt))
   leaf-step l st = rw (le-ltb (length st) 0 (omega arith)) (passes (leaf l) st 0 (omega arith))
 
-  one-step : (u : Unary) (st : List Stmt) → Stepped st i (push (takes1 u) st) 1 (cond (ltb (length st) 1) (Refused 6 i) Passed)
-  one-step u [] = refuses 6 1
+  one-step : (u : Unary) (st : List Stmt) → Stepped st i (push (takes1 u) st) 1 (cond (ltb (length st) 1) (rejects 6 i) (yields tt))
+  one-step u [] = faults 6 1
   one-step u (p ∷ st) = rw (le-ltb (suc (length st)) 1 (omega arith)) (passes (one u p) st 1 (omega arith))
 
-  two-step : (b : Binary) (st : List Stmt) → Stepped st i (push (takes2 b) st) 2 (cond (ltb (length st) 2) (Refused 6 i) Passed)
-  two-step b [] = refuses 6 2
-  two-step b (q ∷ []) = refuses 6 2
+  two-step : (b : Binary) (st : List Stmt) → Stepped st i (push (takes2 b) st) 2 (cond (ltb (length st) 2) (rejects 6 i) (yields tt))
+  two-step b [] = faults 6 2
+  two-step b (q ∷ []) = faults 6 2
   two-step b (q ∷ (p ∷ st)) = rw (le-ltb (suc (suc (length st))) 2 (omega arith)) (passes (two b p q) st 2 (omega arith))
 
   -- check 5 before it
-  plainly : (node : Node) {st : List Stmt} {c : ℕ} {r : Check} → Stepped st i (push node st) c r → (f : ℕ) → Stepped st i (push (plain node f) st) c (cond (not (eqb f 0)) (Refused 5 i) r)
+  plainly : (node : Node) {st : List Stmt} {c : ℕ} {r : Reply (Unit {0})} → Stepped st i (push node st) c r → (f : ℕ) → Stepped st i (push (plain node f) st) c (cond (not (eqb f 0)) (rejects 5 i) r)
   plainly node s zero = s
-  plainly node {c = c} s (suc f) = rw (eqb-suc-zero f) (refuses 5 c)
+  plainly node {c = c} s (suc f) = rw (eqb-suc-zero f) (faults 5 c)
 
   -- check 4 before both
   pub stepped : (k f : ℕ) (st : List Stmt) → Stepped st i (push (node_of k f) st) (arity_of (kind_of k)) (node_check (kind_of k) f (length st) i)
   unfolding kind_of node_check
-  stepped zero f st = refuses 4 0
+  stepped zero f st = faults 4 0
   stepped (suc zero) f st = plainly (takes0 nothing) (leaf-step nothing st) f
   stepped (suc (suc zero)) f st = plainly (takes0 pause) (leaf-step pause st) f
   stepped (suc (suc (suc zero))) f st = leaf-step (emit f) st
@@ -53,4 +52,4 @@ module _ (i : ℕ) where
   stepped (suc (suc (suc (suc (suc (suc (suc (suc (suc zero))))))))) f st = plainly (takes2 sequence) (two-step sequence st) f
   stepped (suc (suc (suc (suc (suc (suc (suc (suc (suc (suc zero)))))))))) f st = plainly (takes2 parallel) (two-step parallel st) f
   stepped (suc (suc (suc (suc (suc (suc (suc (suc (suc (suc (suc zero))))))))))) f st = plainly (takes1 trap) (one-step trap st) f
-  stepped (suc (suc (suc (suc (suc (suc (suc (suc (suc (suc (suc (suc k)))))))))))) f st = refuses 4 0
+  stepped (suc (suc (suc (suc (suc (suc (suc (suc (suc (suc (suc (suc k)))))))))))) f st = faults 4 0

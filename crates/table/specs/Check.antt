@@ -1,5 +1,6 @@
 -- What the checks answer.
-use Rattle.std.specs.Prelude.{ℕ, zero, suc, ◌+◌, ◌-◌, ◌*◌, ◌%◌, ◌<◌, ◌≤◌, ◌≡◌, Bool, true, false, not, ◌&&◌, ◌||◌, cond, List, [], length, get_or, set, eqb, leb, ltb}
+use Rattle.std.specs.Prelude.{ℕ, zero, suc, ◌+◌, ◌-◌, ◌*◌, ◌%◌, ◌<◌, ◌≤◌, ◌≡◌, Bool, true, false, not, ◌&&◌, ◌||◌, cond, List, [], map, length, get_or, set, Some, None, eqb, leb, ltb}
+use Rattle.std.specs.Prelude.{Option as Maybe}
 use Rattle.std.proofs.Math.Option.{Option, none, some}
 use Rattle.esterel.specs.Limits.{max_nodes, max_depth, max_traps}
 use Rattle.esterel.specs.Statement.{Stmt, loop_depth}
@@ -11,31 +12,31 @@ use Rattle.table.specs.Kinds.{arity_of, plain_of, is_trap, is_loop, is_exit}
 use Rattle.table.specs.Stacks.{Moves}
 use Rattle.table.specs.declared.Kind.{Kind}
 use Rattle.table.specs.declared.Kind.TheVariants.{Nothing, Pause, Emit, Exit, Signal, Present, Suspend, Loop, Sequence, Parallel, Trap, Unknown}
-use Rattle.table.specs.declared.Check.{Check}
-use Rattle.table.specs.declared.Check.TheVariants.{Passed, Refused}
+use Rattle.esterel.specs.Refusal.{Reply, yields, rejects, reply}
 use Rattle.table.specs.declared.Survey.{Survey}
 use Rattle.table.specs.declared.Faults.{Faults}
 use Rattle.table.specs.declared.Nesting.{Nesting}
+use Rattle.table.specs.declared.Level.{Level}
 
 -- the number and the node of an answer, where it refuses, before what comes next
-abbrev pub refuse : Check → Verdict → Verdict
-refuse Passed next = next
-refuse (Refused number node) next = refused number node
+abbrev pub refuse : Reply (Unit {0}) → Verdict → Verdict
+refuse (yields done) next = next
+refuse (rejects number node) next = refused number node
 
 -- the answer for a verdict
-abbrev pub answer_of : Verdict → Check
-answer_of (passed p) = Passed
-answer_of (refused number node) = Refused number node
+abbrev pub answer_of : Verdict → Reply (Unit {0})
+answer_of (passed p) = yields tt
+answer_of (refused number node) = rejects number node
 
 -- a check that names no node: passed if the test holds
-abbrev pub pass_if : (number : ℕ) → Bool → Check
-pass_if number true = Passed
-pass_if number false = Refused number 0
+abbrev pub pass_if : (number : ℕ) → Bool → Reply (Unit {0})
+pass_if number true = yields tt
+pass_if number false = rejects number 0
 
 -- checks 1 and 2
-unfoldable pub length_check : List ℕ → Check
+unfoldable pub length_check : List ℕ → Reply (Unit {0})
 length_check t =
-    cond (ltb (2 * max_nodes) (length t)) (Refused 1 0) (cond (eqb (length t) 0 || eqb (length t % 2) 1) (Refused 2 0) Passed)
+    cond (ltb (2 * max_nodes) (length t)) (rejects 1 0) (cond (eqb (length t) 0 || eqb (length t % 2) 1) (rejects 2 0) (yields tt))
 
 -- and what a table that passes them is
 pub record WellSized (t : List ℕ) : Type 0 where
@@ -58,11 +59,11 @@ known_of Trap = true
 known_of Unknown = false
 
 -- checks 4, 5 and 6 of one node, before which so many statements are unused
-unfoldable pub node_check : Kind → (field unused node : ℕ) → Check
+unfoldable pub node_check : Kind → (field unused node : ℕ) → Reply (Unit {0})
 node_check k field unused node =
     cond (known_of k)
-    (cond (plain_of k && not (eqb field 0)) (Refused 5 node) (cond (ltb unused (arity_of k)) (Refused 6 node) Passed))
-    (Refused 4 node)
+    (cond (plain_of k && not (eqb field 0)) (rejects 5 node) (cond (ltb unused (arity_of k)) (rejects 6 node) (yields tt)))
+    (rejects 4 node)
 
 -- the size of the subtree at a node with so many children, from that of the node before it and from the sizes before it
 unfoldable pub span_of : (sizes : List ℕ) (node children last : ℕ) → ℕ
@@ -78,38 +79,48 @@ pub record Room (sizes : List ℕ) (node children last : ℕ) : Type 0 where
   pub fits : span_of sizes node children last ≤ node + 1
 
 -- checks 4 to 7 of a table
-unfoldable pub nodes_check : List ℕ → Check
+unfoldable pub nodes_check : List ℕ → Reply (Unit {0})
 nodes_check t = answer_of (scan t 0 [])
 
 -- a refusal at a node that was found, before what comes next
-abbrev pub refuse_found : ℕ → Option ℕ → Check → Check
+abbrev pub refuse_found : ℕ → Option ℕ → Reply (Unit {0}) → Reply (Unit {0})
 refuse_found number none next = next
-refuse_found number (some node) next = Refused number node
+refuse_found number (some node) next = rejects number node
 
 -- checks 8, 9 and 10, each over all places before the next
-unfoldable pub places_check : List Place → ℕ → Check
+unfoldable pub places_check : List Place → ℕ → Reply (Unit {0})
 places_check ps n =
-    refuse_found 8 (first_node too_deep ps n) (refuse_found 9 (first_node too_many_traps ps n) (refuse_found 10 (first_node uncaught ps n) Passed))
+    refuse_found 8 (first_node too_deep ps n) (refuse_found 9 (first_node too_many_traps ps n) (refuse_found 10 (first_node uncaught ps n) (yields tt)))
 
--- the node that was found, or max_nodes
-abbrev pub lowest : Option ℕ → ℕ
-lowest none = max_nodes
-lowest (some node) = node
+-- the node that was found, as the code has it
+abbrev pub lowest : Option ℕ → Maybe ℕ
+lowest none = None
+lowest (some node) = Some node
 
--- a refusal at a node below max_nodes, before what comes next
-abbrev pub refuse_below : (number node : ℕ) → Check → Check
-refuse_below number node next = cond (ltb node max_nodes) (Refused number node) next
+abbrev pub refuse_some : ℕ → Maybe ℕ → Reply (Unit {0}) → Reply (Unit {0})
+refuse_some number None next = next
+refuse_some number (Some node) next = rejects number node
 
 -- the nodes at which checks 8, 9 and 10 fail, with one more seen, the lowest
 pub record Seen (o : Faults) (k : Kind) (field node : ℕ) (n : Nesting) (r : Faults) : Type 0 where
-  pub depths : r.depths ≡ cond (ltb max_depth n.depth) node o.depths
-  pub traps : r.traps ≡ cond (is_trap k && ltb max_traps (n.traps + 1)) node o.traps
-  pub exits : r.exits ≡ cond (is_exit k && leb n.traps field) node o.exits
+  pub depths : r.depths ≡ cond (ltb max_depth n.depth) (Some node) o.depths
+  pub traps : r.traps ≡ cond (is_trap k && ltb max_traps (n.traps + 1)) (Some node) o.traps
+  pub exits : r.exits ≡ cond (is_exit k && leb n.traps field) (Some node) o.exits
 
 pub record Shallow (m : ℕ) (n : Nesting) : Type 0 where
   pub depth : n.depth ≤ m
   pub traps : n.traps ≤ m
   pub loops : n.loops ≤ m
+
+-- what is on the stack, as three
+abbrev pub depths_of : List Level → List ℕ
+depths_of = map (λ x. x.depth)
+
+abbrev pub traps_of : List Level → List ℕ
+traps_of = map (λ x. x.traps)
+
+abbrev pub loops_of : List Level → List ℕ
+loops_of = map (λ x. x.loops)
 
 -- Where the walk goes on from a node, with the depths xs, the traps ys and the loops zs on the stacks. Past a leaf: what is on top
 pub record TopOf (xs ys zs : List ℕ) (waiting : ℕ) (r : Nesting) : Type 0 where
@@ -144,5 +155,5 @@ pub record Descended (k : Kind) (n : Nesting) (xs ys zs xs' ys' zs' : List ℕ) 
 
 -- what a survey of a program finds
 pub record Surveyed (p : Stmt) (r : Survey) : Type 0 where
-  pub check : r.check ≡ places_check (places_of p) 0
+  pub check : reply r.check ≡ places_check (places_of p) 0
   pub loops : r.loops ≡ loop_depth p

@@ -1,16 +1,19 @@
 // The table of a program: what its bytes say, checks 1, 2 and 4 to 10, and the sizes of the subtrees.
 #![tactic(auto)]
 
-ghost use Rattle.std.specs.Prelude.{◌≡◌, cond, ◌+◌, ◌-◌, ◌*◌, ◌/◌, ◌<◌, ◌≤◌, max, length, get_or};
+ghost use Rattle.std.specs.Prelude.{◌≡◌, cond, ◌+◌, ◌-◌, ◌*◌, ◌/◌, ◌<◌, ◌≤◌, length, get_or};
 ghost use Rattle.esterel.specs.Limits.{max_nodes};
+ghost use Rattle.esterel.specs.Refusal.{yields, reply};
 ghost use Rattle.esterel.specs.Statement.{size};
-ghost use Rattle.table.specs.Kinds.{kind_of, arity_of, plain_of, number_of, is_same, is_trap, is_loop, is_exit, is_sequence, is_parallel, is_signal, is_present, is_suspend, is_pause};
+ghost use Rattle.table.specs.Kinds.{kind_of, arity_of, plain_of};
 ghost use Rattle.table.specs.Program.{program_of, Readable};
 ghost use Rattle.table.specs.Columns.{onto, sizes_of};
-ghost use Rattle.table.specs.Check.{length_check, node_check, nodes_check, WellSized, Room, span_of, refuse_below, Shallow, TopOf, OnlyOf, SecondOf, Descended, Seen, Surveyed};
+ghost use Rattle.table.specs.Check.{length_check, node_check, nodes_check, WellSized, Room, span_of, refuse_some, Shallow, TopOf, OnlyOf, SecondOf, Descended, depths_of, traps_of, loops_of, Seen, Surveyed};
+
+use esterel::{Check, Refusal};
 
 // What a kind byte says.
-#[derive(Clone, Copy)]
+#[derive(Clone, Copy, PartialEq, Eq)]
 pub enum Kind {
     Nothing,
     Pause,
@@ -26,145 +29,51 @@ pub enum Kind {
     Unknown,
 }
 
-pub fn read_kind(byte: u8) -> Kind
-    ensures { result ≡ kind_of byte }
-{
-    match byte {
-        0 => Kind::Unknown,
-        1 => Kind::Nothing,
-        2 => Kind::Pause,
-        3 => Kind::Emit,
-        4 => Kind::Exit,
-        5 => Kind::Signal,
-        6 => Kind::Present,
-        7 => Kind::Suspend,
-        8 => Kind::Loop,
-        9 => Kind::Sequence,
-        10 => Kind::Parallel,
-        11 => Kind::Trap,
-        12..=255 => Kind::Unknown,
+impl From<u8> for Kind {
+    ghost from_gives = { λ byte kind. kind ≡ kind_of byte };
+
+    fn from(byte: u8) -> Kind {
+        match byte {
+            0 => Kind::Unknown,
+            1 => Kind::Nothing,
+            2 => Kind::Pause,
+            3 => Kind::Emit,
+            4 => Kind::Exit,
+            5 => Kind::Signal,
+            6 => Kind::Present,
+            7 => Kind::Suspend,
+            8 => Kind::Loop,
+            9 => Kind::Sequence,
+            10 => Kind::Parallel,
+            11 => Kind::Trap,
+            12..=255 => Kind::Unknown,
+        }
     }
 }
 
-// How many statements a node of a kind takes as its children.
-pub fn arity(kind: Kind) -> usize
-    ensures { result ≡ arity_of kind }
-{
-    match kind {
-        Kind::Nothing => 0,
-        Kind::Pause => 0,
-        Kind::Emit => 0,
-        Kind::Exit => 0,
-        Kind::Signal => 1,
-        Kind::Present => 2,
-        Kind::Suspend => 1,
-        Kind::Loop => 1,
-        Kind::Sequence => 2,
-        Kind::Parallel => 2,
-        Kind::Trap => 1,
-        Kind::Unknown => 0,
+impl Kind {
+    // How many statements a node of the kind takes as its children.
+    pub fn arity(self) -> usize
+        ensures { result ≡ arity_of self }
+    {
+        match self {
+            Kind::Nothing | Kind::Pause | Kind::Emit | Kind::Exit | Kind::Unknown => 0,
+            Kind::Signal | Kind::Suspend | Kind::Loop | Kind::Trap => 1,
+            Kind::Present | Kind::Sequence | Kind::Parallel => 2,
+        }
     }
-}
 
-// Whether the field of a node of this kind must be 0.
-pub fn is_plain(kind: Kind) -> bool
-    ensures { result ≡ plain_of kind }
-{
-    match kind {
-        Kind::Nothing => true,
-        Kind::Pause => true,
-        Kind::Emit => false,
-        Kind::Exit => false,
-        Kind::Signal => false,
-        Kind::Present => false,
-        Kind::Suspend => false,
-        Kind::Loop => true,
-        Kind::Sequence => true,
-        Kind::Parallel => true,
-        Kind::Trap => true,
-        Kind::Unknown => false,
+    // Whether the field of a node of the kind must be 0.
+    pub fn is_plain(self) -> bool
+        ensures { result ≡ plain_of self }
+    {
+        match self {
+            Kind::Nothing | Kind::Pause | Kind::Loop => true,
+            Kind::Sequence | Kind::Parallel | Kind::Trap => true,
+            Kind::Emit | Kind::Exit | Kind::Signal => false,
+            Kind::Present | Kind::Suspend | Kind::Unknown => false,
+        }
     }
-}
-
-// The number of a kind, and for all unknown ones the next.
-fn number(kind: Kind) -> u8
-    ensures { result ≡ number_of kind }
-{
-    match kind {
-        Kind::Nothing => 1,
-        Kind::Pause => 2,
-        Kind::Emit => 3,
-        Kind::Exit => 4,
-        Kind::Signal => 5,
-        Kind::Present => 6,
-        Kind::Suspend => 7,
-        Kind::Loop => 8,
-        Kind::Sequence => 9,
-        Kind::Parallel => 10,
-        Kind::Trap => 11,
-        Kind::Unknown => 12,
-    }
-}
-
-// Whether two kinds are the same.
-fn is_same(kind: Kind, other: Kind) -> bool
-    ensures { result ≡ is_same kind other }
-{
-    number(kind) == number(other)
-}
-
-pub fn is_trap(kind: Kind) -> bool
-    ensures { result ≡ is_trap kind }
-{
-    is_same(kind, Kind::Trap)
-}
-
-pub fn is_loop(kind: Kind) -> bool
-    ensures { result ≡ is_loop kind }
-{
-    is_same(kind, Kind::Loop)
-}
-
-fn is_exit(kind: Kind) -> bool
-    ensures { result ≡ is_exit kind }
-{
-    is_same(kind, Kind::Exit)
-}
-
-pub fn is_sequence(kind: Kind) -> bool
-    ensures { result ≡ is_sequence kind }
-{
-    is_same(kind, Kind::Sequence)
-}
-
-pub fn is_parallel(kind: Kind) -> bool
-    ensures { result ≡ is_parallel kind }
-{
-    is_same(kind, Kind::Parallel)
-}
-
-pub fn is_signal(kind: Kind) -> bool
-    ensures { result ≡ is_signal kind }
-{
-    is_same(kind, Kind::Signal)
-}
-
-pub fn is_present(kind: Kind) -> bool
-    ensures { result ≡ is_present kind }
-{
-    is_same(kind, Kind::Present)
-}
-
-pub fn is_suspend(kind: Kind) -> bool
-    ensures { result ≡ is_suspend kind }
-{
-    is_same(kind, Kind::Suspend)
-}
-
-pub fn is_pause(kind: Kind) -> bool
-    ensures { result ≡ is_pause kind }
-{
-    is_same(kind, Kind::Pause)
 }
 
 // The kind of a node.
@@ -172,7 +81,7 @@ pub fn kind_at(table: &[u8], node: usize) -> Kind
     requires { 2 * node + 1 < length table.now }
     ensures { result ≡ kind_of (get_or table.now (2 * node) 0) }
 {
-    read_kind(table[2 * node])
+    Kind::from(table[2 * node])
 }
 
 // The field of a node.
@@ -180,79 +89,81 @@ pub fn field_at(table: &[u8], node: usize) -> usize
     requires { 2 * node + 1 < length table.now }
     ensures { (result ≡ get_or table.now (2 * node + 1) 0) × (result < 256) }
 {
-    table[2 * node + 1] as usize
+    usize::from(table[2 * node + 1])
 }
 
-// What a check answers: passed, or the number and the node of its refusal.
-#[derive(Clone, Copy)]
-pub enum Check {
-    Passed,
-    Refused { number: u8, node: usize },
-}
-
-// What a survey finds: the answer of checks 8, 9 and 10, and the loop depth.
+// What a survey finds: the answer of checks 8, 9 and 10, and the loop depth, which is told of a program that they refuse too
+// (`Surveyed`, so it stands beside the result and not in it).
 #[derive(Clone, Copy)]
 pub struct Survey {
-    pub check: Check,
+    pub check: Result<(), Refusal>,
     pub loops: usize,
 }
 
 // Checks 1 and 2.
-pub fn check_length(table: &[u8]) -> Check
-    ensures { result ≡ length_check table.now }
+pub fn check_length(table: &[u8]) -> Result<(), Refusal>
+    ensures { reply result ≡ length_check table.now }
 {
     let length = table.len();
     if 2 * esterel::MAX_NODES < length {
-        return Check::Refused { number: 1, node: 0 };
+        return Err(Refusal {
+            check: Check::TooManyNodes,
+            node: 0,
+        });
     }
-    if length == 0 {
-        return Check::Refused { number: 2, node: 0 };
+    if (length == 0) | (length % 2 == 1) {
+        return Err(Refusal {
+            check: Check::NotPairs,
+            node: 0,
+        });
     }
-    if length % 2 == 1 {
-        return Check::Refused { number: 2, node: 0 };
-    }
-    Check::Passed
+    Ok(())
 }
 
 // Checks 4, 5 and 6 of one node, before which `unused` statements are unused.
-fn check_node(kind: Kind, field: usize, unused: usize, node: usize) -> Check
-    ensures { result ≡ node_check kind field unused node }
+fn check_node(kind: Kind, field: usize, unused: usize, node: usize) -> Result<(), Refusal>
+    ensures { reply result ≡ node_check kind field unused node }
 {
-    if let Kind::Unknown = kind {
-        return Check::Refused { number: 4, node };
+    if kind == Kind::Unknown {
+        return Err(Refusal {
+            check: Check::UnknownKind,
+            node,
+        });
     }
-    if is_plain(kind) {
-        if field != 0 {
-            return Check::Refused { number: 5, node };
-        }
+    if kind.is_plain() & (field != 0) {
+        return Err(Refusal {
+            check: Check::FieldNotZero,
+            node,
+        });
     }
-    if unused < arity(kind) {
-        return Check::Refused { number: 6, node };
+    if unused < kind.arity() {
+        return Err(Refusal {
+            check: Check::TooFewStatements,
+            node,
+        });
     }
-    Check::Passed
+    Ok(())
 }
 
 // Checks 4 to 7 in one pass: what is needed of the statements before a node is how many of them are unused.
-pub fn read_nodes(table: &[u8]) -> Check
+pub fn read_nodes(table: &[u8]) -> Result<(), Refusal>
     requires { WellSized table.now }
-    ensures { result ≡ nodes_check table.now }
+    ensures { reply result ≡ nodes_check table.now }
 {
     let n = table.len() / 2;
     let mut unused: usize = 0;
-    let mut i: usize = 0;
-    while i < n {
+    for i in 0..n {
         let kind = kind_at(table, i);
-        let check = check_node(kind, field_at(table, i), unused, i);
-        let Check::Passed = check else {
-            return check;
-        };
-        unused = unused + 1 - arity(kind);
-        i += 1;
+        check_node(kind, field_at(table, i), unused, i)?;
+        unused = unused + 1 - kind.arity();
     }
     if unused == 1 {
-        return Check::Passed;
+        return Ok(());
     }
-    Check::Refused { number: 7, node: 0 }
+    Err(Refusal {
+        check: Check::StatementsLeft,
+        node: 0,
+    })
 }
 
 // How deep a node stands, in how many traps and loops, and how many subtrees wait, its own among them.
@@ -264,25 +175,19 @@ struct Nesting {
     waiting: usize,
 }
 
-// The lowest node of those seen so far at which check 8, 9 and 10 fails, or MAX_NODES. Numbers keep the survey's loop small.
+// The lowest node of those seen so far at which check 8, 9 and 10 fails.
 #[derive(Drop)]
 struct Faults {
-    depths: usize,
-    traps: usize,
-    exits: usize,
-}
-
-pub fn larger(a: usize, b: usize) -> usize
-    ensures { result ≡ max a b }
-{
-    if a <= b { b } else { a }
+    depths: Option<usize>,
+    traps: Option<usize>,
+    exits: Option<usize>,
 }
 
 // A lower node that fails takes the place of a higher one.
-fn lower_if(fails: bool, node: usize, higher: usize) -> usize
-    ensures { result ≡ cond fails node higher }
+fn lower_if(fails: bool, node: usize, higher: Option<usize>) -> Option<usize>
+    ensures { result ≡ cond fails (Some node) higher }
 {
-    if fails { node } else { higher }
+    if fails { Some(node) } else { higher }
 }
 
 // Checks 8, 9 and 10 of one more node, the lowest.
@@ -293,65 +198,66 @@ fn seen(faults: Faults, kind: Kind, field: usize, node: usize, nesting: Nesting)
     Faults {
         depths: lower_if(esterel::MAX_DEPTH < nesting.depth, node, faults.depths),
         traps: lower_if(
-            is_trap(kind) & (esterel::MAX_TRAPS < nesting.traps + 1),
+            (kind == Kind::Trap) & (esterel::MAX_TRAPS < nesting.traps + 1),
             node,
             faults.traps,
         ),
-        exits: lower_if(is_exit(kind) & (nesting.traps <= field), node, faults.exits),
+        exits: lower_if(
+            (kind == Kind::Exit) & (nesting.traps <= field),
+            node,
+            faults.exits,
+        ),
     }
 }
 
 // The first refusal: each check comes before the next.
-fn first_refusal(faults: Faults) -> Check
-    ensures { result ≡ refuse_below 8 faults.depths (refuse_below 9 faults.traps (refuse_below 10 faults.exits Check.Passed)) }
+fn first_refusal(faults: Faults) -> Result<(), Refusal>
+    ensures { reply result ≡ refuse_some 8 faults.depths (refuse_some 9 faults.traps (refuse_some 10 faults.exits (yields tt))) }
 {
-    if faults.depths < esterel::MAX_NODES {
-        return Check::Refused {
-            number: 8,
-            node: faults.depths,
-        };
+    if let Some(node) = faults.depths {
+        return Err(Refusal {
+            check: Check::TooDeep,
+            node,
+        });
     }
-    if faults.traps < esterel::MAX_NODES {
-        return Check::Refused {
-            number: 9,
-            node: faults.traps,
-        };
+    if let Some(node) = faults.traps {
+        return Err(Refusal {
+            check: Check::TooManyTraps,
+            node,
+        });
     }
-    if faults.exits < esterel::MAX_NODES {
-        return Check::Refused {
-            number: 10,
-            node: faults.exits,
-        };
+    if let Some(node) = faults.exits {
+        return Err(Refusal {
+            check: Check::Uncaught,
+            node,
+        });
     }
-    Check::Passed
+    Ok(())
 }
 
 // At most half of the nodes wait at a time, since each that waits is as deep as it stands on the stack, or deeper. Place 0 is read where
 // nothing else waits.
 const WAITING: usize = esterel::MAX_NODES / 2 + 1;
 
-fn wide(x: u16) -> usize
-    ensures { result ≡ x }
-{
-    x as usize
+// How a subtree that waits is nested, in a third of the room.
+#[derive(Clone, Copy)]
+struct Level {
+    depth: u16,
+    traps: u16,
+    loops: u16,
 }
 
 // Past a leaf: the subtree that waits next.
-fn next_waiting(
-    depths: &[u16; WAITING],
-    traps: &[u16; WAITING],
-    loops: &[u16; WAITING],
-    waiting: usize,
-) -> Nesting
+fn next_waiting(stack: &[Level; WAITING], waiting: usize) -> Nesting
     requires { (0 < waiting) × (waiting ≤ max_nodes / 2) }
-    ensures { TopOf depths.now traps.now loops.now waiting result }
+    ensures { TopOf (depths_of stack.now) (traps_of stack.now) (loops_of stack.now) waiting result }
 {
-    let top = waiting - 1;
+    let level = stack[waiting - 1];
     Nesting {
-        depth: wide(depths[top]),
-        traps: wide(traps[top]),
-        loops: wide(loops[top]),
-        waiting: top,
+        depth: usize::from(level.depth),
+        traps: usize::from(level.traps),
+        loops: usize::from(level.loops),
+        waiting: waiting - 1,
     }
 }
 
@@ -369,65 +275,56 @@ fn only_child(node: Nesting, traps: usize, loops: usize) -> Nesting
 }
 
 // Into the second of two children. The first waits.
-fn second_child(
-    depths: &mut [u16; WAITING],
-    traps: &mut [u16; WAITING],
-    loops: &mut [u16; WAITING],
-    node: Nesting,
-) -> Nesting
+fn second_child(stack: &mut [Level; WAITING], node: Nesting) -> Nesting
     requires { Shallow max_nodes node × (node.waiting ≤ max_nodes / 2) }
-    ensures { SecondOf node depths.old traps.old loops.old depths.new traps.new loops.new result }
+    ensures { SecondOf node (depths_of stack.old) (traps_of stack.old) (loops_of stack.old) (depths_of stack.new) (traps_of stack.new) (loops_of stack.new) result }
 {
-    let place = node.waiting;
-    depths[place] = (node.depth + 1) as u16;
-    traps[place] = node.traps as u16;
-    loops[place] = node.loops as u16;
+    stack[node.waiting] = Level {
+        depth: (node.depth + 1) as u16,
+        traps: node.traps as u16,
+        loops: node.loops as u16,
+    };
     Nesting {
         depth: node.depth + 1,
         traps: node.traps,
         loops: node.loops,
-        waiting: place + 1,
+        waiting: node.waiting + 1,
     }
 }
 
 // From a node to the node before it.
-fn descend(
-    kind: Kind,
-    depths: &mut [u16; WAITING],
-    traps: &mut [u16; WAITING],
-    loops: &mut [u16; WAITING],
-    node: Nesting,
-) -> Nesting
+fn descend(kind: Kind, stack: &mut [Level; WAITING], node: Nesting) -> Nesting
     requires { Shallow max_nodes node × (0 < node.waiting) × (node.waiting ≤ max_nodes / 2) }
-    ensures { Descended kind node depths.old traps.old loops.old depths.new traps.new loops.new result }
+    ensures { Descended kind node (depths_of stack.old) (traps_of stack.old) (loops_of stack.old) (depths_of stack.new) (traps_of stack.new) (loops_of stack.new) result }
 {
     match kind {
         Kind::Nothing | Kind::Pause | Kind::Emit | Kind::Exit | Kind::Unknown => {
-            next_waiting(depths, traps, loops, node.waiting)
+            next_waiting(stack, node.waiting)
         }
         Kind::Signal | Kind::Suspend => only_child(node, node.traps, node.loops),
         Kind::Loop => only_child(node, node.traps, node.loops + 1),
         Kind::Trap => only_child(node, node.traps + 1, node.loops),
-        Kind::Present | Kind::Sequence | Kind::Parallel => {
-            second_child(depths, traps, loops, node)
-        }
+        Kind::Present | Kind::Sequence | Kind::Parallel => { second_child(stack, node) }
     }
 }
 
 // Checks 8, 9 and 10, and the loop depth, in one pass from the last node to the first. What waits are the subtrees that end
-// right before the nodes seen. How the one that ends next is nested is at hand, and how the others are is on three stacks, the
-// next one on top.
+// right before the nodes seen. How the one that ends next is nested is at hand, and how the others are is on a stack, the next
+// one on top.
 pub fn survey_table(table: &[u8]) -> Survey
     requires { Readable table.now }
     ensures { Surveyed (program_of table.now) result }
 {
-    let mut depths = [0u16; WAITING];
-    let mut traps = [0u16; WAITING];
-    let mut loops = [0u16; WAITING];
+    let nowhere = Level {
+        depth: 0,
+        traps: 0,
+        loops: 0,
+    };
+    let mut stack = [nowhere; WAITING];
     let mut faults = Faults {
-        depths: esterel::MAX_NODES,
-        traps: esterel::MAX_NODES,
-        exits: esterel::MAX_NODES,
+        depths: None,
+        traps: None,
+        exits: None,
     };
     let mut most: usize = 0;
     let mut node = Nesting {
@@ -436,15 +333,13 @@ pub fn survey_table(table: &[u8]) -> Survey
         loops: 0,
         waiting: 1,
     };
-    let mut i = table.len() / 2;
-    while 0 < i {
-        i -= 1;
+    for i in (0..table.len() / 2).rev() {
         let kind = kind_at(table, i);
         faults = seen(faults, kind, field_at(table, i), i, node);
-        node = descend(kind, &mut depths, &mut traps, &mut loops, node);
+        node = descend(kind, &mut stack, node);
         // Only a loop puts one more around what comes next.
-        if is_loop(kind) {
-            most = larger(most, node.loops);
+        if kind == Kind::Loop {
+            most = most.max(node.loops);
         }
     }
     Survey {
@@ -458,7 +353,7 @@ pub fn size_at(sizes: &[u16], node: usize) -> usize
     requires { node < length sizes.now }
     ensures { result ≡ get_or sizes.now node 0 }
 {
-    wide(sizes[node])
+    usize::from(sizes[node])
 }
 
 // The size of the subtree at a node with so many children, from that of the node before it and from the sizes before it.
@@ -466,13 +361,11 @@ fn span(sizes: &[u16], node: usize, children: usize, last: usize) -> usize
     requires { Room sizes.now node children last }
     ensures { result ≡ span_of sizes.now node children last }
 {
-    if children == 0 {
-        return 1;
+    match children {
+        0 => 1,
+        1 => last + 1,
+        _ => size_at(sizes, node - 1 - last) + last + 1,
     }
-    if children == 1 {
-        return last + 1;
-    }
-    size_at(sizes, node - 1 - last) + last + 1
 }
 
 // The size of the subtree at each node of a table that was read. That of the node before is at hand: read back from the list,
@@ -483,10 +376,8 @@ pub fn fill_sizes(table: &[u8], sizes: &mut [u16])
 {
     let n = table.len() / 2;
     let mut last: usize = 0;
-    let mut i: usize = 0;
-    while i < n {
-        last = span(sizes, i, arity(kind_at(table, i)), last);
+    for i in 0..n {
+        last = span(sizes, i, kind_at(table, i).arity(), last);
         sizes[i] = last as u16;
-        i += 1;
     }
 }

@@ -1,5 +1,5 @@
 -- Before node `i` the start sets of the unused statements are on the stack, and no loop before it has a body that may end at once.
-use Rattle.std.proofs.Common.{◌-◌, List, false}
+use Rattle.std.proofs.Common.{List, false}
 use Rattle.table.specs.Program.{program_of}
 use Rattle.table.proofs.Walk.{Waiting}
 use Rattle.analysis.proofs.Loops.{Searched}
@@ -14,6 +14,3 @@ invariant-loop-i l =
       words : Words false us l.starts;
       searched : Searched (program_of l.table) l.i;
     }
-
-abbrev pub decreases-loop-i : goal.decreases-loop-i
-decreases-loop-i l = l.n - l.i

@@ -1,17 +1,21 @@
 -- One law for each return.
-use Rattle.std.proofs.Common.{sym, ◌∙◌}
+use Rattle.std.proofs.Common.{sym, subst}
+use Rattle.esterel.proofs.Replies.{handed}
+use Rattle.analysis.specs.Analysis.{TableChecked}
 use Rattle.analysis.proofs.Accepts.{well_sized}
-use Rattle.analysis.proofs.Analyses.{length-fails, room-fails, table-checked}
+use Rattle.analysis.proofs.Analyses.{length-refused, room-refused, not-passed, table-checked}
 use Rattle.analysis.proofs.check_table.Goals as goal
 
-pub returns-in_default : goal.returns-in_default
-returns-in_default c = length-fails c.check_length-length.ensures _ _ _ c.in_default.is
+pub returns-in_err-check_length : goal.returns-in_err-check_length
+returns-in_err-check_length c =
+    subst (TableChecked c.args.room c.args.table.now) (sym (handed c.from_residual.result _ c.from_residual.ensures.1))
+    (not-passed (length-refused c.args.table.now c.args.room _ _ c.in_err-check_length.ensures))
 
-pub returns-in_default-lent : goal.returns-in_default-lent
-returns-in_default-lent c = room-fails c.check_length-length.ensures c.in-Passed.is c.check_room-lent.ensures _ _ _ c.in_default-lent.is
+pub returns-then-not-room : goal.returns-then-not-room
+returns-then-not-room c = not-passed (room-refused c.args.table.now c.args.room c.in_ok-check_length.ensures c.if-not-room.true)
 
 pub accept-requires : goal.accept-requires
-accept-requires c = well_sized c.args.table.now (sym c.check_length-length.ensures ∙ c.in-Passed.is)
+accept-requires c = well_sized c.args.table.now (sym c.in_ok-check_length.ensures)
 
 pub returns : goal.returns
-returns c = table-checked c.check_length-length.ensures c.in-Passed.is c.check_room-lent.ensures c.in-Passed-lent.is c.accept.ensures
+returns c = table-checked c.in_ok-check_length.ensures c.if-not-room.false c.accept.ensures

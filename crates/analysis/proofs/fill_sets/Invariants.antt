@@ -1,5 +1,5 @@
 -- Before node `i` the words of the unused statements are on the stacks, and the entries before it are written.
-use Rattle.std.proofs.Common.{◌-◌, List, true, false}
+use Rattle.std.proofs.Common.{List, true, false}
 use Rattle.esterel.specs.Statement.{size}
 use Rattle.table.specs.Program.{program_of}
 use Rattle.table.proofs.Filling.{Filling}
@@ -19,6 +19,3 @@ invariant-loop-i l =
       any_column : Filling (words_of true (program_of l.table)) l.fn.any_sets l.any_sets (size (program_of l.table)) l.i;
       flag_column : Filling (flags_of (program_of l.table)) l.fn.flags l.flags (size (program_of l.table)) l.i;
     }
-
-abbrev pub decreases-loop-i : goal.decreases-loop-i
-decreases-loop-i l = l.n - l.i

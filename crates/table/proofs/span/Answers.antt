@@ -3,18 +3,18 @@ use Rattle.std.proofs.Common.{◌≡◌, arith}
 use Rattle.table.specs.Check.{span_of}
 use Rattle.table.proofs.span.Goals as goal
 
-pub returns-then-children-eq0 : goal.returns-then-children-eq0
+pub returns-in-0 : goal.returns-in-0
 unfolding span_of
-returns-then-children-eq0 c = rw c.if-children-eq0.true
+returns-in-0 c = rw c.in-0.is
 
 pub overflow_add-result : goal.overflow_add-result
 unfolding span_of
-overflow_add-result c = omega (arith, rw c.if-children-eq1.true at c.requires.fits)
+overflow_add-result c = omega (arith, rw c.in-1.is at c.requires.fits)
 
-pub returns-then-children-eq1 : goal.returns-then-children-eq1
+pub returns-in-1 : goal.returns-in-1
 unfolding span_of
-returns-then-children-eq1 c = rw c.if-children-eq1.true
+returns-in-1 c = rw c.in-1.is
 
-pub returns : goal.returns
+pub returns-in_default : goal.returns-in_default
 unfolding span_of
-returns c = let two : c.args.children ≡ 2 = omega arith in rw (two, c.size_at.ensures)
+returns-in_default c = let two : c.args.children ≡ 2 = omega arith in rw (two, c.size_at.ensures)

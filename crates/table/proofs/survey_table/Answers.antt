@@ -2,6 +2,8 @@
 use Rattle.std.proofs.Common.{◌≡◌, refl, sym, ◌∙◌, true, false, arith}
 use Rattle.table.proofs.Bytes.{table-length}
 use Rattle.table.proofs.Surveying.{few-nodes, start, finish, back, turn, turned}
+use Rattle.table.specs.declared.Kind.TheVariants.{Loop}
+use Rattle.table.proofs.Comparing.{same-is}
 use Rattle.table.proofs.survey_table.Goals as goal
 
 pub loop-i-init : goal.loop-i-init
@@ -24,13 +26,13 @@ descend-node-requires c =
     let here = turn c.args.table.now c.requires (back c.loop-i.i (omega arith) c.loop-i.invariant) in
     (here.shallow, here.waits, here.room)
 
-pub loop-i-preserved-then-is_loop : goal.loop-i-preserved-then-is_loop
-loop-i-preserved-then-is_loop c =
-    turned c.args.table.now c.requires (back c.loop-i.i (omega arith) c.loop-i.invariant) _ _ _ _ _ _ _ _ c.kind_at-kind.ensures c.field_at.ensures.0 c.seen-faults.ensures c.descend-node.ensures true (sym c.is_loop.ensures ∙ c.if-is_loop.true) c.larger-most.ensures
+pub loop-i-preserved-then-eq : goal.loop-i-preserved-then-eq
+loop-i-preserved-then-eq c =
+    turned c.args.table.now c.requires (back c.loop-i.i (omega arith) c.loop-i.invariant) _ _ _ _ _ _ _ _ c.kind_at-kind.ensures c.field_at.ensures.0 c.seen-faults.ensures c.descend-node.ensures true (sym (c.eq.ensures ∙ same-is c.kind_at-kind.result Loop) ∙ c.if-eq.true) c.max-most.ensures
 
 pub loop-i-preserved : goal.loop-i-preserved
 loop-i-preserved c =
-    turned c.args.table.now c.requires (back c.loop-i.i (omega arith) c.loop-i.invariant) _ _ _ _ _ _ _ _ c.kind_at-kind.ensures c.field_at.ensures.0 c.seen-faults.ensures c.descend-node.ensures false (sym c.is_loop.ensures ∙ c.if-is_loop.false) refl
+    turned c.args.table.now c.requires (back c.loop-i.i (omega arith) c.loop-i.invariant) _ _ _ _ _ _ _ _ c.kind_at-kind.ensures c.field_at.ensures.0 c.seen-faults.ensures c.descend-node.ensures false (sym (c.eq.ensures ∙ same-is c.kind_at-kind.result Loop) ∙ c.if-eq.false) refl
 
 pub returns : goal.returns
 returns c =

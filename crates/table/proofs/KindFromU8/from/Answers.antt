@@ -2,7 +2,7 @@
 use Rattle.std.proofs.Common.{sym, arith, ◌≤◌}
 use Rattle.std.proofs.Math.ListN.{get_or-eq_default}
 use Rattle.table.specs.Kinds.{kind_of, numbered}
-use Rattle.table.proofs.read_kind.Goals as goal
+use Rattle.table.proofs.KindFromU8.from.Goals as goal
 
 pub returns-in-0 : goal.returns-in-0
 unfolding kind_of
