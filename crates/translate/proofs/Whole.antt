@@ -8,7 +8,8 @@ use lib.Dec.{leb}
 use lib.ListN.{length, take, drop, length-append}
 use Rattle.grammar.specs.Limits.{max_source}
 use Rattle.input.specs.Reads.{Reads}
-use Rattle.input.specs.declared.Input.TheVariants.{Bytes}
+use Rattle.std.specs.Prelude.{Ok}
+use Rattle.std.specs.declared.io.Error.{Error}
 use Rattle.input.proofs.Reading.{of-front}
 use Rattle.input.proofs.Reading as I
 use Rattle.listing.specs.Rendering.{Rendering}
@@ -21,14 +22,14 @@ use Rattle.text.proofs.Cut.{read_of_front}
 use Rattle.translate.specs.Translates.{ReadsInput}
 
 module _ {b b' t t' : List ℕ} where
-  pub whole : {read : ℕ} (r : Reading) → max_source < length b → Reads 0 b b' (Bytes read) → ReadAs (take read b') t t' r → ReadsInput b b' t t' r
+  pub whole : {read : ℕ} (r : Reading) → max_source < length b → Reads {E = Error} 0 b b' (Ok read) → ReadAs (take read b') t t' r → ReadsInput b b' t t' r
   whole r room reads = of-front max_source room reads (λ n input h. read_of_front n input h t t' r)
 
   -- the table lies within its buffer
-  pub table-within : (end nodes signals : ℕ) → end ≡ 2 * nodes → ReadsInput b b' t t' (Done nodes signals) → end ≤ length t'
-  table-within end nodes signals e x =
+  pub table-within : (nodes signals : ℕ) → ReadsInput b b' t t' (Done nodes signals) → (nodes ≤ 1024) × (2 * nodes ≤ length t')
+  table-within nodes signals x =
       let w = of_read.done (take x.read b') t t' nodes signals (I.of_read x) in
-      omega (arith, written-long (take x.read b') t t' nodes signals w)
+      (w.fits, written-long (take x.read b') t t' nodes signals w)
 
   -- the place lies within the length of a text, and so in the buffer
   pub place-within : (number node place : ℕ) → ReadsInput b b' t t' (Refused number node place) → place ≤ max_source

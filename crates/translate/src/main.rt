@@ -8,51 +8,23 @@ ghost use Rattle.std.specs.Prelude.{◌<◌, ◌≤◌, length};
 ghost use Rattle.grammar.specs.Limits.{max_source};
 ghost use Rattle.translate.specs.Translates.{Translates};
 
-use input::{Input, Source};
 use listing::Rendered;
+use std::io;
 use std::io::{Read, Write};
 use std::process::ExitCode;
 use text::Reading;
-
-#[derive(Drop)]
-enum Translated {
-    Table {
-        length: usize,
-    },
-    Refused {
-        number: u8,
-        node: usize,
-        place: usize,
-    },
-    Failed,
-}
 
 // Reads the input and translates all of it, also where it does not fit in the buffer: what fits is too long a text then, too.
 fn translate_input<R: Read>(
     reader: &mut R,
     buffer: &mut [u8],
     table: &mut [u8; 2 * esterel::MAX_NODES],
-) -> Translated
+) -> io::Result<Reading>
     requires { max_source < length buffer.old }
     ensures { Translates buffer.old buffer.new table.old table.new result }
 {
-    let input = input::read(reader, buffer);
-    let Input::Bytes { length } = input else {
-        return Translated::Failed;
-    };
-    let reading = text::read(&buffer[..length], table);
-    match reading {
-        Reading::Done { nodes, signals: _ } => Translated::Table { length: 2 * nodes },
-        Reading::Refused {
-            number,
-            node,
-            place,
-        } => Translated::Refused {
-            number,
-            node,
-            place,
-        },
-    }
+    let length = input::read(reader, buffer)?;
+    Ok(text::read(&buffer[..length], table))
 }
 
 // More bytes than the line of any refusal has.
@@ -86,27 +58,26 @@ fn main(rt: HostRuntime) -> ExitCode {
     // One byte more than a text may have decides refusal 14, so no more is read.
     let mut buffer = [0u8; grammar::MAX_SOURCE + 1];
     let mut table = [0u8; 2 * esterel::MAX_NODES];
-    let mut source = Source::new(rt.stdin());
-    let translated = translate_input(&mut source, &mut buffer, &mut table);
-    if let Translated::Refused {
-        number,
-        node,
-        place,
-    } = translated
-    {
-        let mut writer = rt.stderr();
-        tell_refusal(&mut writer, number, node);
-        if FIRST_PLACED <= number {
-            tell_place(&mut writer, &buffer, place);
-        }
-        return ExitCode::SUCCESS;
-    }
-    let Translated::Table { length } = translated else {
-        return output::tell_failure(&rt, "translate: standard input", source.failure());
+    let reading = match translate_input(&mut rt.stdin(), &mut buffer, &mut table) {
+        Ok(reading) => reading,
+        Err(e) => return output::tell_failure(&rt, "translate", "standard input", e),
     };
-    let mut writer = rt.stdout();
-    match writer.write_all(&table[..length]) {
-        Ok(()) => ExitCode::SUCCESS,
-        Err(e) => output::tell_failure(&rt, "translate: standard output", Some(e)),
+    match reading {
+        Reading::Done { nodes, signals: _ } => match rt.stdout().write_all(&table[..2 * nodes]) {
+            Ok(()) => ExitCode::SUCCESS,
+            Err(e) => output::tell_failure(&rt, "translate", "standard output", e),
+        },
+        Reading::Refused {
+            number,
+            node,
+            place,
+        } => {
+            let mut writer = rt.stderr();
+            tell_refusal(&mut writer, number, node);
+            if FIRST_PLACED <= number {
+                tell_place(&mut writer, &buffer, place);
+            }
+            ExitCode::SUCCESS
+        }
     }
 }

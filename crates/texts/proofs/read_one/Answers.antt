@@ -10,5 +10,5 @@ overflow_mul-table g c = omega (arith, (of_read.done _ _ _ _ _ c.in-Done.ensures
 pub slice_bounds-table-end : goal.slice_bounds-table-end
 slice_bounds-table-end g c = written-long _ _ _ _ _ (of_read.done _ _ _ _ _ c.in-Done.ensures)
 
-pub slice_bounds-write_bytes-end : goal.slice_bounds-write_bytes-end
-slice_bounds-write_bytes-end g c = sym (length-take-le _ _ (written-long _ _ _ _ _ (of_read.done _ _ _ _ _ c.in-Done.ensures)))
+pub slice_bounds-byte-items-end : goal.slice_bounds-byte-items-end
+slice_bounds-byte-items-end g c = sym (length-take-le _ _ (written-long _ _ _ _ _ (of_read.done _ _ _ _ _ c.in-Done.ensures)))
