@@ -18,7 +18,8 @@ ghost use Rattle.analysis.specs.Analysis.{TableChecked, TreeChecked, room_for, A
 use esterel::{Check, Refusal};
 use table::{Kind, Tree};
 
-// The codes of a pause in K, or in A where `any` says so.
+// The codes of a pause in K, or in A where `any` says so. A flag, and not a function for each set: what is defined (`codes_of`,
+// specs/Steps) speaks of both at once.
 fn pause_codes(any: bool) -> u64
     ensures { result ≡ word (pause_set any) }
 {
@@ -112,14 +113,14 @@ fn check_loops(table: &[u8]) -> Result<(), Refusal>
     Ok(())
 }
 
-// Whether a node is a sequence whose first child, with these start codes, may end at once: 1 or 0.
+// Whether a node is a sequence whose first child, with these start codes, may end at once: 1 or 0, since it stands in a lent byte.
 fn first_ends(kind: Kind, first: u64) -> u8
     ensures { result ≡ bit (is_sequence kind && (first ∋ 0)) }
 {
     u8::from((kind == Kind::Sequence) & codes::has(first, 0))
 }
 
-// K and A of all nodes, children before parents, and for each node whether it is a sequence whose first child may end at once. The walk
+// K and A of all nodes, children before parents, on two stacks (check 11 has that of K alone), and for each node whether it is a sequence whose first child may end at once. The walk
 // that fills in the contexts asks that of a sequence before the mark takes the byte's place, and so needs to find no first child.
 fn fill_sets(table: &[u8], start_sets: &mut [u64], any_sets: &mut [u64], flags: &mut [u8])
     requires { Fillable table.now start_sets.old any_sets.old flags.old }
