@@ -120,8 +120,9 @@ fn first_ends(kind: Kind, first: u64) -> u8
     u8::from((kind == Kind::Sequence) & codes::has(first, 0))
 }
 
-// K and A of all nodes, children before parents, on two stacks (check 11 has that of K alone), and for each node whether it is a sequence whose first child may end at once. The walk
-// that fills in the contexts asks that of a sequence before the mark takes the byte's place, and so needs to find no first child.
+// K and A of all nodes, children before parents, on two stacks (check 11 has that of K alone), and for each node whether it is a
+// sequence whose first child may end at once. The walk that fills in the contexts asks that of a sequence before the mark takes the
+// byte's place, and so needs to find no first child.
 fn fill_sets(table: &[u8], start_sets: &mut [u64], any_sets: &mut [u64], flags: &mut [u8])
     requires { Fillable table.now start_sets.old any_sets.old flags.old }
     ensures starts { start_sets.new ≡ onto (words_of false (program_of table.now)) start_sets.old }
