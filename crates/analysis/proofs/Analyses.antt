@@ -20,15 +20,18 @@ use Rattle.esterel.specs.Checks.{check_program, Line, line_of, listing}
 use Rattle.esterel.proofs.Accepted.{statements}
 use Rattle.esterel.proofs.Reading.{length-passed}
 use Rattle.table.specs.Program.{program_of, Readable}
-use Rattle.table.specs.Columns.{sizes_of}
 use Rattle.table.specs.Check.{refuse, length_check}
 use Rattle.table.specs.Check.{answer_of as check_of}
 use Rattle.table.proofs.Bytes.{table-length}
 use Rattle.table.proofs.Sizing.{measured}
+use Rattle.table.proofs.Trees.{measured-by}
+use Rattle.table.specs.Columns.{sizes_of}
+use Rattle.table.specs.Columns.{Measured}
+use Rattle.table.specs.declared.Tree.{Tree}
 use Rattle.table.proofs.Surveying.{few-nodes}
 use Rattle.analysis.specs.Steps.{set_of_stmt}
 use Rattle.analysis.specs.Passes.{Filled, words_of, onto, flags_of, Fillable, context_word, contexts_of, marks_of, Ready, depth_of, Accepting, Walkable}
-use Rattle.analysis.specs.Analysis.{check_room, checked, TableChecked, SizesChecked, room_for, done, answer_of, k_of, a_of, s_of, mark_of, column, verdict_for, Analysis}
+use Rattle.analysis.specs.Analysis.{check_room, checked, TableChecked, Sized, SizesChecked, TreeChecked, room_for, done, answer_of, k_of, a_of, s_of, mark_of, column, verdict_for, Analysis}
 use Rattle.analysis.proofs.Accepts.{length_law}
 use Rattle.analysis.proofs.Contexts.{length-marks}
 use Rattle.analysis.proofs.Filling.{filled, length-flags, flags-at}
@@ -91,6 +94,9 @@ module _ {t : List ℕ} {room : Bool} where
   pub sizes_fail : {number node : ℕ} (sizes : List ℕ) → TableChecked room t (rejects number node) → SizesChecked room t sizes (rejects number node)
   sizes_fail sizes o = record { answer = sym (ap check_of (table-refused o)); sized = λ y. absurd (rejects≢yields y) }
 
+  pub tree-fails : {number node : ℕ} → TableChecked room t (rejects number node) → TreeChecked room t (rejects number node)
+  tree-fails o = record { answer = sym (ap check_of (table-refused o)); same = λ x y. absurd (rejects≢yields y); sized = λ x y. absurd (rejects≢yields y) }
+
 -- a call that passed
 module _ {t : List ℕ} {room : Bool} {d : ℕ} (o : TableChecked room t (yields d)) where
   pub ready : Ready t
@@ -121,6 +127,25 @@ module _ {t : List ℕ} {room : Bool} {d : ℕ} (o : TableChecked room t (yields
         answer = sym (ap check_of verdict);
         sized = λ _. record { suffices = suffices; verdict = verdict; ready = ready; measured = measured old fine (omega arith) is; few = few };
       }
+
+  -- the tree that is handed out
+  pub tree-checked : (x : Tree) → x.table.now ≡ t → TreeChecked room t (yields x)
+  tree-checked x is =
+      let (suffices, verdict) = table-passed in
+      let few = few-nodes t fine in
+      let kept : Measured t x.sizes.now = subst (λ u. Measured u x.sizes.now) is (measured-by x.tree) in
+      record {
+        answer = sym (ap check_of verdict);
+        same = λ y e. ap (λ r. tree_in r x) (sym e) ∙ is;
+        sized = λ y e. subst (λ z. Sized room t z.sizes.now) (ap (λ r. value x r) e) (record { suffices = suffices; verdict = verdict; ready = ready; measured = kept; few = few });
+      }
+    where
+      value : Tree → Reply Tree → Tree
+      value d (yields a) = a
+      value d (rejects n v) = d
+
+      tree_in : Reply Tree → Tree → List ℕ
+      tree_in r d = (value d r).table.now
 
 -- nothing lent has changed
 pub refusing : {t k a s m : List ℕ} {number node : ℕ} → verdict_for t k a s m ≡ refused number node → Analysis t k a s m k a s m (rejects number node)

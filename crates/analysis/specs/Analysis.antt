@@ -9,6 +9,7 @@ use Rattle.table.specs.Check.{answer_of as check_of}
 use Rattle.table.specs.Program.{program_of}
 use Rattle.table.specs.Columns.{Measured}
 use Rattle.analysis.specs.Passes.{onto, Ready, depth_of}
+use Rattle.table.specs.declared.Tree.{Tree}
 use Rattle.analysis.specs.declared.Analysed.{Analysed}
 
 -- check 3, between 2 and 4: whether the lent buffers suffice
@@ -36,6 +37,16 @@ pub record Sized (room : Bool) (t sizes : List ℕ) : Type 0 where
 pub record SizesChecked (room : Bool) (t sizes : List ℕ) (r : Reply (Unit {0})) : Type 0 where
   pub answer : r ≡ check_of (checked room t)
   pub sized : r ≡ yields tt → Sized room t sizes
+
+-- whether a call is refused, whatever it yields
+abbrev pub told : {A : Type 0} → Reply A → Reply (Unit {0})
+told (yields a) = yields tt
+told (rejects number node) = rejects number node
+
+pub record TreeChecked (room : Bool) (t : List ℕ) (r : Reply Tree) : Type 0 where
+  pub answer : told r ≡ check_of (checked room t)
+  pub same : (x : Tree) → r ≡ yields x → x.table.now ≡ t
+  pub sized : (x : Tree) → r ≡ yields x → Sized room t x.sizes.now
 
 -- n entries for each of K, A, S and marks
 abbrev pub room_for : (n starts anys contexts marks : ℕ) → Bool

@@ -13,12 +13,13 @@ ghost use Rattle.table.specs.Check.{WellSized};
 ghost use Rattle.analysis.specs.Steps.{pause_set, sequence_of, codes_of, under_first_of, under_second_of};
 ghost use Rattle.analysis.specs.Contexts.{contexts_in, traps_in, TopOf, OnlyOf, SecondOf, Descended};
 ghost use Rattle.analysis.specs.Passes.{Placed, onto, loops_check, words_of, flags_of, Fillable, contexts_of, marks_of, Walkable, Accepting};
-ghost use Rattle.analysis.specs.Analysis.{TableChecked, SizesChecked, room_for, Analysis};
+ghost use Rattle.analysis.specs.Analysis.{TableChecked, SizesChecked, TreeChecked, room_for, Analysis};
 
 use esterel::{Check, Refusal};
-use table::Kind;
+use table::{Kind, Tree};
 
-// The codes of a pause in K, or in A where `any` says so.
+// The codes of a pause in K, or in A where `any` says so. A flag, and not a function for each set: what is defined (`codes_of`,
+// specs/Steps) speaks of both at once.
 fn pause_codes(any: bool) -> u64
     ensures { result ≡ word (pause_set any) }
 {
@@ -112,15 +113,16 @@ fn check_loops(table: &[u8]) -> Result<(), Refusal>
     Ok(())
 }
 
-// Whether a node is a sequence whose first child, with these start codes, may end at once: 1 or 0.
+// Whether a node is a sequence whose first child, with these start codes, may end at once: 1 or 0, since it stands in a lent byte.
 fn first_ends(kind: Kind, first: u64) -> u8
     ensures { result ≡ bit (is_sequence kind && (first ∋ 0)) }
 {
     u8::from((kind == Kind::Sequence) & codes::has(first, 0))
 }
 
-// K and A of all nodes, children before parents, and for each node whether it is a sequence whose first child may end at once. The walk
-// that fills in the contexts asks that of a sequence before the mark takes the byte's place, and so needs to find no first child.
+// K and A of all nodes, children before parents, on two stacks (check 11 has that of K alone), and for each node whether it is a
+// sequence whose first child may end at once. The walk that fills in the contexts asks that of a sequence before the mark takes the
+// byte's place, and so needs to find no first child.
 fn fill_sets(table: &[u8], start_sets: &mut [u64], any_sets: &mut [u64], flags: &mut [u8])
     requires { Fillable table.now start_sets.old any_sets.old flags.old }
     ensures starts { start_sets.new ≡ onto (words_of false (program_of table.now)) start_sets.old }
@@ -334,6 +336,19 @@ pub fn check_sized(table: &[u8], room: bool, sizes: &mut [u16]) -> Result<(), Re
     check_table(table, room)?;
     table::fill_sizes(table, sizes);
     Ok(())
+}
+
+// The same of a call that walks the tree, which is handed out where the checks pass.
+pub fn check_tree<'a>(
+    table: &'a [u8],
+    room: bool,
+    sizes: &'a mut [u16],
+) -> Result<Tree<'a>, Refusal>
+    requires { max_nodes ≤ length sizes.old }
+    ensures { TreeChecked room table.now (reply result) }
+{
+    check_table(table, room)?;
+    Ok(Tree::new(table, sizes))
 }
 
 // What is told of a table that passes the checks: the number of nodes and the loop depth.

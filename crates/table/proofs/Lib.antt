@@ -11,4 +11,5 @@ pub mod Found
 pub mod Descending
 pub mod Surveying
 pub mod Sizing
+pub mod Trees
 pub mod Views

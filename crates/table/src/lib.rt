@@ -7,7 +7,7 @@ ghost use Rattle.esterel.specs.Refusal.{yields, reply};
 ghost use Rattle.esterel.specs.Statement.{size};
 ghost use Rattle.table.specs.Kinds.{kind_of, arity_of, plain_of};
 ghost use Rattle.table.specs.Program.{program_of, Readable};
-ghost use Rattle.table.specs.Columns.{onto, sizes_of};
+ghost use Rattle.table.specs.Columns.{onto, sizes_of, stmt_at, TreeOf};
 ghost use Rattle.table.specs.Check.{length_check, node_check, nodes_check, WellSized, Room, span_of, refuse_some, Shallow, TopOf, OnlyOf, SecondOf, Descended, depths_of, traps_of, loops_of, Seen, Surveyed};
 
 use esterel::{Check, Refusal};
@@ -379,5 +379,52 @@ pub fn fill_sizes(table: &[u8], sizes: &mut [u16])
     for i in 0..n {
         last = span(sizes, i, kind_at(table, i).arity(), last);
         sizes[i] = last as u16;
+    }
+}
+
+// A table that was read, with the sizes of its subtrees.
+#[derive(Clone, Copy)]
+pub struct Tree<'a> {
+    pub table: &'a [u8],
+    pub sizes: &'a [u16],
+    ghost tree: { TreeOf table.now sizes.now },
+}
+
+impl<'a> Tree<'a> {
+    // The sizes are filled in.
+    pub fn new(table: &'a [u8], sizes: &'a mut [u16]) -> Tree<'a>
+        requires { Readable table.now × (size (program_of table.now) ≤ length sizes.old) }
+        ensures { result.table.now ≡ table.now }
+    {
+        fill_sizes(table, sizes);
+        Tree { table, sizes }
+    }
+
+    pub fn nodes(&self) -> usize
+        ensures { result ≡ size (program_of self.now.table.now) }
+    {
+        self.table.len() / 2
+    }
+
+    pub fn kind(&self, node: usize) -> Kind
+        requires { node < size (program_of self.now.table.now) }
+        ensures { result ≡ kind_of (get_or self.now.table.now (2 * node) 0) }
+    {
+        kind_at(self.table, node)
+    }
+
+    pub fn field(&self, node: usize) -> usize
+        requires { node < size (program_of self.now.table.now) }
+        ensures { (result ≡ get_or self.now.table.now (2 * node + 1) 0) × (result < 256) }
+    {
+        field_at(self.table, node)
+    }
+
+    // The size of the subtree at a node.
+    pub fn size(&self, node: usize) -> usize
+        requires { node < size (program_of self.now.table.now) }
+        ensures { result ≡ size (stmt_at self.now.table.now node) }
+    {
+        size_at(self.sizes, node)
     }
 }

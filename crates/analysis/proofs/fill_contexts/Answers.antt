@@ -7,30 +7,15 @@ use Rattle.analysis.proofs.fill_contexts.Goals as goal
 pub loop-i-init : goal.loop-i-init
 loop-i-init c = walk_start _ _ _ _ _ _ (omega (arith, table-length c.args.table.now c.requires.placed.readable)) refl refl
 
-pub kind_at-kind-requires : goal.kind_at-kind-requires
-kind_at-kind-requires c =
-    let here = turn c.requires.placed c.requires.room c.requires.marks_room (stepped c.loop-i.invariant (omega arith)) in
-    here.table
-
 pub bounds-marks-i : goal.bounds-marks-i
 bounds-marks-i c =
     let here = turn c.requires.placed c.requires.room c.requires.marks_room (stepped c.loop-i.invariant (omega arith)) in
     here.in_marks
 
-pub offset_bounds-contexts-i : goal.offset_bounds-contexts-i
-offset_bounds-contexts-i c =
-    let here = turn c.requires.placed c.requires.room c.requires.marks_room (stepped c.loop-i.invariant (omega arith)) in
-    omega (arith, here.low)
-
 pub bounds-contexts-i : goal.bounds-contexts-i
 bounds-contexts-i c =
     let here = turn c.requires.placed c.requires.room c.requires.marks_room (stepped c.loop-i.invariant (omega arith)) in
     here.in_contexts
-
-pub offset_bounds-anys-i : goal.offset_bounds-anys-i
-offset_bounds-anys-i c =
-    let here = turn c.requires.placed c.requires.room c.requires.marks_room (stepped c.loop-i.invariant (omega arith)) in
-    omega (arith, here.low)
 
 pub bounds-anys-i : goal.bounds-anys-i
 bounds-anys-i c =

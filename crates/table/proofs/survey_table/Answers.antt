@@ -9,14 +9,6 @@ use Rattle.table.proofs.survey_table.Goals as goal
 pub loop-i-init : goal.loop-i-init
 loop-i-init c = start _ _ _ _ _ _ (omega (arith, table-length c.args.table.now c.requires)) refl refl refl refl refl refl
 
-pub kind_at-kind-requires : goal.kind_at-kind-requires
-kind_at-kind-requires c =
-    (turn c.args.table.now c.requires (back c.loop-i.i (omega arith) c.loop-i.invariant)).inside
-
-pub field_at-requires : goal.field_at-requires
-field_at-requires c =
-    (turn c.args.table.now c.requires (back c.loop-i.i (omega arith) c.loop-i.invariant)).inside
-
 pub seen-faults-requires : goal.seen-faults-requires
 seen-faults-requires c =
     (turn c.args.table.now c.requires (back c.loop-i.i (omega arith) c.loop-i.invariant)).shallow
