@@ -43,7 +43,7 @@ field-known x w ts g k f f' e c = record {
   rooms = c.rooms;
   short = c.short;
   long = (length-append g.bytes (k ∷ f' ∷ []) ∙ sym (length-append g.bytes (k ∷ f ∷ []))) ∙ c.long;
-  holds = λ q. rw (← e q) (c.holds q);
+  holds = λ q i a b. rw (← e q) (c.holds q i a b);
   counted = c.counted;
   many = c.many;
   names = c.names;
@@ -145,7 +145,7 @@ module _ (x : List ℕ) (p : S.Part) (w : Sheet) where
             rooms = record { table = c.rooms.table; signals = length-set _ _ _ ∙ c.rooms.signals; traps = c.rooms.traps };
             short = c.short;
             long = c.long;
-            holds = λ q j. c.holds seen_few j;
+            holds = λ q i. c.holds seen_few i;
             counted = λ q. omega (arith, longer);
             many = λ q. absurd (omega (arith, longer));
             names = λ q. listed;
@@ -155,10 +155,10 @@ module _ (x : List ℕ) (p : S.Part) (w : Sheet) where
             around = c.around;
           }
 
-        number-new : w.signal_count % 65536 ≡ place (see g.seen s) s
+        number-new : w.signal_count ≡ place (see g.seen s) s
         number-new = rw new (omega (arith, place_end g.seen s (omega (arith, o g.seen v front front-count)), seen-count))
 
-  pub notes-known : {i : ℕ} → w.signal_count ≤ 256 → FoundAs x (take w.signal_count w.signals) p (Some i) → Notes x p w w (i % 65536)
+  pub notes-known : {i : ℕ} → w.signal_count ≤ 256 → FoundAs x (take w.signal_count w.signals) p (Some i) → Notes x p w w i
   notes-known {i = i} low o = record {
     adds = λ v ts g c. rw (same ts g v c) c;
     number = λ ts g v c l. rw (same ts g v c) (omega (arith, (known ts g v c low o).0, (known ts g v c low o).1, seen_few ts g v c low));
@@ -173,7 +173,7 @@ module _ (x : List ℕ) (p : S.Part) (w : Sheet) where
     number = λ ts g v c l. absurd (omega (arith, rw (new ts g v c (omega arith) o) at l, longer ts g v c (omega arith) o));
   }
 
-  pub notes-new : w.signal_count < 256 → FoundAs x (take w.signal_count w.signals) p None → (k : Kept) → k.start ≡ p.start % 65536 → k.stop ≡ p.stop % 65536 → Notes x p w (record w { signals = set w.signals w.signal_count k; signal_count = w.signal_count + 1 }) (w.signal_count % 65536)
+  pub notes-new : w.signal_count < 256 → FoundAs x (take w.signal_count w.signals) p None → (k : Kept) → k.start ≡ p.start % 65536 → k.stop ≡ p.stop % 65536 → Notes x p w (record w { signals = set w.signals w.signal_count k; signal_count = w.signal_count + 1 }) w.signal_count
   notes-new e o k b f = record {
     adds = λ v ts g c. note-new ts g v c (omega arith) o e k b f;
     number = λ ts g v c l. number-new ts g v c (omega arith) o;
@@ -238,7 +238,7 @@ fresh x short w z = record {
   rooms = z.rooms;
   short = short;
   long = omega (arith, z.nodes);
-  holds = λ q j a b. absurd (omega arith);
+  holds = λ q i a b. absurd (omega arith);
   counted = λ q. z.signals;
   many = λ q. absurd (omega arith);
   names = λ q. record { at = λ i h. absurd (omega arith) };

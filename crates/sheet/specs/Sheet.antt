@@ -1,6 +1,6 @@
 -- What a sheet holds: the table, the number of signals and their names in order of first appearance, whether an exit had no trap, the number of
 -- traps around and their names, which stand at the end of their array, the nearest first.
-use Rattle.std.specs.Prelude.{ℕ, suc, ◌*◌, ◌<◌, ◌≤◌, ◌-◌, ◌≡◌, false, Option, Some, None, List, [], length, get_or, take, drop}
+use Rattle.std.specs.Prelude.{ℕ, suc, ◌+◌, ◌*◌, ◌<◌, ◌≤◌, ◌-◌, ◌≡◌, false, Option, Some, None, List, [], ◌∷◌, length, get_or, take, drop}
 use Rattle.esterel.specs.Limits.{max_nodes, signals as max_signals}
 use Rattle.grammar.specs.Limits.{max_source, max_levels}
 use Rattle.grammar.specs.Tree.{Name}
@@ -8,13 +8,10 @@ use Rattle.grammar.specs.Names.{place, see}
 use Rattle.grammar.specs.Progress.{Progress, note}
 use Rattle.scan.specs.declared.Part as S
 use Rattle.sheet.specs.declared.Kept.{Kept}
+use Rattle.sheet.specs.declared.Node.{Node}
 use Rattle.sheet.specs.declared.Kind.{Kind}
 use Rattle.sheet.specs.declared.Kind.TheVariants.{Nothing, Pause, Emit, Exit, Signal, Present, Suspend, Loop, Sequence, Parallel, Trap}
 use Rattle.sheet.specs.declared.Sheet.{Sheet}
-
--- the numbers of a table
-abbrev pub table_room : ℕ
-table_room = 2 * max_nodes
 
 -- more nodes than a text within the length has: so far they are counted
 abbrev pub max_counted : ℕ
@@ -33,6 +30,19 @@ number_of Loop = 8
 number_of Sequence = 9
 number_of Parallel = 10
 number_of Trap = 11
+
+-- nodes as two numbers each
+abbrev pub numbers_of : List Node → List ℕ
+numbers_of [] = []
+numbers_of (n ∷ ns) = number_of n.kind ∷ n.field ∷ numbers_of ns
+
+abbrev pub nothing_yet : Node
+nothing_yet = record { kind = Nothing; field = 0 }
+
+-- a node of the table as the bytes have it at its place i
+pub record NodeIs (n : Node) (bytes : List ℕ) (i : ℕ) : Type 0 where
+  pub kind : number_of n.kind ≡ get_or bytes (2 * i) 0
+  pub field : n.field ≡ get_or bytes (2 * i + 1) 0
 
 -- a part of the text
 abbrev pub part : List ℕ → ℕ → ℕ → Name
@@ -69,7 +79,7 @@ FoundAs x ks p None = (ns : List Name) → InText x p → Listed x ks ns → len
 
 -- the lengths of a sheet's arrays
 pub record Rooms (w : Sheet) : Type 0 where
-  pub table : length w.table ≡ table_room
+  pub table : length w.table ≡ max_nodes
   pub signals : length w.signals ≡ max_signals
   pub traps : length w.traps ≡ max_levels
 
@@ -79,7 +89,7 @@ pub record Filled (x : List ℕ) (w : Sheet) (ts : List Name) (g : Progress) : T
   pub rooms : Rooms w
   pub short : length x ≤ max_source
   pub long : length g.bytes ≡ 2 * w.nodes
-  pub holds : length g.seen ≤ max_signals → (j : ℕ) → j < table_room → j < length g.bytes → get_or w.table j 0 ≡ get_or g.bytes j 0
+  pub holds : length g.seen ≤ max_signals → (i : ℕ) → i < max_nodes → i < w.nodes → NodeIs (get_or w.table i nothing_yet) g.bytes i
   pub counted : length g.seen ≤ max_signals → w.signal_count ≡ length g.seen
   pub many : max_signals < length g.seen → w.signal_count ≡ suc max_signals
   pub names : length g.seen ≤ max_signals → Listed x w.signals g.seen

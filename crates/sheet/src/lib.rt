@@ -17,8 +17,6 @@ ghost use Rattle.sheet.specs.Sheet.{max_counted, number_of, name_at, InText, Add
 
 use scan::Part;
 
-pub const TABLE: usize = 2 * esterel::MAX_NODES;
-
 // The kinds of nodes by their numbers in document 01.
 #[derive(Clone, Copy)]
 pub enum Kind {
@@ -35,6 +33,13 @@ pub enum Kind {
     Trap,
 }
 
+// A node as document 01 has it in two bytes. Its field is kept whole.
+#[derive(Clone, Copy)]
+pub struct Node {
+    pub kind: Kind,
+    pub field: u16,
+}
+
 // A name, by the places of the text where it begins and ends, in four bytes: a text within the length has no place above 16,384.
 #[derive(Clone, Copy)]
 pub struct Kept {
@@ -45,9 +50,8 @@ pub struct Kept {
 // No heap, and the readers that recurse lend one value to each other: so it is arrays, and how much of each is in use.
 #[derive(Drop)]
 pub struct Sheet {
-    // A kind and a field for each node. Nodes that the table has no room for are counted alone: a table that is too long is
-    // refused once all of the text is read.
-    pub table: [u16; TABLE],
+    // Nodes that the table has no room for are counted alone: a table that is too long is refused once all of the text is read.
+    pub table: [Node; esterel::MAX_NODES],
     pub nodes: usize,
 
     // In order of first appearance. A 257th name is counted and not kept, and none after it is counted.
@@ -73,14 +77,15 @@ impl Kept {
             stop: (name.stop % 65536) as u16,
         }
     }
+}
 
-    fn part(self) -> Part
-        ensures start { result.start ≡ self.start }
-        ensures stop { result.stop ≡ self.stop }
-    {
+impl From<Kept> for Part {
+    ghost from_gives = { λ kept part. (part.start ≡ kept.start) × (part.stop ≡ kept.stop) };
+
+    fn from(kept: Kept) -> Part {
         Part {
-            start: usize::from(self.start),
-            stop: usize::from(self.stop),
+            start: usize::from(kept.start),
+            stop: usize::from(kept.stop),
         }
     }
 }
@@ -100,7 +105,7 @@ fn find(text: &[u8], others: &[Kept], name: Part) -> Option<usize>
     ensures { FoundAs text.now others.now name result }
 {
     for (i, other) in others.iter().enumerate() {
-        if is_same_part(text, other.part(), name) {
+        if is_same_part(text, Part::from(*other), name) {
             return Some(i);
         }
     }
@@ -111,9 +116,13 @@ impl Sheet {
     pub fn new() -> Sheet
         ensures { Fresh result }
     {
+        let nothing = Node {
+            kind: Kind::Nothing,
+            field: 0,
+        };
         let nowhere = Kept { start: 0, stop: 0 };
         Sheet {
-            table: [0; TABLE],
+            table: [nothing; esterel::MAX_NODES],
             nodes: 0,
             signals: [nowhere; esterel::SIGNALS],
             signal_count: 0,
@@ -128,12 +137,10 @@ impl Sheet {
         ensures nodes { self.new.nodes ≡ self.old.nodes + 1 }
         ensures adds { (x : List ℕ) → Adds x self.old self.new (λ ts g. P.node (number_of kind) field g) }
     {
-        let at = 2 * self.nodes;
-        self.nodes += 1;
-        if at + 1 < TABLE {
-            self.table[at] = kind as u16;
-            self.table[at + 1] = field;
+        if self.nodes < esterel::MAX_NODES {
+            self.table[self.nodes] = Node { kind, field };
         }
+        self.nodes += 1;
     }
 
     // A signal's name is met; its number. No number matters where the signals are too many.
@@ -146,13 +153,13 @@ impl Sheet {
             return 0;
         }
         if let Some(found) = find(text, &self.signals[..count], name) {
-            return (found % 65536) as u16;
+            return found as u16;
         }
         self.signal_count = count + 1;
         if count < esterel::SIGNALS {
             self.signals[count] = Kept::of(name);
         }
-        (count % 65536) as u16
+        count as u16
     }
 
     // The number of a signal that was met.
@@ -163,8 +170,7 @@ impl Sheet {
         if esterel::SIGNALS < count {
             return 0;
         }
-        let found = find(text, &self.signals[..count], name).unwrap_or(count);
-        (found % 65536) as u16
+        find(text, &self.signals[..count], name).unwrap_or(count) as u16
     }
 
     // The node of a statement whose signal was met before.
@@ -193,11 +199,13 @@ impl Sheet {
         ensures level { (ts : List Name) (g : P.Progress) → InText text.now name → Filled text.now self.old ts g → (result ≡ place ts (name_at text.now name)) × Filled text.now self.new ts (P.leave ts (name_at text.now name) g) }
     {
         let first = grammar::MAX_LEVELS.saturating_sub(self.trap_count);
-        if let Some(level) = find(text, &self.traps[first..], name) {
-            return (level % 65536) as u16;
+        let around = &self.traps[first..];
+        let levels = around.len();
+        if let Some(level) = find(text, around, name) {
+            return level as u16;
         }
         self.is_untrapped = true;
-        (self.trap_count % 65536) as u16
+        levels as u16
     }
 
     // The node of an exit.

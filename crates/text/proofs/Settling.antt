@@ -7,7 +7,7 @@ use Prim.Native.Nat.{ℕ, ◌*◌, ◌≤◌, ◌<◌}
 use native.Mathlib.Omega.{arith}
 use lib.Dec.{ltb}
 use lib.ListN.{length, take, drop}
-use lib.Seq.{take_at}
+use lib.Seq.{take_at, length-take-le}
 use borrow.Author.Tests.{lt-ltb, le-ltb, ltb-true, ltb-false}
 use Rattle.grammar.specs.Tree.{Tree}
 use Rattle.grammar.specs.Tokens.{tokens, byte_of}
@@ -28,7 +28,7 @@ use Rattle.grammar.proofs.Writing.{written, longer-same}
 use Rattle.grammar.proofs.Clipping.{low-postfix, size-clip, same_first, deep_blind, traps_blind, none_first, first-none, caught, clip-same}
 use Rattle.fault.specs.Walking.{ExitTold}
 use Rattle.sheet.specs.declared.Sheet.{Sheet}
-use Rattle.sheet.specs.Sheet.{Filled}
+use Rattle.sheet.specs.Sheet.{numbers_of, Filled}
 use Rattle.table.specs.Program.{program_in, program_of, Readable}
 use Rattle.table.specs.Check.{refuse_found, places_check}
 use Rattle.std.specs.Prelude.{Result}
@@ -40,7 +40,7 @@ use Rattle.text.specs.declared.Fault.{Fault}
 use Rattle.esterel.specs.Refusal.{number_of, Reply, yields, rejects}
 use Rattle.esterel.proofs.Replies.{rejects≢yields}
 use Rattle.text.specs.Reading.{reads, refuses, answer, Told}
-use Rattle.text.proofs.Bytes.{take-is}
+use Rattle.text.proofs.Bytes.{numbers-are}
 
 -- where a derivation is at fault
 module _ (x : List ℕ) (t : Tree) (d : Program t (tokens x)) where
@@ -80,10 +80,13 @@ module _ (x : List ℕ) (w : Sheet) (t : Tree) (c : Filled x w [] (past [] (expa
   -- the bytes on the sheet
   module _ (few : w.nodes ≤ max_nodes) (counted : length (signals t) ≤ max_signals) where
     abbrev fields : List ℕ
-    fields = take (2 * w.nodes) w.table
+    fields = numbers_of (take w.nodes w.table)
 
     bytes-are : fields ≡ postfix (statement_of t)
-    bytes-are = take-is (2 * w.nodes) w.table (past [] (expand t) blank).bytes c.long (omega (arith, c.rooms.table)) (λ j h. c.holds (rw names-are counted) j (omega arith) (omega (arith, c.long))) ∙ (written t).table
+    bytes-are = numbers-are w.nodes w.table (past [] (expand t) blank).bytes c.long (omega (arith, c.rooms.table)) (λ i h. c.holds (rw names-are counted) i (omega arith) h) ∙ (written t).table
+
+    pub copied : 2 * length (take w.nodes w.table) ≡ 2 * w.nodes
+    copied = ap (λ (k : ℕ). 2 * k) (length-take-le w.nodes w.table (omega (arith, c.rooms.table)))
 
     pub low-are : low_bytes fields ≡ postfix (clip (statement_of t))
     low-are = ap (λ (l : List ℕ). low_bytes l) bytes-are ∙ low-postfix (statement_of t)
@@ -101,8 +104,8 @@ module _ (x : List ℕ) (w : Sheet) (t : Tree) (c : Filled x w [] (past [] (expa
     clip-long : length (postfix (clip (statement_of t))) ≡ 2 * w.nodes
     clip-long = omega (arith, length-postfix (clip (statement_of t)), size-clip (statement_of t), nodes-are)
 
-    pub part-is : (old : List ℕ) → take (2 * w.nodes) (low_bytes fields ++ drop (length fields) old) ≡ postfix (clip (statement_of t))
-    part-is old = rw low-are (take_at (postfix (clip (statement_of t))) (drop (length fields) old) (2 * w.nodes) clip-long)
+    pub part-is : (rest : List ℕ) → take (2 * w.nodes) (low_bytes fields ++ rest) ≡ postfix (clip (statement_of t))
+    part-is rest = rw low-are (take_at (postfix (clip (statement_of t))) rest (2 * w.nodes) clip-long)
 
   -- 15, 16 and 1
   module _ (d : Program t (tokens x)) where
@@ -177,12 +180,12 @@ module _ (x : List ℕ) (w : Sheet) (t : Tree) (c : Filled x w [] (past [] (expa
               same-statement : clip (statement_of t) ≡ statement_of t
               same-statement = clip-same (signals t) signals-few [] [] (expand t) 1 empty (longer-same (signals t)) kept (omega arith) (first-none too_many_traps (places_of (statement_of t)) 0 both-none.1)
 
-              pub told-done : (old : List ℕ) → Told (verdict_of_tree t) (length (signals t)) (place_of x d) old (low_bytes (fields few signals-few) ++ drop (length (fields few signals-few)) old) (reads w.nodes w.signal_count)
+              pub told-done : (old : List ℕ) → Told (verdict_of_tree t) (length (signals t)) (place_of x d) old (low_bytes (fields few signals-few) ++ drop (2 * length (take w.nodes w.table)) old) (reads w.nodes w.signal_count)
               told-done old =
                   let v : verdict_of_tree t ≡ passed (statement_of t) = to_nesting ∙ rw (both-none.0, both-none.1) in
-                  let b : fields few signals-few ≡ postfix (statement_of t) = bytes-are few signals-few in
                   let l : low_bytes (fields few signals-few) ≡ postfix (statement_of t) = low-are few signals-few ∙ ap postfix same-statement in
-                  rw v (cc (nodes-are, (few-is low).1), rw (l, b))
+                  let z : 2 * length (take w.nodes w.table) ≡ length (postfix (statement_of t)) = copied few signals-few ∙ omega (arith, length-postfix (statement_of t), nodes-are) in
+                  rw v (cc (nodes-are, (few-is low).1), rw (l, z))
 
 -- what `?` passes on of a check of the table
 pub handed-on : (r : Result Reading Fault) (e : Refusal) → IsErrAnd r (λ f. (f.refusal ≡ e) × (f.place ≡ 0)) → answer r ≡ refuses (number_of e.check) e.node 0

@@ -14,12 +14,15 @@ ghost use Rattle.grammar.specs.Meaning.{signals, statement_of, verdict_of_tree, 
 ghost use Rattle.grammar.specs.Progress.{past, blank};
 ghost use Rattle.grammar.specs.Clipping.{low_bytes, clip};
 ghost use Rattle.table.specs.Check.{places_check};
-ghost use Rattle.sheet.specs.Sheet.{Filled};
+ghost use Rattle.sheet.specs.Sheet.{numbers_of, Filled};
 ghost use Rattle.text.specs.Reading.{answer, Told, ReadAs};
 ghost use Rattle.text.specs.Inner.{fault_of, ParsedAs, Written, Surveyable};
 
 use esterel::{Check, Refusal};
-use sheet::Sheet;
+use sheet::{Node, Sheet};
+
+// The bytes of the longest table.
+const TABLE: usize = 2 * esterel::MAX_NODES;
 
 // How many nodes and signals a text's program has.
 #[derive(Clone, Copy)]
@@ -68,12 +71,13 @@ fn parse(text: &[u8], sheet: &mut Sheet) -> bool
 
 // The table of a sheet as bytes. A level above 255 loses its upper bits, but then 8 or 9 refuses the program, whose fields
 // these checks do not look at.
-fn copy_table(fields: &[u16], table: &mut [u8])
-    requires { length fields.now ≤ length table.old }
-    ensures { table.new ≡ low_bytes fields.now ++ drop (length fields.now) table.old }
+fn copy_table(nodes: &[Node], table: &mut [u8])
+    requires { 2 * length nodes.now ≤ length table.old }
+    ensures { table.new ≡ low_bytes (numbers_of nodes.now) ++ drop (2 * length nodes.now) table.old }
 {
-    for (i, field) in fields.iter().enumerate() {
-        table[i] = (*field % 256) as u8;
+    for (i, node) in nodes.iter().enumerate() {
+        table[2 * i] = node.kind as u8;
+        table[2 * i + 1] = (node.field % 256) as u8;
     }
 }
 
@@ -82,10 +86,9 @@ fn check_nesting(sheet: &Sheet) -> Result<(), Refusal>
     requires { Surveyable sheet.now }
     ensures { (x : List ℕ) (t : Tree) → Filled x sheet.now [] (past [] (expand t) blank) → reply result ≡ places_check (places_of (clip (statement_of t))) 0 }
 {
-    let mut table = [0u8; sheet::TABLE];
-    let end = 2 * sheet.nodes;
-    copy_table(&sheet.table[..end], &mut table);
-    table::survey_table(&table[..end]).check
+    let mut table = [0u8; TABLE];
+    copy_table(&sheet.table[..sheet.nodes], &mut table);
+    table::survey_table(&table[..2 * sheet.nodes]).check
 }
 
 // 15, 16, 1, 8 and 9 of a program on a sheet; then its table.
@@ -107,7 +110,7 @@ fn settle(text: &[u8], sheet: &Sheet, table: &mut [u8]) -> Result<Reading, Fault
         return Err(fault_at(Check::TooManyNodes, 0));
     }
     check_nesting(sheet)?;
-    copy_table(&sheet.table[..2 * nodes], table);
+    copy_table(&sheet.table[..nodes], table);
     Ok(Reading { nodes, signals })
 }
 
@@ -115,7 +118,7 @@ fn settle(text: &[u8], sheet: &Sheet, table: &mut [u8]) -> Result<Reading, Fault
 pub fn read(text: &[u8], table: &mut [u8]) -> Result<Reading, Fault>
     ensures { ReadAs text.now table.old table.new (answer result) }
 {
-    if table.len() < sheet::TABLE {
+    if table.len() < TABLE {
         return Err(fault_at(Check::NoRoom, 0));
     }
     if grammar::MAX_SOURCE < text.len() {

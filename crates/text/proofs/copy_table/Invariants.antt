@@ -3,4 +3,4 @@ use Rattle.text.proofs.Bytes.{Filling}
 use Rattle.text.proofs.copy_table.Given as goal
 
 abbrev pub invariant-loop-i : goal.invariant-loop-i
-invariant-loop-i l = Filling l.fields l.initial.table l.table l.i
+invariant-loop-i l = Filling l.nodes l.initial.table l.table l.i
