@@ -103,9 +103,6 @@ pub record FitsTo (p : Stmt) (state : List ℕ) (i : ℕ) : Type 0 where
   pub bound : i ≤ size p
   pub fits : (j : ℕ) → j < i → node_fits (nodes p) state j ≡ true
 
-pub fits-begin : {p : Stmt} {state : List ℕ} → FitsTo p state 0
-fits-begin = record { bound = omega arith; fits = λ j h. absurd (omega arith) }
-
 pub fits_next : {p : Stmt} {state : List ℕ} {i : ℕ} → FitsTo p state i → i < size p → node_fits (nodes p) state i ≡ true → FitsTo p state (i + 1)
 fits_next {p} {state} {i} o h e = record { bound = omega arith; fits = λ j k. go j k (dec_lt j i) }
   where
