@@ -24,7 +24,8 @@ struct Pair {
     second: u16,
 }
 
-// A number as it is kept, and no Option, which takes four bytes: the rows of all nodes are 128 KiB of fixed memory, cleared at once by zeros.
+// Fixed memory: a number stands for the Option that `value_of` reads in it, 0 for None. The rows of all nodes are 128 KiB so, cleared by
+// zeros; an Option<NonZeroU16> takes four bytes here, for there is no niche.
 #[derive(Clone, Copy)]
 pub struct Row {
     pub of: [u16; 64],
@@ -37,7 +38,11 @@ pub const NO_START: Row = Row { of: [0; 64] };
 fn lesser(a: u16, b: u16) -> u16
     ensures { Picks Answers a b result }
 {
-    if a == 0 || b == 0 { a.max(b) } else { a.min(b) }
+    match (a, b) {
+        (0, _) => b,
+        (_, 0) => a,
+        _ => a.min(b),
+    }
 }
 
 // The preferred of two numbers. The larger is the one that says something, if any does.
@@ -189,7 +194,8 @@ fn inner_at(weight: Weight, kind: Kind, first: &Row, second: &Row, up: Pair, k: 
 }
 
 // The row of a node with children from theirs, of the only one or the first, and of the second: one sweep over the codes for all
-// kinds. Only a parallel asks for the preferred up to each code.
+// kinds. Only a parallel asks for the preferred up to each code. Inlined where the weight is known, no step of the sweep chooses by it.
+#[inline(always)]
 pub fn row_of(weight: Weight, kind: Kind, first: &Row, second: &Row) -> Row
     requires { LowRow max_number first.now.of × LowRow max_number second.now.of }
     ensures { IsRow weight kind first.now.of second.now.of result.of }
@@ -232,13 +238,13 @@ fn row_at(weight: Weight, table: &[u8], sizes: &[u16], rows: &[Row], node: usize
     if children == 0 {
         return leaf_row(weight, kind, field);
     }
-    let before = node - 1;
-    let last = &rows[before];
-    if children == 1 {
-        return row_of(weight, kind, last, last);
-    }
-    let first = &rows[before - table::size_at(sizes, before)];
-    row_of(weight, kind, first, last)
+    let last = node - 1;
+    let first = if children == 1 {
+        last
+    } else {
+        last - table::size_at(sizes, last)
+    };
+    row_of(weight, kind, &rows[first], &rows[last])
 }
 
 // The rows of the nodes before one, children before parents.
