@@ -3,7 +3,7 @@ use mathlib.Core.Path.{◌≡◌, refl, sym, ap, ◌∙◌}
 use mathlib.Core.Logic.{◌⊎◌, inl, inr, ⊎_elim}
 use mathlib.Core.Bool.{Bool, true, false}
 use mathlib.Core.List.{[], ◌∷◌, ◌++◌}
-use Prim.Native.Nat.{ℕ, zero, suc, ◌+◌, ◌*◌, ◌/◌, ◌%◌, ◌^◌, ◌≤◌, ◌<◌}
+use Prim.Native.Nat.{ℕ, zero, suc, ◌*◌, ◌/◌, ◌%◌, ◌^◌, ◌≤◌, ◌<◌}
 use native.Mathlib.Nat.{div-lt_iff_lt-mul, pow-zero, pow-suc, mul-le-mul_left, one-mul}
 use native.Mathlib.Omega.{arith}
 use borrow.Author.Tests.{lt-ltb, le-ltb, ltb-true, ltb-false}
@@ -17,12 +17,6 @@ lt_or_le a b = by (ltb a b) refl
     by : (t : Bool) → ltb a b ≡ t → (a < b) ⊎ (b ≤ a)
     by true e = inl (ltb-true a b e)
     by false e = inr (ltb-false a b e)
-
-pub digit_low : (d : ℕ) → d < 10 → 48 + d ≡ digit d
-digit_low d h = rw (lt-ltb d 10 h)
-
-pub digit-high : (d : ℕ) → 10 ≤ d → 87 + d ≡ digit d
-digit-high d h = rw (le-ltb d 10 h)
 
 module _ (base : ℕ) where
   one-digit : (f n : ℕ) → n < base → digits_up_to (suc f) base n ≡ digit n ∷ []

@@ -1,13 +1,13 @@
 -- The text at the front of the buffer, or a buffer that is too short.
 use mathlib.Core.Path.{◌≡◌, refl, sym, ◌∙◌}
 use mathlib.Core.Bool.{true, false}
-use mathlib.Core.List.{List, ◌++◌}
+use mathlib.Core.List.{List}
 use Rattle.std.specs.Prelude.{Option, Some, None, IsSome}
 use Prim.Native.Nat.{ℕ, ◌/◌, ◌≤◌, ◌<◌}
 use native.Mathlib.Omega.{arith}
 use borrow.Author.Tests.{le-leb, lt-leb}
 use lib.Dec.{leb}
-use lib.ListN.{length, drop, length-append}
+use lib.ListN.{length}
 use Rattle.esterel.specs.Limits.{max_nodes}
 use Rattle.esterel.specs.Refusal.{yields, rejects}
 use Rattle.esterel.specs.Table.{Verdict, passed, refused}
@@ -20,7 +20,7 @@ use Rattle.listing.specs.Text.{text_of}
 use Rattle.std.specs.Borrow.{MutBor}
 use Rattle.listing.specs.Writer.{Puts, Begins}
 use Rattle.listing.specs.declared.writer.Writer.{Writer}
-use Rattle.listing.specs.Rendering.{Rendering, WholeText}
+use Rattle.listing.specs.Rendering.{Rendering}
 use Rattle.listing.proofs.Listed.{room-enough, checked-verdict, refused-is, Listed, done-is}
 
 module _ (text old : List ℕ) {n : ℕ} (en : n ≡ length text) where
@@ -59,24 +59,13 @@ module _ {t k a s m k' a' s' m' : List ℕ} where
   pub listed-text : {r : Analysed} → Analysis t k a s m k' a' s' m' (yields r) → length k ≡ max_nodes → length a ≡ max_nodes → length s ≡ max_nodes → length m ≡ max_nodes → passed (program_of t) ≡ verdict t
   listed-text o ek ea es em = sym (listed o).is ∙ local_verdict t k a s m ek ea es em
 
--- where the text fits, it is there whole, and the answer says so
+-- where the text fits, the answer says so
 module _ {text old new : List ℕ} {r : Option ℕ} (o : Rendering text old new r) (fits : length text ≤ length old) where
   room-is : leb (length text) (length old) ≡ true
   room-is = le-leb (length text) (length old) fits
 
   answer-is : r ≡ Some (length text)
   answer-is = o.answer ∙ rw room-is
-
-  pub whole-text : {n : ℕ} → r ≡ Some n → WholeText text old new n
-  whole-text {n} e =
-      let same : Some n ≡ Some (length text) = sym e ∙ answer-is in
-      let end : n ≡ length text = cc in
-      let content : new ≡ text ++ drop (length text) old = o.content ∙ rw room-is in
-      record {
-        end = end;
-        within = rw (content, length-append) (omega arith);
-        content = content;
-      }
 
   pub never_short : IsSome r
   never_short = rw answer-is refl

@@ -22,7 +22,7 @@ use Rattle.listing.specs.Written.{line_at, Columns}
 use Rattle.listing.specs.Writer.{HasRoom, Puts}
 use Rattle.listing.specs.declared.writer.Writer.{Writer}
 use Rattle.listing.proofs.Fields.{line-short}
-use Rattle.listing.proofs.Writing.{Left, left-all, left-next, left-fits, left-none}
+use Rattle.listing.proofs.Writing.{Left, left-next, left-fits, left-none}
 
 pub length_lines : (p : Stmt) → length (listing p) ≡ size p
 length_lines p = length-map (places_of p) line_of ∙ length-places p 1 0 empty
@@ -97,9 +97,6 @@ pub record Totalling (p : Stmt) (total i : ℕ) : Type 0 where
   pub bound : i ≤ size p
   pub is : total + length (lines_left p i) ≡ length (lines_from 0 (listing p))
 
-pub total-none : (p : Stmt) → Totalling p 0 0
-total-none p = record { bound = omega arith; is = omega arith }
-
 module _ {p : Stmt} {total i : ℕ} (o : Totalling p total i) where
   module _ (h : i < size p) (v : ℕ) (e : v ≡ length (line_text i (line_at p i))) where
     one_more : length (lines_left p i) ≡ v + length (lines_left p (i + 1))
@@ -118,9 +115,6 @@ module _ {p : Stmt} {total i : ℕ} (o : Totalling p total i) where
 pub record Listing (p : Stmt) (first now : Writer) (i : ℕ) : Type 0 where
   pub bound : i ≤ size p
   pub left : Left first (lines_from 0 (listing p)) now (lines_left p i)
-
-pub listing_none : (p : Stmt) (w : Writer) → Listing p w w 0
-listing_none p w = record { bound = omega arith; left = left-all w (lines_from 0 (listing p)) }
 
 module _ {p : Stmt} {first now : Writer} {i : ℕ} (o : Listing p first now i) where
   module _ (h : i < size p) {line : List ℕ} (e : line ≡ line_text i (line_at p i)) where

@@ -1,5 +1,5 @@
 -- The loops over the digits of a number.
-use mathlib.Core.Path.{◌≡◌, refl, sym, ap, ◌∙◌}
+use mathlib.Core.Path.{◌≡◌, sym, ap, ◌∙◌}
 use mathlib.Core.Logic.{⊎_elim}
 use mathlib.Core.List.{List, [], ◌∷◌, ◌++◌}
 use Prim.Native.Nat.{ℕ, ◌+◌, ◌-◌, ◌/◌, ◌%◌, ◌^◌, ◌≤◌, ◌<◌}
@@ -49,16 +49,6 @@ pub record Numbering (base n : ℕ) (old : List ℕ) (at : ℕ) (now : List ℕ)
   pub here : i ≡ at + length (digits base rest)
   pub room : i ≤ length old
   pub long : length now ≡ length old
-
-pub numbering_all : (base n : ℕ) (old : List ℕ) (at i : ℕ) → n < 2 ^ 64 → i ≡ at + length (digits base n) → i ≤ length old → Numbering base n old at old i n
-numbering_all base n old at i h e l =
-    record {
-      fits = h;
-      is = refl;
-      here = e;
-      room = l;
-      long = refl;
-    }
 
 module _ {base n : ℕ} {old : List ℕ} {at : ℕ} {now : List ℕ} {i rest : ℕ} (two : 2 ≤ base) (o : Numbering base n old at now i rest) where
   pub numbering_some : at < i

@@ -47,9 +47,6 @@ pub record Writing (first : Writer) (answers : List ℕ) (now : Writer) (i : ℕ
   pub bound : i ≤ length answers
   pub left : Left first (answers_text answers) now (answers_text (drop i answers))
 
-pub writing_none : (w : Writer) (answers : List ℕ) → Writing w answers w 0
-writing_none w answers = record { bound = omega arith; left = left-all w (answers_text answers) }
-
 module _ {first : Writer} {answers : List ℕ} {now : Writer} {i : ℕ} (o : Writing first answers now i) where
   module _ (h : i < length answers) where
     abbrev a : ℕ
