@@ -1,20 +1,19 @@
 -- Whether an edition is whole, part by part.
 use mathlib.Core.Path.{◌≡◌, refl, sym, ap, ◌∙◌}
-use mathlib.Core.Bool.{true, false, not, ◌&&◌, ◌||◌}
+use mathlib.Core.Bool.{true, false, ◌&&◌, ◌||◌}
 use mathlib.Core.List.{List}
 use Prim.Native.Nat.{ℕ, ◌+◌, ◌*◌, ◌≤◌, ◌<◌}
-use native.Mathlib.Decide.{dec_lt}
 use native.Mathlib.Numerals.{add-one}
 use native.Mathlib.Omega.{arith}
-use borrow.Author.Tests.{lt-ltb, le-leb, lt-leb, eq-eqb, ne_eqb, ltb-true, not-true, not-false}
-use lib.Dec.{eqb, leb, ltb}
+use borrow.Author.Tests.{le-leb, lt-leb, eq-eqb, ne_eqb}
+use lib.Dec.{eqb, leb}
 use lib.ListN.{length}
 use Rattle.blocks.specs.Block.{content_size}
 use Rattle.blocks.specs.Editions.{counted, length_of, all_below, content_of, parts_of, completes, whole, joined, table_of}
 use Rattle.blocks.specs.declared.Place.{Place}
 use Rattle.blocks.specs.declared.Edition.TheVariants.{Whole, None}
 use Rattle.blocks.specs.Steps.{FoundPlace, edition_of}
-use Rattle.codes.proofs.Bools.{both, left, right, cannot_pass, false-not-true}
+use Rattle.codes.proofs.Bools.{both, right, cannot_pass, false-not-true}
 use Rattle.blocks.proofs.Last.{all-holds}
 use Rattle.blocks.proofs.Counted.{counted_view, place_short, content-length}
 use Rattle.blocks.proofs.Joining.{joined_length}
@@ -70,27 +69,23 @@ module _ {file : List ℕ} {p e m total k : ℕ} {l : Place} (o : Completing fil
         ∙ ap (λ u. leb m (k + 1) || eqb u content_size) (sym w.place.used)
 
     -- it is not the last and does not use all of its content
-    pub unfilled : ltb (k + 1) m && not (eqb l.length content_size) ≡ true → None ≡ edition_of file p e
-    unfilled t =
-        let more : k + 1 < m = ltb-true _ _ (left (ltb (k + 1) m) (not (eqb l.length content_size)) t) in
-        let not_full : eqb l.length content_size ≡ false = not-true _ (right (ltb (k + 1) m) t) in
-        incomplete file p e k o.named h (used ∙ (rw (lt-leb m (k + 1) more, not_full) refl))
+    pub unfilled : k + 1 < m → (l.length ≡ content_size → ⊥) → None ≡ edition_of file p e
+    unfilled more d = incomplete file p e k o.named h (used ∙ (rw (lt-leb m (k + 1) more, ne_eqb _ _ d) refl))
 
-    complete-here : ltb (k + 1) m && not (eqb l.length content_size) ≡ false → completes file p e m k ≡ true
-    complete-here t = used ∙ go (dec_lt (k + 1) m)
-      where
-        go : Dec (k + 1 < m) → leb m (k + 1) || eqb l.length content_size ≡ true
-        go (yes b) =
-            let full : eqb l.length content_size ≡ true = not-false _ (rw (lt-ltb (k + 1) m b) at t) in
-            rw (lt-leb m (k + 1) b) full
-        go (no b) = rw (le-leb m (k + 1) (omega arith)) refl
+    -- it is the last
+    pub last-part : m ≤ k + 1 → completes file p e m k ≡ true
+    last-part last = used ∙ (rw (le-leb m (k + 1) last) refl)
 
-    pub completing_next : ltb (k + 1) m && not (eqb l.length content_size) ≡ false → Completing file p e m (total + l.length) (k + 1)
+    -- it uses all of its content
+    pub full-part : k + 1 < m → l.length ≡ content_size → completes file p e m k ≡ true
+    full-part more full = used ∙ (rw (lt-leb m (k + 1) more, eq-eqb _ _ full) refl)
+
+    pub completing_next : completes file p e m k ≡ true → Completing file p e m (total + l.length) (k + 1)
     completing_next t =
         record {
           bound = omega arith;
           named = o.named;
-          complete = ap (all_below (completes file p e m)) (add-one k) ∙ both o.complete (complete-here t);
+          complete = ap (all_below (completes file p e m)) (add-one k) ∙ both o.complete t;
           is = omega (arith, o.is, joined_length (content file p e) k, content-length (counted_view file p e k), w.place.used);
           short = omega (arith, o.short, place_short w);
         }

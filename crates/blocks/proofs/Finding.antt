@@ -3,8 +3,7 @@ use mathlib.Core.Path.{◌≡◌, refl, sym, ap, ◌∙◌}
 use mathlib.Core.Bool.{Bool, true, false, ◌&&◌}
 use mathlib.Core.Option.{none, some}
 use mathlib.Core.List.{List}
-use Prim.Native.Nat.{ℕ, ◌+◌, ◌-◌, ◌≤◌}
-use native.Mathlib.Nat.{sub-zero}
+use Prim.Native.Nat.{ℕ, ◌+◌, ◌≤◌}
 use native.Mathlib.Numerals.{add-one}
 use native.Mathlib.Omega.{arith}
 use lib.ListN.{get_or}
@@ -29,9 +28,9 @@ pub record Searching (file : List ℕ) (p e k i : ℕ) : Type 0 where
   pub bound : i ≤ blocks_in file
   pub is : counted file p e k ≡ last_below (counts file p e k) i
 
-pub search_start : (file : List ℕ) (p e k : ℕ) → Searching file p e k (blocks_in file - 0)
+pub search_start : (file : List ℕ) (p e k : ℕ) → Searching file p e k (blocks_in file)
 unfolding counted
-search_start file p e k = record { bound = omega arith; is = ap (last_below (counts file p e k)) (sym (sub-zero (blocks_in file))) }
+search_start file p e k = record { bound = omega arith; is = refl }
 
 module _ {file : List ℕ} {p e k i : ℕ} (o : Searching file p e k i) (j : ℕ) (s : i ≡ j + 1) where
   here : counted file p e k ≡ last_below (counts file p e k) (j + 1)

@@ -1,9 +1,9 @@
 // Blocks of the service partition (F-4): the used content of a part, and the table of the highest whole edition.
 #![tactic(auto)]
 
-ghost use Rattle.std.specs.Prelude.{◌≡◌, true, ◌++◌, ◌+◌, ◌*◌, ◌<◌, ◌≤◌, length, drop};
+ghost use Rattle.std.specs.Prelude.{◌≡◌, ◌↔◌, IsTrue, true, EachIndex, slice_index, ◌++◌, ◌+◌, ◌*◌, ◌<◌, ◌≤◌, length, drop};
 ghost use Rattle.std.proofs.Math.Option.{some};
-ghost use Rattle.blocks.specs.Block.{block_size, word as word_of, reduced as reduced_of, all_zero, good as good_of};
+ghost use Rattle.blocks.specs.Block.{block_size, word as word_of, good as good_of};
 ghost use Rattle.blocks.specs.Editions.{file_fits, blocks_in, block_at, is_good_for, parts_of, newest as newest_of, table_of};
 ghost use Rattle.blocks.specs.Steps.{Summed, usable, Checked, is_part, Placed, FoundPlace, edition_of, higher_than, Best, chosen};
 ghost use Rattle.blocks.specs.Fetching.{Locating, Handing, Fetching};
@@ -22,24 +22,12 @@ const MAX_BLOCKS: usize = 64;
 // The longest table.
 const MAX_TABLE: usize = 2 * esterel::MAX_NODES;
 
-fn wide(byte: u8) -> u16
-    ensures { (result ≡ byte) × (result < 256) }
-{
-    byte as u16
-}
-
 // Two bytes, lowest first.
 fn word(block: &[u8], at: usize) -> u16
     requires { at + 1 < length block.now }
     ensures { result ≡ word_of block.now at }
 {
-    wide(block[at]) + 256 * wide(block[at + 1])
-}
-
-fn reduced(sum: u32) -> u32
-    ensures { result ≡ reduced_of sum }
-{
-    sum % 255
+    u16::from_le_bytes([block[at], block[at + 1]])
 }
 
 // The two check bytes of some bytes.
@@ -56,29 +44,20 @@ fn sum_bytes(bytes: &[u8]) -> Sums
 {
     let mut first: u32 = 0;
     let mut second: u32 = 0;
-    let mut i: usize = 0;
-    while i < bytes.len() {
-        first += wide(bytes[i]) as u32;
+    for byte in bytes {
+        first += u32::from(*byte);
         second += first;
-        i += 1;
     }
     Sums {
-        first: reduced(first),
-        second: reduced(second),
+        first: first % 255,
+        second: second % 255,
     }
 }
 
 fn all_zero(bytes: &[u8]) -> bool
-    ensures { result ≡ all_zero bytes.now }
+    ensures { IsTrue result ↔ EachIndex bytes.now (λ k. slice_index bytes.now k ≡ 0) }
 {
-    let mut i: usize = 0;
-    while i < bytes.len() {
-        if bytes[i] != 0 {
-            return false;
-        }
-        i += 1;
-    }
-    true
+    bytes.iter().all(|byte| *byte == 0)
 }
 
 // Whether a block is good: its check bytes, its used length and its filler.
@@ -87,13 +66,13 @@ fn is_good(block: &[u8]) -> bool
     ensures { result ≡ good_of block.now }
 {
     let sums = sum_bytes(&block[0..CHECKS_AT]);
-    if wide(block[CHECKS_AT]) as u32 != sums.first {
+    if u32::from(block[CHECKS_AT]) != sums.first {
         return false;
     }
-    if wide(block[CHECKS_AT + 1]) as u32 != sums.second {
+    if u32::from(block[CHECKS_AT + 1]) != sums.second {
         return false;
     }
-    let used = word(block, 6) as usize;
+    let used = usize::from(word(block, 6));
     if used < 1 {
         return false;
     }
@@ -154,11 +133,8 @@ fn check_blocks(file: &[u8], program: u16) -> [bool; MAX_BLOCKS]
     ensures { Checked file.now program result }
 {
     let mut good = [false; MAX_BLOCKS];
-    let n = file.len() / BLOCK;
-    let mut i: usize = 0;
-    while i < n {
+    for i in 0..file.len() / BLOCK {
         good[i] = is_usable(block_at(file, i), program);
-        i += 1;
     }
     good
 }
@@ -179,7 +155,7 @@ fn place_at(file: &[u8], i: usize) -> Place
     let block = block_at(file, i);
     Place {
         from: BLOCK * i + CONTENT_AT,
-        length: word(block, 6) as usize,
+        length: usize::from(word(block, 6)),
         parts: block[5],
     }
 }
@@ -190,14 +166,9 @@ fn find(file: &[u8], good: &[bool; MAX_BLOCKS], program: u16, edition: u16, numb
     ensures { FoundPlace file.now program edition number result }
 {
     let n = file.len() / BLOCK;
-    let mut seen: usize = 0;
-    while seen < n {
-        seen += 1;
-        let i = n - seen;
-        if good[i] {
-            if is_part(block_at(file, i), edition, number) {
-                return place_at(file, i);
-            }
+    for i in (0..n).rev() {
+        if good[i] && is_part(block_at(file, i), edition, number) {
+            return place_at(file, i);
         }
     }
     Place {
@@ -233,14 +204,12 @@ fn check_edition(
         return Edition::None;
     }
     let mut length: usize = 0;
-    let mut k: u8 = 0;
-    while k < parts {
+    for k in 0..parts {
         let place = find(file, good, program, edition, k);
         if place.parts != parts {
             return Edition::None;
         }
-        k += 1;
-        if (k < parts) & (place.length != CONTENT) {
+        if k + 1 < parts && place.length != CONTENT {
             return Edition::None;
         }
         length += place.length;
@@ -301,12 +270,9 @@ fn newest(file: &[u8], good: &[bool; MAX_BLOCKS], program: u16) -> Edition
     requires { Checked file.now program good.now }
     ensures { result ≡ chosen file.now program (newest_of file.now program) }
 {
-    let n = file.len() / BLOCK;
     let mut best = Edition::None;
-    let mut i: usize = 0;
-    while i < n {
+    for i in 0..file.len() / BLOCK {
         best = consider(file, good, program, i, best);
-        i += 1;
     }
     best
 }
@@ -333,13 +299,11 @@ fn join(
     ensures { table.new ≡ table_of file.now program edition ++ drop (length (table_of file.now program edition)) table.old }
 {
     let mut at: usize = 0;
-    let mut k: u8 = 0;
-    while k < parts {
+    for k in 0..parts {
         let place = find(file, good, program, edition, k);
         let from = place.from;
         let end = from + place.length;
         at += copy(&file[from..end], &mut table[at..]);
-        k += 1;
     }
 }
 
@@ -359,10 +323,7 @@ pub fn locate(file: &[u8], program: u16, edition: u16, number: u8) -> Span
         return Span { from: 0, length: 0 };
     }
     let n = file.len() / BLOCK;
-    let mut seen: usize = 0;
-    while seen < n {
-        seen += 1;
-        let last = n - seen;
+    for last in (0..n).rev() {
         if is_good_for(block_at(file, last), program, edition, number) {
             let place = place_at(file, last);
             return Span {
