@@ -2,6 +2,7 @@
 use mathlib.Core.Path.{◌≡◌, refl, sym, ap, ◌∙◌}
 use mathlib.Core.Bool.{true, false, ◌&&◌, ◌||◌}
 use mathlib.Core.List.{List}
+use mathlib.Core.Option.{none}
 use Prim.Native.Nat.{ℕ, ◌+◌, ◌*◌, ◌≤◌, ◌<◌}
 use native.Mathlib.Numerals.{add-one}
 use native.Mathlib.Omega.{arith}
@@ -9,10 +10,11 @@ use borrow.Author.Tests.{le-leb, lt-leb, eq-eqb, ne_eqb}
 use lib.Dec.{eqb, leb}
 use lib.ListN.{length}
 use Rattle.blocks.specs.Block.{content_size}
-use Rattle.blocks.specs.Editions.{counted, length_of, all_below, content_of, parts_of, completes, whole, joined, table_of}
+use Rattle.blocks.specs.Editions.{counted, length_of, named_by, all_below, content_of, parts_of, completes, whole, joined, table_of}
 use Rattle.blocks.specs.declared.Place.{Place}
-use Rattle.blocks.specs.declared.Edition.TheVariants.{Whole, None}
-use Rattle.blocks.specs.Steps.{FoundPlace, edition_of}
+use Rattle.blocks.specs.declared.Edition.{Edition}
+use Rattle.blocks.specs.Steps.{CountedPlace, edition_of}
+use Rattle.std.specs.Prelude.{Some, None}
 use Rattle.codes.proofs.Bools.{both, right, cannot_pass, false-not-true}
 use Rattle.blocks.proofs.Last.{all-holds}
 use Rattle.blocks.proofs.Counted.{counted_view, place_short, content-length}
@@ -22,12 +24,15 @@ use Rattle.blocks.proofs.Joining.{joined_length}
 abbrev pub content : (file : List ℕ) (p e k : ℕ) → List ℕ
 content file p e k = content_of file (counted file p e k)
 
+abbrev edition : (number parts long : ℕ) → Edition
+edition e m n = record { edition = e; parts = m; length = n }
+
 module _ (file : List ℕ) (p e : ℕ) where
   pub not-whole : whole file p e ≡ false → None ≡ edition_of file p e
   unfolding edition_of
   not-whole w = rw w refl
 
-  pub is_whole : whole file p e ≡ true → Whole e (parts_of file p e) (length (table_of file p e)) ≡ edition_of file p e
+  pub is_whole : whole file p e ≡ true → Some (edition e (parts_of file p e) (length (table_of file p e))) ≡ edition_of file p e
   unfolding edition_of
   is_whole w = rw w refl
 
@@ -53,7 +58,15 @@ pub record Completing (file : List ℕ) (p e m total k : ℕ) : Type 0 where
 pub completing_start : (file : List ℕ) (p e : ℕ) {m : ℕ} → m ≡ parts_of file p e → Completing file p e m 0 0
 completing_start file p e n = record { bound = omega arith; named = n; complete = refl; is = refl; short = omega arith }
 
-module _ {file : List ℕ} {p e m total k : ℕ} {l : Place} (o : Completing file p e m total k) (h : k < m) (w : FoundPlace file p e k l) where
+-- a part without a block
+pub missing-part : {file : List ℕ} {p e m total k : ℕ} → Completing file p e m total k → k < m → counted file p e k ≡ none → None ≡ edition_of file p e
+unfolding completes
+missing-part {file} {p} {e} {m} {total} {k} o h c =
+    let z : named_by file (counted file p e k) ≡ 0 = ap (named_by file) c in
+    incomplete file p e k o.named h
+    (ap (λ b. b && (leb m (k + 1) || eqb (length_of file (counted file p e k)) content_size)) (ne_eqb _ _ (λ q. omega (arith, z, q))))
+
+module _ {file : List ℕ} {p e m total k : ℕ} {l : Place} (o : Completing file p e m total k) (h : k < m) (w : CountedPlace file p e k l) where
   -- the part names another number
   pub unnamed : (l.parts ≡ m → ⊥) → None ≡ edition_of file p e
   unfolding completes
@@ -91,15 +104,15 @@ module _ {file : List ℕ} {p e m total k : ℕ} {l : Place} (o : Completing fil
         }
 
 module _ {file : List ℕ} {p e m total k : ℕ} (o : Completing file p e m total k) where
-  pub completing_end : 1 ≤ m → m ≤ k → Whole e m total ≡ edition_of file p e
+  pub completing_end : 1 ≤ m → m ≤ k → Some (edition e m total) ≡ edition_of file p e
   unfolding whole table_of
   completing_end l h =
       let all : k ≡ parts_of file p e = omega (arith, o.bound, o.named) in
       let complete : all_below (completes file p e (parts_of file p e)) (parts_of file p e) ≡ true =
       ap (λ n. all_below (completes file p e n) (parts_of file p e)) (sym o.named) ∙ ap (all_below (completes file p e m)) (sym all) ∙ o.complete in
       let some : leb 1 (parts_of file p e) ≡ true = le-leb 1 (parts_of file p e) (omega (arith, o.named)) in
-      ap (λ n. Whole e n total) o.named
-      ∙ ap (Whole e (parts_of file p e)) (o.is ∙ ap (λ n. length (joined (content file p e) n)) all)
+      ap (λ n. Some (edition e n total)) o.named
+      ∙ ap (λ n. Some (edition e (parts_of file p e) n)) (o.is ∙ ap (λ n. length (joined (content file p e) n)) all)
       ∙ is_whole file p e (both some complete)
 
 -- the parts of an edition, joined, are its table

@@ -6,7 +6,9 @@ ghost use Rattle.std.proofs.Math.Option.{some};
 ghost use Rattle.blocks.specs.Block.{block_size, word as word_of, good as good_of};
 ghost use Rattle.blocks.specs.Editions.{file_fits, blocks_in, block_at, is_good_for, parts_of, newest as newest_of, table_of};
 ghost use Rattle.blocks.specs.Steps.{Summed, usable, Checked, is_part, Placed, FoundPlace, edition_of, higher_than, Best, chosen};
-ghost use Rattle.blocks.specs.Fetching.{Locating, Handing, Fetching};
+ghost use Rattle.blocks.specs.Fetching.{Locating, Handing, refused_at, Fetching};
+
+use esterel::{Check, Refusal};
 
 const BLOCK: usize = 512;
 
@@ -139,7 +141,7 @@ fn check_blocks(file: &[u8], program: u16) -> [bool; MAX_BLOCKS]
     good
 }
 
-// The used content of a part in the file, and the number of parts that its block names; zeros where no block counts.
+// The used content of a block in the file, and the number of parts that it names.
 #[derive(Drop)]
 struct Place {
     from: usize,
@@ -161,32 +163,31 @@ fn place_at(file: &[u8], i: usize) -> Place
 }
 
 // Of the good blocks for a program, an edition and a part the last counts.
-fn find(file: &[u8], good: &[bool; MAX_BLOCKS], program: u16, edition: u16, number: u8) -> Place
+fn find(
+    file: &[u8],
+    good: &[bool; MAX_BLOCKS],
+    program: u16,
+    edition: u16,
+    number: u8,
+) -> Option<Place>
     requires { Checked file.now program good.now }
     ensures { FoundPlace file.now program edition number result }
 {
     let n = file.len() / BLOCK;
     for i in (0..n).rev() {
         if good[i] && is_part(block_at(file, i), edition, number) {
-            return place_at(file, i);
+            return Some(place_at(file, i));
         }
     }
-    Place {
-        from: 0,
-        length: 0,
-        parts: 0,
-    }
+    None
 }
 
-// A whole edition, with its number of parts and the length of its table; or that there is none.
+// A whole edition, with its number of parts and the length of its table.
 #[derive(Clone, Copy)]
-enum Edition {
-    Whole {
-        edition: u16,
-        parts: u8,
-        length: usize,
-    },
-    None,
+struct Edition {
+    edition: u16,
+    parts: u8,
+    length: usize,
 }
 
 // Whether an edition is whole whose part 0 names so many parts.
@@ -196,42 +197,38 @@ fn check_edition(
     program: u16,
     edition: u16,
     parts: u8,
-) -> Edition
+) -> Option<Edition>
     requires { Checked file.now program good.now × (parts ≡ parts_of file.now program edition) }
     ensures { result ≡ edition_of file.now program edition }
 {
     if parts == 0 {
-        return Edition::None;
+        return None;
     }
     let mut length: usize = 0;
     for k in 0..parts {
-        let place = find(file, good, program, edition, k);
+        let place = find(file, good, program, edition, k)?;
         if place.parts != parts {
-            return Edition::None;
+            return None;
         }
         if k + 1 < parts && place.length != CONTENT {
-            return Edition::None;
+            return None;
         }
         length += place.length;
     }
-    Edition::Whole {
+    Some(Edition {
         edition,
         parts,
         length,
-    }
+    })
 }
 
 // Whether an edition is higher than the best so far.
-fn is_higher(edition: u16, best: Edition) -> bool
+fn is_higher(edition: u16, best: Option<Edition>) -> bool
     ensures { result ≡ higher_than edition best }
 {
     match best {
-        Edition::Whole {
-            edition: highest,
-            parts: _,
-            length: _,
-        } => highest < edition,
-        Edition::None => true,
+        Some(best) => best.edition < edition,
+        None => true,
     }
 }
 
@@ -242,8 +239,8 @@ fn consider(
     good: &[bool; MAX_BLOCKS],
     program: u16,
     i: usize,
-    best: Edition,
-) -> Edition
+    best: Option<Edition>,
+) -> Option<Edition>
     requires { Checked file.now program good.now × (i < blocks_in file.now) × Best file.now program i best }
     ensures { Best file.now program (i + 1) result }
 {
@@ -254,23 +251,21 @@ fn consider(
     if !is_higher(edition, best) {
         return best;
     }
-    let first = find(file, good, program, edition, 0);
+    let Some(first) = find(file, good, program, edition, 0) else {
+        return best;
+    };
     if first.from != BLOCK * i + CONTENT_AT {
         return best;
     }
-    let next = check_edition(file, good, program, edition, first.parts);
-    let Edition::None = next else {
-        return next;
-    };
-    best
+    check_edition(file, good, program, edition, first.parts).or(best)
 }
 
 // The highest whole edition of a program.
-fn newest(file: &[u8], good: &[bool; MAX_BLOCKS], program: u16) -> Edition
+fn newest(file: &[u8], good: &[bool; MAX_BLOCKS], program: u16) -> Option<Edition>
     requires { Checked file.now program good.now }
     ensures { result ≡ chosen file.now program (newest_of file.now program) }
 {
-    let mut best = Edition::None;
+    let mut best = None;
     for i in 0..file.len() / BLOCK {
         best = consider(file, good, program, i, best);
     }
@@ -300,7 +295,9 @@ fn join(
 {
     let mut at: usize = 0;
     for k in 0..parts {
-        let place = find(file, good, program, edition, k);
+        let Some(place) = find(file, good, program, edition, k) else {
+            continue;
+        };
         let from = place.from;
         let end = from + place.length;
         at += copy(&file[from..end], &mut table[at..]);
@@ -345,53 +342,42 @@ pub fn part(file: &[u8], program: u16, edition: u16, number: u8) -> &[u8]
     &file[from..end]
 }
 
-// What a fetch answers.
+// The table that was fetched: its length, its edition and the number of its parts.
 #[derive(Clone, Copy)]
-pub enum Fetched {
-    Done {
-        length: usize,
-        edition: u16,
-        parts: u8,
-    },
-    Refused {
-        number: u8,
-        node: usize,
-    },
+pub struct Fetched {
+    pub length: usize,
+    pub edition: u16,
+    pub parts: u8,
 }
 
 // The table of the highest whole edition of a program, to the lent table.
-pub fn fetch(file: &[u8], program: u16, table: &mut [u8]) -> Fetched
+pub fn fetch(file: &[u8], program: u16, table: &mut [u8]) -> Result<Fetched, Refusal>
     ensures { Fetching file.now program table.old table.new result }
 {
     if table.len() < MAX_TABLE {
-        return Fetched::Refused { number: 3, node: 0 };
+        return refuse(Check::NoRoom);
     }
     if !fits(file) {
-        return Fetched::Refused {
-            number: 17,
-            node: 0,
-        };
+        return refuse(Check::NotBlocks);
     }
     let good = check_blocks(file, program);
-    let best = newest(file, &good, program);
-    let Edition::Whole {
-        edition,
-        parts,
-        length,
-    } = best
-    else {
-        return Fetched::Refused {
-            number: 18,
-            node: 0,
-        };
+    let Some(best) = newest(file, &good, program) else {
+        return refuse(Check::NoEdition);
     };
-    if MAX_TABLE < length {
-        return Fetched::Refused { number: 1, node: 0 };
+    if MAX_TABLE < best.length {
+        return refuse(Check::TooManyNodes);
     }
-    join(file, &good, program, edition, parts, table);
-    Fetched::Done {
-        length,
-        edition,
-        parts,
-    }
+    join(file, &good, program, best.edition, best.parts, table);
+    Ok(Fetched {
+        length: best.length,
+        edition: best.edition,
+        parts: best.parts,
+    })
+}
+
+// No check of a fetch names a node.
+fn refuse(check: Check) -> Result<Fetched, Refusal>
+    ensures { result ≡ Err (refused_at check 0) }
+{
+    Err(Refusal { check, node: 0 })
 }

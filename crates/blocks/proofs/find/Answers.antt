@@ -1,8 +1,8 @@
-use Rattle.std.proofs.Common.{refl, ap, ◌∙◌, arith}
+use Rattle.std.proofs.Common.{ap, ◌∙◌, arith}
 use Rattle.blocks.specs.Editions.{blocks_in}
 use Rattle.blocks.specs.Steps.{is_part}
 use Rattle.blocks.proofs.Blocks.{few_blocks}
-use Rattle.blocks.proofs.Finding.{search_start, search_bad, search_other, search_found, search_ended}
+use Rattle.blocks.proofs.Finding.{search_start, search_bad, search_other, search_found, search_none}
 use Rattle.blocks.proofs.find.Goals as goal
 use Rattle.blocks.proofs.find.Goals.{else-good-i-via-then-good-i+else-is_part, else-good-i-via-else-good-i}
 
@@ -28,4 +28,4 @@ loop-i-preserved c =
 
 pub returns : goal.returns
 unfolding blocks_in
-returns c = search_ended c.loop-i.invariant (omega arith) refl refl refl
+returns c = search_none c.loop-i.invariant (omega arith)
