@@ -19,9 +19,6 @@ use Rattle.esterel.proofs.Ranges.{Over, over-join, over_last}
 use Rattle.esterel.proofs.Sizes.{length-nodes}
 use Rattle.packing.specs.Packing.{unpack, is_clear_from}
 use Rattle.packing.proofs.Bits.{length-unpack}
-use Rattle.table.specs.Check.{pass_if}
-use Rattle.table.specs.declared.Check.{Check}
-use Rattle.table.specs.declared.Check.TheVariants.{Refused}
 use Rattle.instant.specs.Admission.{Admitting, count_held, Counted, byte_fits, children_apart, node_fits}
 
 -- counts and holds
@@ -168,18 +165,18 @@ module _ (p : Stmt) (state held : List ℕ) {held' counts' : List ℕ} {n : ℕ}
     clear-is : is_clear_from (size p) state ≡ b
     clear-is = ap (λ i. is_clear_from i state) (sym en) ∙ sym e
 
-    pub admitting_strays : b ≡ false → Admitting p state held held' counts' (Refused 12 0)
+    pub admitting_strays : b ≡ false → Admitting p state held held' counts' b
     admitting_strays z =
         record {
-          answer = ap (pass_if 12) (sym (ap (λ x. x && admitted p (unpack (size p) state)) (clear-is ∙ z)));
+          answer = z ∙ sym (ap (λ x. x && admitted p (unpack (size p) state)) (clear-is ∙ z));
           unpacked = unpacked-is;
           counted = subst (Counted held' counts') en c;
         }
 
-    pub admitting_by : b ≡ true → {r : Check} → r ≡ pass_if 12 (admitted p (take (size p) held')) → Admitting p state held held' counts' r
+    pub admitting_by : b ≡ true → {r : Bool} → r ≡ admitted p (take (size p) held') → Admitting p state held held' counts' r
     admitting_by z a =
         record {
-          answer = a ∙ ap (pass_if 12) (ap (admitted p) (front-unpacked state held (size p) unpacked-is) ∙ sym (ap (λ x. x && admitted p (unpack (size p) state)) (clear-is ∙ z)));
+          answer = a ∙ ap (admitted p) (front-unpacked state held (size p) unpacked-is) ∙ sym (ap (λ x. x && admitted p (unpack (size p) state)) (clear-is ∙ z));
           unpacked = unpacked-is;
           counted = subst (Counted held' counts') en c;
         }

@@ -7,12 +7,12 @@ use borrow.Author.Tests.{leb-true}
 use lib.Dec.{leb}
 use Rattle.codes.proofs.Bools.{left, right}
 use Rattle.esterel.specs.Limits.{signals}
-use Rattle.table.specs.declared.Check.{Check}
+use Rattle.esterel.specs.Refusal.{Reply}
 use Rattle.analysis.specs.Analysis.{SizesChecked}
 use Rattle.packing.specs.Packing.{state_bytes}
 use Rattle.instant.specs.Calls.{room_for, CallChecked}
 
-pub call_checked : {t : List ℕ} (state emissions : ℕ) {sizes : List ℕ} {room : Bool} {r : Check} → room ≡ room_for state emissions → SizesChecked room t sizes r → CallChecked t state emissions sizes r
+pub call_checked : {t : List ℕ} (state emissions : ℕ) {sizes : List ℕ} {room : Bool} {r : Reply (Unit {0})} → room ≡ room_for state emissions → SizesChecked room t sizes r → CallChecked t state emissions sizes r
 call_checked {t} state emissions {sizes} {r = r} e c =
     let o : SizesChecked (room_for state emissions) t sizes r = subst (λ b. SizesChecked b t sizes r) e c in
     record {

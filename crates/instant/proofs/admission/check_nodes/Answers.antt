@@ -1,10 +1,9 @@
 -- All nodes before `i` fit: proofs/Admits.antt.
-use Rattle.std.proofs.Common.{sym, ap, ◌∙◌, arith}
-use Rattle.table.specs.Check.{pass_if}
+use Rattle.std.proofs.Common.{sym, ◌∙◌, arith}
 use Rattle.table.specs.Program.{program_of}
 use Rattle.table.proofs.Bytes.{table-length}
 use Rattle.instant.proofs.Admits.{fits_next, not-admitted, nothing-held, is-admitted}
-use Rattle.instant.proofs.admission.check_state.Goals as goal
+use Rattle.instant.proofs.admission.check_nodes.Goals as goal
 
 pub bounds-counts-n : goal.bounds-counts-n
 bounds-counts-n c = let nodes = table-length c.args.table.now c.requires.0.readable in omega (arith, c.requires.2.long)
@@ -12,8 +11,7 @@ bounds-counts-n c = let nodes = table-length c.args.table.now c.requires.0.reada
 pub returns-then-counts-n-eq0 : goal.returns-then-counts-n-eq0
 returns-then-counts-n-eq0 c =
     let nodes = table-length c.args.table.now c.requires.0.readable in
-    ap (pass_if 12)
-    (nothing-held (program_of c.args.table.now) c.args.held.now c.requires.1 c.requires.2 (omega arith) c.if-counts-n-eq0.true)
+    nothing-held (program_of c.args.table.now) c.args.held.now c.requires.1 c.requires.2 (omega arith) c.if-counts-n-eq0.true
 
 pub node_fits-requires : goal.node_fits-requires
 node_fits-requires c =
@@ -23,8 +21,7 @@ node_fits-requires c =
 pub returns-then-not-node_fits : goal.returns-then-not-node_fits
 returns-then-not-node_fits c =
     let nodes = table-length c.args.table.now c.requires.0.readable in
-    ap (pass_if 12)
-    (not-admitted (program_of c.args.table.now) c.args.held.now c.requires.1 c.loop-i.i (omega arith) (sym c.node_fits.ensures ∙ c.if-not-node_fits.true))
+    not-admitted (program_of c.args.table.now) c.args.held.now c.requires.1 c.loop-i.i (omega arith) (sym c.node_fits.ensures ∙ c.if-not-node_fits.true)
 
 pub loop-i-preserved : goal.loop-i-preserved
 loop-i-preserved c =
@@ -34,5 +31,4 @@ loop-i-preserved c =
 pub returns : goal.returns
 returns c =
     let nodes = table-length c.args.table.now c.requires.0.readable in
-    ap (pass_if 12)
-    (is-admitted (program_of c.args.table.now) c.args.held.now c.requires.1 c.requires.2 (omega arith) c.if-counts-n-eq0.false c.loop-i.invariant (omega arith))
+    is-admitted (program_of c.args.table.now) c.args.held.now c.requires.1 c.requires.2 (omega arith) c.if-counts-n-eq0.false c.loop-i.invariant (omega arith)
