@@ -1,5 +1,6 @@
-pub mod Steps
 pub mod Climbing
-pub mod Reaching
 pub mod Faults
 pub mod Names
+pub mod Reaching
+pub mod Searches
+pub mod Steps

@@ -3,7 +3,8 @@
 // not recurse: a text that is outside the grammar may be nested deeper than the readers (crates/reader) go.
 #![tactic(auto)]
 
-ghost use Rattle.std.specs.Prelude.{◌≡◌, List, [], ◌∷◌, ℕ, ◌<◌, ◌≤◌, false, not, cond, ltb, length};
+ghost use Rattle.std.specs.Prelude.{◌≡◌, List, [], ◌∷◌, ℕ, ◌<◌, ◌≤◌, false, not, cond, ltb, length, Some, IfSome};
+ghost use Rattle.esterel.specs.Refusal.{number_of};
 ghost use Rattle.grammar.specs.Limits.{max_source, max_levels};
 ghost use Rattle.grammar.specs.Tokens as G;
 ghost use Rattle.grammar.specs.Tokens.{tokens, byte_of};
@@ -13,14 +14,16 @@ ghost use Rattle.grammar.specs.Machine as M;
 ghost use Rattle.scan.specs.declared.Token.TheVariants as SV;
 ghost use Rattle.scan.specs.Scanning.{opening_is, mark_is, token_is};
 ghost use Rattle.grammar.specs.Names.{has, see};
-ghost use Rattle.grammar.specs.Faults.{number_of_fault, opens_signal, marks_signal, crowded_from};
+ghost use Rattle.grammar.specs.Faults.{number_of_fault, opens_signal, crowded_from};
 ghost use Rattle.grammar.specs.Search.{wants, opened, closed, Closable, Room as Fits};
 ghost use Rattle.esterel.specs.Limits.{signals as max_signals};
-ghost use Rattle.sheet.specs.Sheet.{part, Part, Filled};
-ghost use Rattle.fault.specs.Walking.{Stacked, top_byte, Pushed, Stepped, Steps, StepsOn, FaultTold, ExitTold, met, Levels, want_is, PassedAs, before_signal, CrowdedAs};
-ghost use Rattle.fault.specs.declared.Mode.TheVariants as MV;
+ghost use Rattle.sheet.specs.Sheet.{name_at, InText, Filled};
+ghost use Rattle.fault.specs.Walking.{Stacked, StackedBelow, frame_of, top_of, Kept, Stepped, Steps, StepsOn, FaultTold, ExitTold, met, Levels, want_is, PassedAs, before_signal, CrowdedAs};
+ghost use Rattle.fault.specs.declared.Stack as D;
 
-use scan::{Mark, Opening, Token};
+use esterel::Check;
+use scan::{Mark, Opening, Part, Scanned, Token, Tokens};
+use sheet::Sheet;
 
 // What a name that comes next belongs to, and so what comes after it: a statement that is whole with it, a body, a present, an
 // abort.
@@ -33,7 +36,7 @@ pub enum Named {
 }
 
 // What may come next: a statement; more after a sequence; a name; `in`; `then` or `else`; the `end` of an abort; the `abort`
-// after `weak`; or nothing at all.
+// after `weak`.
 #[derive(Clone, Copy)]
 pub enum Mode {
     Statement,
@@ -43,451 +46,393 @@ pub enum Mode {
     Branch,
     End,
     Abort,
-    Stuck,
 }
 
-// What may come next, and how many statements are open.
+// What is open: a bracket in its first branch or in a later one, a body, a then branch, an else branch, a suspend, an abort.
 #[derive(Clone, Copy)]
-pub struct Walk {
-    pub mode: Mode,
-    pub height: usize,
+enum Frame {
+    First,
+    Branch,
+    Body,
+    Then,
+    Else,
+    Suspended,
+    Aborted,
 }
 
-// What is open, a byte for each: a bracket in its first branch or in a later one, a body, a then branch, an else branch, a
-// suspend, an abort; or nothing. `at_bars` and `at_end` compare: brackets come first, then what `end` closes.
-const FIRST: u8 = 0;
+// The open statements, from the outermost on. There is room for as many as a text may have bytes: memory is fixed.
+#[derive(Drop)]
+struct Stack {
+    frames: [Frame; grammar::MAX_SOURCE],
+    height: usize,
+}
 
-const BRANCH: u8 = 1;
-
-const BODY: u8 = 2;
-
-const THEN: u8 = 3;
-
-const ELSE: u8 = 4;
-
-const SUSPENDED: u8 = 5;
-
-const ABORTED: u8 = 6;
-
-const NONE: u8 = 7;
-
-// Whose name comes next: that of a trap, of an exit, or another.
+// Whose name comes next, if it is a trap's or an exit's.
 #[derive(Clone, Copy)]
 pub enum Wanted {
-    NoName,
     TrapName,
     ExitName,
 }
 
-// What became of a token: it is passed, and then this name comes next; or it is the name of an exit without its trap.
+// An exit's name is without its trap.
 #[derive(Clone, Copy)]
-pub enum Passed {
-    On(Wanted),
-    Lost,
-}
+struct Lost;
 
-// The number of a fault, 14 or 20, and its place.
+// The check of a fault, 14 or 20, and its place.
 #[derive(Clone, Copy)]
 pub struct Fault {
-    pub number: u8,
+    pub check: Check,
     pub place: usize,
 }
 
-// There is no way on.
-fn stuck() -> Walk
-    ensures { result.mode ≡ MV.Stuck }
-{
-    Walk {
-        mode: Mode::Stuck,
-        height: 0,
+impl Stack {
+    // A statement is opened, and one is expected in it.
+    fn push(&mut self, frame: Frame) -> Mode
+        requires { self.old.height < max_source }
+        ensures { (f : M.Frame) (b : M.Before) (k : M.Open) → frame ≡ frame_of f → Stacked self.old k → Kept self.new result (M.expect M.alone (M.within f b k)) }
+    {
+        self.frames[self.height] = frame;
+        self.height += 1;
+        Mode::Statement
     }
-}
 
-// There is a way on: what may come next, and how many statements are open then.
-fn goes(mode: Mode, height: usize) -> Walk
-    ensures { (result.mode ≡ mode) × (result.height ≡ height) }
-{
-    Walk { mode, height }
-}
-
-// A statement is opened, and one is expected in it.
-fn push(stack: &mut [u8; grammar::MAX_SOURCE], height: usize, frame: u8) -> Walk
-    requires { height < max_source }
-    ensures { Pushed stack.old height frame stack.new result }
-{
-    stack[height] = frame;
-    Walk {
-        mode: Mode::Statement,
-        height: height + 1,
+    // The innermost open statement is closed.
+    fn pop(&mut self) -> Option<Frame>
+        requires { self.old.height ≤ max_source }
+        ensures room { IfSome result (λ f. self.new.height < max_source) }
+        ensures top { (k : M.Open) → Stacked self.old k → (result ≡ top_of k) × StackedBelow self.new k }
+    {
+        if self.height == 0 {
+            return None;
+        }
+        self.height -= 1;
+        Some(self.frames[self.height])
     }
-}
-
-// The innermost open statement.
-fn top(stack: &[u8; grammar::MAX_SOURCE], height: usize) -> u8
-    requires { height ≤ max_source }
-    ensures { (height ≡ 0 → result ≡ 7) × ((k : M.Open) → Stacked stack.now k → height ≡ M.height k → result ≡ top_byte k) }
-{
-    if height == 0 {
-        return NONE;
-    }
-    stack[height - 1]
 }
 
 // At a word or sign that opens a statement, where one is expected.
-fn begin(stack: &mut [u8; grammar::MAX_SOURCE], height: usize, opening: Opening) -> Walk
-    requires { height < max_source }
-    ensures { (b : M.Before) (k : M.Open) → Stacked stack.old k → height ≡ M.height k → Stepped (M.to (M.begin (opening_is opening) b k)) stack.new result }
+fn begin(stack: &mut Stack, opening: Opening) -> Mode
+    requires { stack.old.height < max_source }
+    ensures { (b : M.Before) (k : M.Open) → Stacked stack.old k → Stepped (M.to (M.begin (opening_is opening) b k)) stack.new (Some result) }
 {
     match opening {
-        Opening::Nothing => goes(Mode::More, height),
-        Opening::Pause => goes(Mode::More, height),
-        Opening::Emit => goes(Mode::Name(Named::Leaf), height),
-        Opening::Exit => goes(Mode::Name(Named::Leaf), height),
-        Opening::Signal => goes(Mode::Name(Named::Body), height),
-        Opening::Trap => goes(Mode::Name(Named::Body), height),
-        Opening::Loop => push(stack, height, BODY),
-        Opening::Present => goes(Mode::Name(Named::Present), height),
-        Opening::Suspend => push(stack, height, SUSPENDED),
-        Opening::Bracket => push(stack, height, FIRST),
-        Opening::Halt => goes(Mode::More, height),
-        Opening::Sustain => goes(Mode::Name(Named::Leaf), height),
-        Opening::Await => goes(Mode::Name(Named::Leaf), height),
-        Opening::Abort => push(stack, height, ABORTED),
-        Opening::Weak => goes(Mode::Abort, height),
+        Opening::Nothing => Mode::More,
+        Opening::Pause => Mode::More,
+        Opening::Emit => Mode::Name(Named::Leaf),
+        Opening::Exit => Mode::Name(Named::Leaf),
+        Opening::Signal => Mode::Name(Named::Body),
+        Opening::Trap => Mode::Name(Named::Body),
+        Opening::Loop => stack.push(Frame::Body),
+        Opening::Present => Mode::Name(Named::Present),
+        Opening::Suspend => stack.push(Frame::Suspended),
+        Opening::Bracket => stack.push(Frame::First),
+        Opening::Halt => Mode::More,
+        Opening::Sustain => Mode::Name(Named::Leaf),
+        Opening::Await => Mode::Name(Named::Leaf),
+        Opening::Abort => stack.push(Frame::Aborted),
+        Opening::Weak => Mode::Abort,
     }
 }
 
 // After `weak`.
-fn begin_weak(stack: &mut [u8; grammar::MAX_SOURCE], height: usize, opening: Opening) -> Walk
-    requires { height < max_source }
-    ensures { (b : M.Before) (k : M.Open) → Stacked stack.old k → height ≡ M.height k → Stepped (M.at_abort (opening_is opening) b k) stack.new result }
+fn begin_weak(stack: &mut Stack, opening: Opening) -> Option<Mode>
+    requires { stack.old.height < max_source }
+    ensures { (b : M.Before) (k : M.Open) → Stacked stack.old k → Stepped (M.at_abort (opening_is opening) b k) stack.new result }
 {
     match opening {
-        Opening::Abort => push(stack, height, ABORTED),
-        _ => stuck(),
+        Opening::Abort => Some(stack.push(Frame::Aborted)),
+        _ => None,
     }
 }
 
 // At a word or sign that opens a statement.
-fn on_opening(
-    stack: &mut [u8; grammar::MAX_SOURCE],
-    mode: Mode,
-    height: usize,
-    opening: Opening,
-) -> Walk
-    requires { height < max_source }
-    ensures { Steps stack.old mode height (G.opening (opening_is opening)) stack.new result }
+fn on_opening(stack: &mut Stack, mode: Mode, opening: Opening) -> Option<Mode>
+    requires { stack.old.height < max_source }
+    ensures { Steps stack.old mode (G.opening (opening_is opening)) stack.new result }
 {
     match mode {
-        Mode::Statement => begin(stack, height, opening),
-        Mode::Abort => begin_weak(stack, height, opening),
-        _ => stuck(),
+        Mode::Statement => Some(begin(stack, opening)),
+        Mode::Abort => begin_weak(stack, opening),
+        _ => None,
     }
 }
 
 // After a sequence: at a double bar.
-fn at_bars(stack: &mut [u8; grammar::MAX_SOURCE], height: usize) -> Walk
-    requires { height ≤ max_source }
-    ensures { (p : Tree) (k : M.Open) → Stacked stack.old k → height ≡ M.height k → Stepped (M.at_bars p k) stack.new result }
+fn at_bars(stack: &mut Stack) -> Option<Mode>
+    requires { stack.old.height ≤ max_source }
+    ensures { (p : Tree) (k : M.Open) → Stacked stack.old k → Stepped (M.at_bars p k) stack.new result }
 {
-    if BRANCH < top(stack, height) {
-        return stuck();
+    match stack.pop()? {
+        Frame::First | Frame::Branch => Some(stack.push(Frame::Branch)),
+        _ => None,
     }
-    push(stack, height - 1, BRANCH)
 }
 
 // At a closing bracket.
-fn at_close(stack: &[u8; grammar::MAX_SOURCE], height: usize) -> Walk
-    requires { height ≤ max_source }
-    ensures { (p : Tree) (k : M.Open) → Stacked stack.now k → height ≡ M.height k → Stepped (M.at_close p k) stack.now result }
+fn at_close(stack: &mut Stack) -> Option<Mode>
+    requires { stack.old.height ≤ max_source }
+    ensures { (p : Tree) (k : M.Open) → Stacked stack.old k → Stepped (M.at_close p k) stack.new result }
 {
-    if top(stack, height) == BRANCH {
-        return goes(Mode::More, height - 1);
+    match stack.pop()? {
+        Frame::Branch => Some(Mode::More),
+        _ => None,
     }
-    stuck()
 }
 
 // At `else`.
-fn at_else(stack: &mut [u8; grammar::MAX_SOURCE], height: usize) -> Walk
-    requires { height ≤ max_source }
-    ensures { (p : Tree) (k : M.Open) → Stacked stack.old k → height ≡ M.height k → Stepped (M.at_else p k) stack.new result }
+fn at_else(stack: &mut Stack) -> Option<Mode>
+    requires { stack.old.height ≤ max_source }
+    ensures { (p : Tree) (k : M.Open) → Stacked stack.old k → Stepped (M.at_else p k) stack.new result }
 {
-    if top(stack, height) == THEN {
-        return push(stack, height - 1, ELSE);
+    match stack.pop()? {
+        Frame::Then => Some(stack.push(Frame::Else)),
+        _ => None,
     }
-    stuck()
 }
 
 // At `end`.
-fn at_end(stack: &[u8; grammar::MAX_SOURCE], height: usize) -> Walk
-    requires { height ≤ max_source }
-    ensures { (p : Tree) (k : M.Open) → Stacked stack.now k → height ≡ M.height k → Stepped (M.at_end p k) stack.now result }
+fn at_end(stack: &mut Stack) -> Option<Mode>
+    requires { stack.old.height ≤ max_source }
+    ensures { (p : Tree) (k : M.Open) → Stacked stack.old k → Stepped (M.at_end p k) stack.new result }
 {
-    let frame = top(stack, height);
-    if frame < BODY {
-        return stuck();
+    match stack.pop()? {
+        Frame::Body | Frame::Then | Frame::Else => Some(Mode::More),
+        _ => None,
     }
-    if ELSE < frame {
-        return stuck();
-    }
-    goes(Mode::More, height - 1)
 }
 
 // At `when`.
-fn at_when(stack: &[u8; grammar::MAX_SOURCE], height: usize) -> Walk
-    requires { height ≤ max_source }
-    ensures { (p : Tree) (k : M.Open) → Stacked stack.now k → height ≡ M.height k → Stepped (M.at_when p k) stack.now result }
+fn at_when(stack: &mut Stack) -> Option<Mode>
+    requires { stack.old.height ≤ max_source }
+    ensures { (p : Tree) (k : M.Open) → Stacked stack.old k → Stepped (M.at_when p k) stack.new result }
 {
-    let frame = top(stack, height);
-    if frame == SUSPENDED {
-        return goes(Mode::Name(Named::Leaf), height - 1);
+    match stack.pop()? {
+        Frame::Suspended => Some(Mode::Name(Named::Leaf)),
+        Frame::Aborted => Some(Mode::Name(Named::Abort)),
+        _ => None,
     }
-    if frame == ABORTED {
-        return goes(Mode::Name(Named::Abort), height - 1);
-    }
-    stuck()
 }
 
 // After a sequence.
-fn go_on(stack: &mut [u8; grammar::MAX_SOURCE], height: usize, mark: Mark) -> Walk
-    requires { height ≤ max_source }
-    ensures { (p : Tree) (k : M.Open) → Stacked stack.old k → height ≡ M.height k → Stepped (M.go_on (mark_is mark) p k) stack.new result }
+fn go_on(stack: &mut Stack, mark: Mark) -> Option<Mode>
+    requires { stack.old.height ≤ max_source }
+    ensures { (p : Tree) (k : M.Open) → Stacked stack.old k → Stepped (M.go_on (mark_is mark) p k) stack.new result }
 {
     match mark {
-        Mark::Semicolon => goes(Mode::Statement, height),
-        Mark::Bars => at_bars(stack, height),
-        Mark::Close => at_close(stack, height),
-        Mark::Else => at_else(stack, height),
-        Mark::End => at_end(stack, height),
-        Mark::When => at_when(stack, height),
-        _ => stuck(),
+        Mark::Semicolon => Some(Mode::Statement),
+        Mark::Bars => at_bars(stack),
+        Mark::Close => at_close(stack),
+        Mark::Else => at_else(stack),
+        Mark::End => at_end(stack),
+        Mark::When => at_when(stack),
+        _ => None,
     }
 }
 
 // Where `in` is wanted.
-fn enter_body(stack: &mut [u8; grammar::MAX_SOURCE], height: usize, mark: Mark) -> Walk
-    requires { height < max_source }
-    ensures { (u : Unary) (b : M.Before) (k : M.Open) → Stacked stack.old k → height ≡ M.height k → Stepped (M.at_in (mark_is mark) u b k) stack.new result }
+fn enter_body(stack: &mut Stack, mark: Mark) -> Option<Mode>
+    requires { stack.old.height < max_source }
+    ensures { (u : Unary) (b : M.Before) (k : M.Open) → Stacked stack.old k → Stepped (M.at_in (mark_is mark) u b k) stack.new result }
 {
     match mark {
-        Mark::In => push(stack, height, BODY),
-        _ => stuck(),
+        Mark::In => Some(stack.push(Frame::Body)),
+        _ => None,
     }
 }
 
 // Where `then` or `else` is wanted.
-fn enter_branch(stack: &mut [u8; grammar::MAX_SOURCE], height: usize, mark: Mark) -> Walk
-    requires { height < max_source }
-    ensures { (n : Name) (b : M.Before) (k : M.Open) → Stacked stack.old k → height ≡ M.height k → Stepped (M.at_branch (mark_is mark) n b k) stack.new result }
+fn enter_branch(stack: &mut Stack, mark: Mark) -> Option<Mode>
+    requires { stack.old.height < max_source }
+    ensures { (n : Name) (b : M.Before) (k : M.Open) → Stacked stack.old k → Stepped (M.at_branch (mark_is mark) n b k) stack.new result }
 {
     match mark {
-        Mark::Then => push(stack, height, THEN),
-        Mark::Else => push(stack, height, ELSE),
-        _ => stuck(),
+        Mark::Then => Some(stack.push(Frame::Then)),
+        Mark::Else => Some(stack.push(Frame::Else)),
+        _ => None,
     }
 }
 
 // Where the `end` of an abort is wanted.
-fn leave_abort(stack: &[u8; grammar::MAX_SOURCE], height: usize, mark: Mark) -> Walk
-    ensures { (p : Tree) (b : M.Before) (k : M.Open) → Stacked stack.now k → height ≡ M.height k → Stepped (M.at_abort_end (mark_is mark) p b k) stack.now result }
+fn leave_abort(mark: Mark) -> Option<Mode>
+    ensures { (w : D.Stack) (p : Tree) (b : M.Before) (k : M.Open) → Stacked w k → Stepped (M.at_abort_end (mark_is mark) p b k) w result }
 {
     match mark {
-        Mark::End => goes(Mode::More, height),
-        _ => stuck(),
+        Mark::End => Some(Mode::More),
+        _ => None,
     }
 }
 
 // At a word or sign within a statement or between two.
-fn on_mark(stack: &mut [u8; grammar::MAX_SOURCE], mode: Mode, height: usize, mark: Mark) -> Walk
-    requires { height < max_source }
-    ensures { Steps stack.old mode height (G.mark (mark_is mark)) stack.new result }
+fn on_mark(stack: &mut Stack, mode: Mode, mark: Mark) -> Option<Mode>
+    requires { stack.old.height < max_source }
+    ensures { Steps stack.old mode (G.mark (mark_is mark)) stack.new result }
 {
     match mode {
-        Mode::More => go_on(stack, height, mark),
-        Mode::In => enter_body(stack, height, mark),
-        Mode::Branch => enter_branch(stack, height, mark),
-        Mode::End => leave_abort(stack, height, mark),
-        _ => stuck(),
+        Mode::More => go_on(stack, mark),
+        Mode::In => enter_body(stack, mark),
+        Mode::Branch => enter_branch(stack, mark),
+        Mode::End => leave_abort(mark),
+        _ => None,
     }
 }
 
 // At a name.
-fn on_name(mode: Mode, height: usize) -> Walk
-    ensures { (w : List ℕ) (n : Name) → Steps w mode height (G.name n) w result }
+fn on_name(mode: Mode) -> Option<Mode>
+    ensures { (w : D.Stack) (n : Name) → Steps w mode (G.name n) w result }
 {
-    let Mode::Name(named) = mode else {
-        return stuck();
-    };
-    match named {
-        Named::Leaf => goes(Mode::More, height),
-        Named::Body => goes(Mode::In, height),
-        Named::Present => goes(Mode::Branch, height),
-        Named::Abort => goes(Mode::End, height),
+    match mode {
+        Mode::Name(Named::Leaf) => Some(Mode::More),
+        Mode::Name(Named::Body) => Some(Mode::In),
+        Mode::Name(Named::Present) => Some(Mode::Branch),
+        Mode::Name(Named::Abort) => Some(Mode::End),
+        _ => None,
     }
 }
 
-// At a token.
-fn step(stack: &mut [u8; grammar::MAX_SOURCE], mode: Mode, height: usize, token: Token) -> Walk
-    requires { height < max_source }
-    ensures { StepsOn stack.old mode height token stack.new result }
+// At a token: what may come after it, if the text can go on with it.
+fn step(stack: &mut Stack, mode: Mode, token: Token) -> Option<Mode>
+    requires { stack.old.height < max_source }
+    ensures { StepsOn stack.old mode token stack.new result }
 {
     match token {
-        Token::Opens(opening) => on_opening(stack, mode, height, opening),
-        Token::Marks(mark) => on_mark(stack, mode, height, mark),
-        Token::Names => on_name(mode, height),
-        _ => stuck(),
+        Token::Opens(opening) => on_opening(stack, mode, opening),
+        Token::Marks(mark) => on_mark(stack, mode, mark),
+        Token::Names => on_name(mode),
+        _ => None,
     }
 }
 
-// The number that a token is told by, where the text can't go on with it.
-fn number_of(token: Token) -> u8
-    ensures { (v : List ℕ) (t : G.Token) (us : List G.Token) → token_is token v ≡ t ∷ [] → result ≡ number_of_fault (t ∷ us) }
+// The check that a token is told by, where the text can't go on with it.
+fn check_at(token: Token) -> Check
+    ensures { (v : List ℕ) (t : G.Token) (us : List G.Token) → token_is token v ≡ t ∷ [] → number_of result ≡ number_of_fault (t ∷ us) }
 {
     match token {
-        Token::Foreign => 20,
-        _ => 14,
+        Token::Foreign => Check::FullLanguage,
+        _ => Check::NotInGrammar,
     }
 }
 
 // The first token with which the text can't go on to a text of the grammar, or where it merely stops.
 pub fn find_fault(text: &[u8]) -> Fault
     requires { length text.now ≤ max_source }
-    ensures { FaultTold text.now result.number result.place }
+    ensures { FaultTold text.now (number_of result.check) result.place }
 {
-    let mut stack = [0u8; grammar::MAX_SOURCE];
+    let mut stack = Stack {
+        frames: [Frame::First; grammar::MAX_SOURCE],
+        height: 0,
+    };
     let mut mode = Mode::Statement;
-    let mut height: usize = 0;
-    let mut at: usize = 0;
-    loop {
-        let scanned = scan::next_token(text, at);
-        let token = scanned.token;
-        let start = scanned.start;
-        let end = scanned.end;
-        if let Token::Finished = token {
+    for scanned in Tokens::new(text) {
+        let Some(next) = step(&mut stack, mode, scanned.token) else {
             return Fault {
-                number: 14,
-                place: start,
+                check: check_at(scanned.token),
+                place: scanned.part.start,
             };
-        }
-        let walk = step(&mut stack, mode, height, token);
-        let next = walk.mode;
-        if let Mode::Stuck = next {
-            return Fault {
-                number: number_of(token),
-                place: start,
-            };
-        }
+        };
         mode = next;
-        height = walk.height;
-        at = end;
+    }
+    Fault {
+        check: Check::NotInGrammar,
+        place: text.len(),
     }
 }
 
 // A statement that `end` closes counts as a trap without a name.
-fn enter_level(levels: &mut [u16; sheet::ROOM], at: usize)
+fn enter_level(levels: &mut Sheet, at: usize)
     ensures { (x : List ℕ) (ls : List Name) → at ≤ length x → length ls < max_levels → Levels x levels.old ls → Levels x levels.new (added ∷ ls) }
 {
-    sheet::enter_trap(levels, at, at);
+    levels.enter_trap(Part {
+        start: at,
+        stop: at,
+    });
 }
 
 // Whether `end` closes what a word opens, and it is no trap, whose name comes first.
 fn is_closed_by_end(opening: Opening) -> bool
     ensures { (ls : List Name) → opened (opening_is opening) ls ≡ cond result (added ∷ ls) ls }
 {
-    match opening {
-        Opening::Signal => true,
-        Opening::Loop => true,
-        Opening::Present => true,
-        Opening::Abort => true,
-        _ => false,
-    }
+    matches!(
+        opening,
+        Opening::Signal | Opening::Loop | Opening::Present | Opening::Abort
+    )
 }
 
 // Whose name comes after a word or sign.
-fn name_after(opening: Opening) -> Wanted
+fn name_after(opening: Opening) -> Option<Wanted>
     ensures { want_is result ≡ wants (opening_is opening) }
 {
     match opening {
-        Opening::Trap => Wanted::TrapName,
-        Opening::Exit => Wanted::ExitName,
-        _ => Wanted::NoName,
+        Opening::Trap => Some(Wanted::TrapName),
+        Opening::Exit => Some(Wanted::ExitName),
+        _ => None,
     }
 }
 
 // At a word or sign that opens a statement; whose name comes next.
-fn open_level(levels: &mut [u16; sheet::ROOM], opening: Opening, at: usize) -> Wanted
+fn open_level(levels: &mut Sheet, opening: Opening, at: usize) -> Option<Wanted>
     ensures { (want_is result ≡ wants (opening_is opening)) × ((x : List ℕ) (ls : List Name) → at ≤ length x → length ls < max_levels → Levels x levels.old ls → Levels x levels.new (opened (opening_is opening) ls)) }
 {
-    let wanted = name_after(opening);
     if is_closed_by_end(opening) {
         enter_level(levels, at);
-        return wanted;
     }
-    wanted
+    name_after(opening)
 }
 
 // At a word or sign within a statement or between two.
-fn close_level(levels: &mut [u16; sheet::ROOM], mark: Mark)
+fn close_level(levels: &mut Sheet, mark: Mark)
     ensures { (x : List ℕ) (ls : List Name) → Closable (mark_is mark) ls → Levels x levels.old ls → Levels x levels.new (closed (mark_is mark) ls) }
 {
-    match mark {
-        Mark::End => sheet::leave_trap(levels),
-        _ => {}
+    if mark == Mark::End {
+        levels.leave_trap();
     }
 }
 
 // Whether no level has an exit's name.
-fn is_lost(text: &[u8], levels: &mut [u16; sheet::ROOM], start: usize, stop: usize) -> bool
-    ensures { (ls : List Name) → Part text.now start stop → Levels text.now levels.old ls → (result ≡ not (has ls (part text.now start stop))) × (result ≡ false → Levels text.now levels.new ls) }
+fn is_lost(text: &[u8], levels: &mut Sheet, name: Part) -> bool
+    ensures { (ls : List Name) → InText text.now name → Levels text.now levels.old ls → (result ≡ not (has ls (name_at text.now name))) × (result ≡ false → Levels text.now levels.new ls) }
 {
-    sheet::level_of(text, levels, start, stop);
-    sheet::wide(levels[sheet::UNTRAPPED]) != 0
+    levels.level_of(text, name);
+    levels.is_untrapped
 }
 
 // At a name.
 fn pass_name(
     text: &[u8],
-    levels: &mut [u16; sheet::ROOM],
-    wanted: Wanted,
-    start: usize,
-    stop: usize,
-) -> Passed
-    ensures { (ls : List Name) → Part text.now start stop → length ls < max_levels → Levels text.now levels.old ls → PassedAs text.now (want_is wanted) (G.name (part text.now start stop)) levels.new ls result }
+    levels: &mut Sheet,
+    wanted: Option<Wanted>,
+    name: Part,
+) -> Result<Option<Wanted>, Lost>
+    ensures { (ls : List Name) → InText text.now name → length ls < max_levels → Levels text.now levels.old ls → PassedAs text.now (want_is wanted) (G.name (name_at text.now name)) levels.new ls result }
 {
     match wanted {
-        Wanted::NoName => Passed::On(Wanted::NoName),
-        Wanted::TrapName => {
-            sheet::enter_trap(levels, start, stop);
-            Passed::On(Wanted::NoName)
-        }
-        Wanted::ExitName => {
-            if is_lost(text, levels, start, stop) {
-                return Passed::Lost;
+        None => {}
+        Some(Wanted::TrapName) => levels.enter_trap(name),
+        Some(Wanted::ExitName) => {
+            if is_lost(text, levels, name) {
+                return Err(Lost);
             }
-            Passed::On(Wanted::NoName)
         }
     }
+    Ok(None)
 }
 
-// At a token.
+// At a token: whose name comes next, or it is the name of an exit without its trap.
 fn pass(
     text: &[u8],
-    levels: &mut [u16; sheet::ROOM],
-    wanted: Wanted,
-    token: Token,
-    start: usize,
-    end: usize,
-) -> Passed
-    ensures { (ls : List Name) (t : G.Token) (us : List G.Token) → token_is token (part text.now start end) ≡ t ∷ [] → end ≤ length text.now → (token ≡ SV.Names → Part text.now start end) → Fits (want_is wanted) ls (t ∷ us) → Levels text.now levels.old ls → PassedAs text.now (want_is wanted) t levels.new ls result }
+    levels: &mut Sheet,
+    wanted: Option<Wanted>,
+    scanned: Scanned,
+) -> Result<Option<Wanted>, Lost>
+    ensures { (ls : List Name) (t : G.Token) (us : List G.Token) → token_is scanned.token (name_at text.now scanned.part) ≡ t ∷ [] → scanned.part.stop ≤ length text.now → (scanned.token ≡ SV.Names → InText text.now scanned.part) → Fits (want_is wanted) ls (t ∷ us) → Levels text.now levels.old ls → PassedAs text.now (want_is wanted) t levels.new ls result }
 {
-    match token {
-        Token::Opens(opening) => Passed::On(open_level(levels, opening, end)),
+    match scanned.token {
+        Token::Opens(opening) => Ok(open_level(levels, opening, scanned.part.stop)),
         Token::Marks(mark) => {
             close_level(levels, mark);
-            Passed::On(Wanted::NoName)
+            Ok(None)
         }
-        Token::Names => pass_name(text, levels, wanted, start, end),
-        _ => Passed::On(Wanted::NoName),
+        Token::Names => pass_name(text, levels, wanted, scanned.part),
+        _ => Ok(None),
     }
 }
 
@@ -496,47 +441,25 @@ pub fn find_exit(text: &[u8]) -> usize
     requires { length text.now ≤ max_source }
     ensures { ExitTold text.now result }
 {
-    let mut levels = [0u16; sheet::ROOM];
-    let mut wanted = Wanted::NoName;
-    let mut at: usize = 0;
-    loop {
-        let scanned = scan::next_token(text, at);
-        let token = scanned.token;
-        let start = scanned.start;
-        let end = scanned.end;
-        if let Token::Finished = token {
-            return start;
-        }
-        let passed = pass(text, &mut levels, wanted, token, start, end);
-        let Passed::On(next) = passed else {
-            return start;
+    let mut levels = Sheet::new();
+    let mut wanted = None;
+    for scanned in Tokens::new(text) {
+        let Ok(next) = pass(text, &mut levels, wanted, scanned) else {
+            return scanned.part.start;
         };
         wanted = next;
-        at = end;
     }
+    text.len()
 }
 
 // Whether a signal's name comes after a word or sign.
 fn opens_signal(opening: Opening) -> bool
     ensures { result ≡ opens_signal (opening_is opening) }
 {
-    match opening {
-        Opening::Emit => true,
-        Opening::Signal => true,
-        Opening::Present => true,
-        Opening::Sustain => true,
-        Opening::Await => true,
-        _ => false,
-    }
-}
-
-fn marks_signal(mark: Mark) -> bool
-    ensures { result ≡ marks_signal (mark_is mark) }
-{
-    match mark {
-        Mark::When => true,
-        _ => false,
-    }
+    matches!(
+        opening,
+        Opening::Emit | Opening::Signal | Opening::Present | Opening::Sustain | Opening::Await
+    )
 }
 
 // Whether a signal's name comes after a token.
@@ -545,37 +468,24 @@ fn is_before_signal(token: Token) -> bool
 {
     match token {
         Token::Opens(opening) => opens_signal(opening),
-        Token::Marks(mark) => marks_signal(mark),
+        Token::Marks(mark) => mark == Mark::When,
         _ => false,
     }
 }
 
 // Whether there are too many signals with a name more.
-fn is_crowding(text: &[u8], names: &mut [u16; sheet::ROOM], start: usize, stop: usize) -> bool
-    ensures { (ns : List Name) → Part text.now start stop → Filled text.now names.old 0 [] (met ns) → (result ≡ ltb max_signals (length (see ns (part text.now start stop)))) × Filled text.now names.new 0 [] (met (see ns (part text.now start stop))) }
+fn is_crowding(text: &[u8], names: &mut Sheet, name: Part) -> bool
+    ensures { (ns : List Name) → InText text.now name → Filled text.now names.old [] (met ns) → (result ≡ ltb max_signals (length (see ns (name_at text.now name)))) × Filled text.now names.new [] (met (see ns (name_at text.now name))) }
 {
-    sheet::note(text, names, start, stop);
-    esterel::SIGNALS < sheet::wide(names[sheet::SIGNAL_COUNT])
+    names.note(text, name);
+    esterel::SIGNALS < names.signal_count
 }
 
 // Whether a token is such a name.
-fn is_crowded(
-    text: &[u8],
-    names: &mut [u16; sheet::ROOM],
-    is_signal: bool,
-    token: Token,
-    start: usize,
-    end: usize,
-) -> bool
-    ensures { (ns : List Name) (t : G.Token) → token_is token (part text.now start end) ≡ t ∷ [] → (token ≡ SV.Names → Part text.now start end) → Filled text.now names.old 0 [] (met ns) → CrowdedAs text.now ns is_signal t names.new result }
+fn is_crowded(text: &[u8], names: &mut Sheet, is_signal: bool, scanned: Scanned) -> bool
+    ensures { (ns : List Name) (t : G.Token) → token_is scanned.token (name_at text.now scanned.part) ≡ t ∷ [] → (scanned.token ≡ SV.Names → InText text.now scanned.part) → Filled text.now names.old [] (met ns) → CrowdedAs text.now ns is_signal t names.new result }
 {
-    if !is_signal {
-        return false;
-    }
-    let Token::Names = token else {
-        return false;
-    };
-    is_crowding(text, names, start, end)
+    is_signal && scanned.token == Token::Names && is_crowding(text, names, scanned.part)
 }
 
 // Where the name stands with which there are too many signals: at the end of the text if there is none.
@@ -583,21 +493,13 @@ pub fn find_signal(text: &[u8]) -> usize
     requires { length text.now ≤ max_source }
     ensures { result ≡ byte_of text.now (crowded_from [] false (tokens text.now)) }
 {
-    let mut names = [0u16; sheet::ROOM];
+    let mut names = Sheet::new();
     let mut is_signal = false;
-    let mut at: usize = 0;
-    loop {
-        let scanned = scan::next_token(text, at);
-        let token = scanned.token;
-        let start = scanned.start;
-        let end = scanned.end;
-        if let Token::Finished = token {
-            return start;
+    for scanned in Tokens::new(text) {
+        if is_crowded(text, &mut names, is_signal, scanned) {
+            return scanned.part.start;
         }
-        if is_crowded(text, &mut names, is_signal, token, start, end) {
-            return start;
-        }
-        is_signal = is_before_signal(token);
-        at = end;
+        is_signal = is_before_signal(scanned.token);
     }
+    text.len()
 }

@@ -21,7 +21,7 @@ use Rattle.listing.specs.Written.{line_at}
 use Rattle.listing.proofs.Digits.{few-digits, digits-few}
 use Rattle.listing.proofs.Fields.{line-size, refusal-size, header_short}
 use Rattle.listing.proofs.Lines.{lines_left, lines_next, lines_none}
-use Rattle.listing.proofs.Columns.{program_lets}
+use Rattle.listing.proofs.Listed.{program_lets}
 
 kinds-few : (q : Stmt) → kind q ≤ 11
 kinds-few (leaf nothing) = omega arith

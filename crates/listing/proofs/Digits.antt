@@ -11,7 +11,7 @@ use lib.Dec.{ltb}
 use lib.ListN.{length, length-append}
 use Rattle.listing.specs.Text.{digit, digits_up_to, digits}
 
-lt_or_le : (a b : ℕ) → (a < b) ⊎ (b ≤ a)
+pub lt_or_le : (a b : ℕ) → (a < b) ⊎ (b ≤ a)
 lt_or_le a b = by (ltb a b) refl
   where
     by : (t : Bool) → ltb a b ≡ t → (a < b) ⊎ (b ≤ a)

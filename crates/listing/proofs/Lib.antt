@@ -3,9 +3,10 @@ pub mod Writing
 pub mod Numbers
 pub mod Fields
 pub mod Lines
-pub mod Columns
+pub mod Listed
 pub mod Whole
 pub mod Bound
 pub mod Example
 pub mod Fronts
 pub mod Cut
+pub mod Checks

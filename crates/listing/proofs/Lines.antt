@@ -11,14 +11,18 @@ use Rattle.esterel.specs.Statement.{nothing, Stmt, leaf, kind, field, size}
 use Rattle.esterel.specs.Sets.{Place, at, stmt_of, places_of, place_at}
 use Rattle.esterel.specs.Checks.{Line, line, line_of, listing}
 use Rattle.esterel.proofs.Accepted.{place-statement, length-places}
-use Rattle.table.specs.Program.{program_of, Readable}
-use Rattle.table.proofs.Bytes.{kind_byte, field_byte}
+use Rattle.table.specs.Program.{program_of}
+use Rattle.std.specs.Coded.{le_prop, Coded-set, coded_ℕ, coded_list}
+use Rattle.std.proofs.Math.Logic.{∥∥₁_elim}
+use Rattle.table.proofs.Bytes.{table-length, kind_byte, field_byte}
 use Rattle.table.proofs.Surveying.{few-nodes}
 use Rattle.analysis.specs.Analysis.{k_of, a_of, s_of, mark_of}
 use Rattle.listing.specs.Text.{line_text, lines_from}
-use Rattle.listing.specs.Written.{Written, line_at, Columns}
+use Rattle.listing.specs.Written.{line_at, Columns}
+use Rattle.listing.specs.Writer.{HasRoom, Puts}
+use Rattle.listing.specs.declared.writer.Writer.{Writer}
 use Rattle.listing.proofs.Fields.{line-short}
-use Rattle.listing.proofs.Writing.{Rest, all_left, next-left, none_left, rest-fits}
+use Rattle.listing.proofs.Writing.{Left, left-all, left-next, left-fits, left-none}
 
 pub length_lines : (p : Stmt) → length (listing p) ≡ size p
 length_lines p = length-map (places_of p) line_of ∙ length-places p 1 0 empty
@@ -38,8 +42,29 @@ module _ {t K A S M : List ℕ} (cs : Columns t K A S M) (i : ℕ) (h : i < size
       rw (kind_byte t cs.readable i h, field_byte t cs.readable i h, cs.starts.entry i h, cs.anys.entry i h, cs.contexts.entry i h, cs.marks.entry i h, ← (place-statement (program_of t) i))
       (made (place_at (program_of t) i))
 
+-- what a node's reads need, and what they give
+pub record Within (t K A S M : List ℕ) (i : ℕ) : Type 0 where
+  pub table : 2 * i + 1 < length t
+  pub few : i < 1024
+  pub starts : i < length K
+  pub anys : i < length A
+  pub contexts : i < length S
+  pub marks : i < length M
+
+module _ {t K A S M : List ℕ} (o : ∥ Columns t K A S M ∥₁) {i : ℕ} (h : i < size (program_of t)) where
+  pub within : Within t K A S M i
+  within =
+      record {
+        table = ∥∥₁_elim o le_prop (λ cs. omega (arith, table-length t cs.readable));
+        few = ∥∥₁_elim o le_prop (λ cs. omega (arith, few-nodes t cs.readable));
+        starts = ∥∥₁_elim o le_prop (λ cs. omega (arith, cs.starts.room));
+        anys = ∥∥₁_elim o le_prop (λ cs. omega (arith, cs.anys.room));
+        contexts = ∥∥₁_elim o le_prop (λ cs. omega (arith, cs.contexts.room));
+        marks = ∥∥₁_elim o le_prop (λ cs. omega (arith, cs.marks.room));
+      }
+
   pub node-text : line_text i (line (get_or t (2 * i) 0) (get_or t (2 * i + 1) 0) (get_or K i 0) (get_or A i 0) (get_or S i 0) (get_or M i 0)) ≡ line_text i (line_at (program_of t) i)
-  node-text = ap (line_text i) numbers
+  node-text = ∥∥₁_elim o (Coded-set (coded_list coded_ℕ) _ _) (λ cs. ap (line_text i) (numbers cs i h))
 
 -- from node i on: its line, then those after it
 module _ (p : Stmt) where
@@ -63,8 +88,9 @@ lines_short : (n : ℕ) (ls : List Line) → length (lines_from n ls) ≤ 455 * 
 lines_short n [] = omega arith
 lines_short n (l ∷ ls) = rw length-append (omega (arith, text-short n l, lines_short (suc n) ls))
 
-pub lines_few : (t : List ℕ) → Readable t → length (lines_from 0 (listing (program_of t))) ≤ 465920
-lines_few t ok = omega (arith, lines_short 0 (listing (program_of t)), length_lines (program_of t), few-nodes t ok)
+pub lines_few : {t K A S M : List ℕ} → ∥ Columns t K A S M ∥₁ → length (lines_from 0 (listing (program_of t))) ≤ 465920
+lines_few {t} o =
+    ∥∥₁_elim o le_prop (λ cs. omega (arith, lines_short 0 (listing (program_of t)), length_lines (program_of t), few-nodes t cs.readable))
 
 -- the lines before node i are counted
 pub record Totalling (p : Stmt) (total i : ℕ) : Type 0 where
@@ -89,27 +115,23 @@ module _ {p : Stmt} {total i : ℕ} (o : Totalling p total i) where
   total-end h = omega (arith, o.is, ap length (lines_none p i h))
 
 -- the lines before node i are written
-pub record Listing (p : Stmt) (old : List ℕ) (at : ℕ) (now : List ℕ) (pos i : ℕ) : Type 0 where
+pub record Listing (p : Stmt) (first now : Writer) (i : ℕ) : Type 0 where
   pub bound : i ≤ size p
-  pub left : Rest old at (lines_from 0 (listing p)) now pos (lines_left p i)
+  pub left : Left first (lines_from 0 (listing p)) now (lines_left p i)
 
-pub listing_none : (p : Stmt) (old : List ℕ) (at : ℕ) → Listing p old at old at 0
-listing_none p old i = record { bound = omega arith; left = all_left old i (lines_from 0 (listing p)) }
+pub listing_none : (p : Stmt) (w : Writer) → Listing p w w 0
+listing_none p w = record { bound = omega arith; left = left-all w (lines_from 0 (listing p)) }
 
-module _ {p : Stmt} {old : List ℕ} {at : ℕ} {now : List ℕ} {pos i : ℕ} (o : Listing p old at now pos i) where
-  module _ (h : i < size p) where
-    front : Rest old at (lines_from 0 (listing p)) now pos (line_text i (line_at p i) ++ lines_left p (i + 1))
-    front = rw (← (lines_next p i h)) o.left
+module _ {p : Stmt} {first now : Writer} {i : ℕ} (o : Listing p first now i) where
+  module _ (h : i < size p) {line : List ℕ} (e : line ≡ line_text i (line_at p i)) where
+    front : Left first (lines_from 0 (listing p)) now (line ++ lines_left p (i + 1))
+    front = rw (e, ← (lines_next p i h)) o.left
 
-    pub listing-fits : at + length (lines_from 0 (listing p)) ≤ length old → pos + length (line_text i (line_at p i)) ≤ length now
-    listing-fits room = omega (arith, rest-fits room front, length-append (line_text i (line_at p i)) (lines_left p (i + 1)))
+    pub listing-fits : HasRoom first (lines_from 0 (listing p)) → HasRoom now line
+    listing-fits room = omega (arith, left-fits room front, length-append line (lines_left p (i + 1)))
 
-    pub listing-next : {new : List ℕ} {r : ℕ} → Written now pos (line_text i (line_at p i)) new r → Listing p old at new r (i + 1)
-    listing-next w =
-        record {
-          bound = omega arith;
-          left = next-left (line_text i (line_at p i)) (lines_left p (i + 1)) front w;
-        }
+    pub listing-next : {new : Writer} → Puts now line new → Listing p first new (i + 1)
+    listing-next w = record { bound = omega arith; left = left-next line (lines_left p (i + 1)) front w }
 
-  pub listing-end : size p ≤ i → Written old at (lines_from 0 (listing p)) now pos
-  listing-end h = none_left (rw (lines_none p i h) at o.left)
+  pub listing-end : size p ≤ i → Puts first (lines_from 0 (listing p)) now
+  listing-end h = left-none (rw (lines_none p i h) at o.left)

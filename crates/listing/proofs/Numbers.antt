@@ -1,14 +1,15 @@
 -- The loops over the digits of a number.
 use mathlib.Core.Path.{◌≡◌, refl, sym, ap, ◌∙◌}
+use mathlib.Core.Logic.{⊎_elim}
 use mathlib.Core.List.{List, [], ◌∷◌, ◌++◌}
 use Prim.Native.Nat.{ℕ, ◌+◌, ◌-◌, ◌/◌, ◌%◌, ◌^◌, ◌≤◌, ◌<◌}
-use native.Mathlib.Nat.{div-le_self, div-lt_self, mod-lt}
+use native.Mathlib.Nat.{div-le_self, div-lt_self}
 use native.Mathlib.Omega.{arith}
 use lib.ListN.{length, set, length-set, length-append}
 use lib.Seq.{sets}
 use Rattle.listing.specs.Text.{digit, digits}
 use Rattle.listing.specs.Written.{Written}
-use Rattle.listing.proofs.Digits.{few-digits, has-digits, digits-one, digits_more}
+use Rattle.listing.proofs.Digits.{lt_or_le, few-digits, has-digits, digits-one, digits_more}
 use Rattle.table.proofs.Buffers.{sets-append}
 use Rattle.listing.proofs.Writing.{set-sets}
 
@@ -60,14 +61,22 @@ numbering_all base n old at i h e l =
     }
 
 module _ {base n : ℕ} {old : List ℕ} {at : ℕ} {now : List ℕ} {i rest : ℕ} (two : 2 ≤ base) (o : Numbering base n old at now i rest) where
-  pub numbering_below : base ≤ 16 → rest % base < 16
-  numbering_below h = omega (arith, mod-lt rest {m = base} (omega arith))
-
-  pub numbering_less : base ≤ rest → rest / base < rest
-  numbering_less h = div-lt_self (omega arith) (omega arith)
-
   pub numbering_some : at < i
   numbering_some = omega (arith, o.here, has-digits base rest)
+
+  pub numbering_more : at + 1 < i → base ≤ rest
+  numbering_more h =
+      ⊎_elim
+      (λ l. absurd (omega (arith, o.here, ap length (digits-one base rest l))))
+      (λ g. g)
+      (lt_or_le rest base)
+
+  pub numbering_one : i ≤ at + 1 → rest < base
+  numbering_one h =
+      ⊎_elim
+      (λ l. l)
+      (λ g. absurd (omega (arith, o.here, ap length (digits_more base two rest o.fits g), length-append (digits base (rest / base)) (digit (rest % base) ∷ []), has-digits base (rest / base))))
+      (lt_or_le rest base)
 
   module _ (h : base ≤ rest) (v : ℕ) (e : v ≡ digit (rest % base)) where
     split : digits base rest ≡ digits base (rest / base) ++ (v ∷ [])

@@ -1,18 +1,16 @@
 -- The whole text: the first line, then the nodes'.
 use mathlib.Core.Path.{◌≡◌, refl, sym, ap, ◌∙◌}
-use mathlib.Core.List.{List, ◌++◌}
-use Prim.Native.Nat.{ℕ, suc, ◌+◌, ◌*◌, ◌/◌, ◌≤◌}
+use mathlib.Core.List.{◌++◌}
+use Prim.Native.Nat.{ℕ, suc, ◌+◌, ◌*◌, ◌≤◌}
 use native.Mathlib.Omega.{arith}
 use lib.ListN.{length, length-append}
 use Rattle.esterel.specs.Statement.{Unary, signal, suspend, loop, trap, Stmt, leaf, one, two, size, loop_depth, loops_under}
 use Rattle.esterel.specs.Table.{passed}
 use Rattle.esterel.specs.Checks.{listing}
-use Rattle.table.specs.Program.{program_of, Readable}
-use Rattle.table.proofs.Bytes.{table-length}
-use Rattle.table.proofs.Surveying.{few-nodes}
 use Rattle.listing.specs.Text.{lines_from, header_text, text_of}
-use Rattle.listing.specs.Written.{Written}
-use Rattle.listing.proofs.Writing.{joined}
+use Rattle.listing.specs.Writer.{HasRoom, Puts}
+use Rattle.listing.specs.declared.writer.Writer.{Writer}
+use Rattle.listing.proofs.Writing.{joined, second_fits}
 
 loops-most : (u : Unary) (n : ℕ) → loops_under u n ≤ suc n
 loops-most (signal s) n = omega arith
@@ -25,24 +23,24 @@ loops-few (leaf l) = omega arith
 loops-few (one u p) = omega (arith, loops-most u (loop_depth p), loops-few p)
 loops-few (two b p q) = omega (arith, loops-few p, loops-few q)
 
-module _ {t : List ℕ} (ok : Readable t) where
-  pub nodes-few : length t / 2 ≤ 1024
-  nodes-few = omega (arith, table-length t ok, few-nodes t ok)
+-- by the numbers that the listing's writer has
+module _ (p : Stmt) {n loops : ℕ} (nodes : n ≡ size p) (depth : loops ≡ loop_depth p) where
+  pub depth-few : n ≤ 1024 → loops ≤ 1024
+  depth-few h = omega (arith, loops-few p)
 
-  module _ {loops : ℕ} (e : loops ≡ loop_depth (program_of t)) where
-    pub depth-few : loops ≤ 1024
-    depth-few = omega (arith, e, loops-few (program_of t), few-nodes t ok)
+  whole : header_text n loops (n * (1 + loops)) ++ lines_from 0 (listing p) ≡ text_of (passed p)
+  unfolding text_of
+  whole = rw (nodes, depth) refl
 
-    pub whole : header_text (length t / 2) loops (length t / 2 * (1 + loops)) ++ lines_from 0 (listing (program_of t)) ≡ text_of (passed (program_of t))
-    unfolding text_of
-    whole =
-        let n : length t / 2 ≡ size (program_of t) = omega (arith, table-length t ok) in
-        rw (n, e) refl
+  pub whole-size : length (text_of (passed p)) ≡ length (header_text n loops (n * (1 + loops))) + length (lines_from 0 (listing p))
+  whole-size = ap length (sym whole) ∙ length-append (header_text n loops (n * (1 + loops))) (lines_from 0 (listing p))
 
-    pub whole-size : length (text_of (passed (program_of t))) ≡ length (header_text (length t / 2) loops (length t / 2 * (1 + loops))) + length (lines_from 0 (listing (program_of t)))
-    whole-size =
-        ap length (sym whole) ∙ length-append (header_text (length t / 2) loops (length t / 2 * (1 + loops))) (lines_from 0 (listing (program_of t)))
+  pub header-room : (w : Writer) → HasRoom w (text_of (passed p)) → HasRoom w (header_text n loops (n * (1 + loops)))
+  header-room w h = omega (arith, whole-size)
 
-    pub whole-written : {old mid new : List ℕ} {at i r : ℕ} → Written old at (header_text (length t / 2) loops (length t / 2 * (1 + loops))) mid i → Written mid i (lines_from 0 (listing (program_of t))) new r → Written old at (text_of (passed (program_of t))) new r
-    whole-written w v =
-        rw (← whole) (joined (header_text (length t / 2) loops (length t / 2 * (1 + loops))) (lines_from 0 (listing (program_of t))) w v)
+  module _ {old mid : Writer} (w : Puts old (header_text n loops (n * (1 + loops))) mid) where
+    pub lines-room : HasRoom old (text_of (passed p)) → HasRoom mid (lines_from 0 (listing p))
+    lines-room h = second_fits (header_text n loops (n * (1 + loops))) (lines_from 0 (listing p)) (rw whole h) w
+
+    pub whole-written : {new : Writer} → Puts mid (lines_from 0 (listing p)) new → Puts old (text_of (passed p)) new
+    whole-written v = rw (← whole) (joined (header_text n loops (n * (1 + loops))) (lines_from 0 (listing p)) w v)

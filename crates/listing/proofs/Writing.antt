@@ -1,15 +1,17 @@
 -- A text while bytes are written into it: what is left to be written leads to what is wanted.
 use mathlib.Core.Path.{◌≡◌, refl, sym, ap, ◌∙◌}
-use mathlib.Core.List.{List, [], ◌∷◌, ◌++◌}
-use Prim.Native.Nat.{ℕ, suc, ◌+◌, ◌≤◌, ◌<◌}
-use native.Mathlib.Nat.{add-zero}
-use native.Mathlib.Numerals.{add-one}
+use mathlib.Core.List.{List, [], ◌∷◌, ◌++◌, append_assoc}
+use Prim.Native.Nat.{ℕ, suc, ◌+◌, ◌-◌, ◌≤◌}
 use native.Mathlib.Omega.{arith}
-use lib.ListN.{length, get_or, set, drop, length-append, drop_of_length-le}
-use lib.Seq.{sets, length-sets, set_comm, drop-cons}
+use lib.ListN.{length, set, take, drop, length-append}
+use lib.Seq.{sets, sets-eq, length-sets, set_comm}
+use borrow.Rule.Slice.PartMut.{put_mid, Post-is}
 use Rattle.table.proofs.Buffers.{sets-append, sets-front}
 use Rattle.listing.specs.Written.{Written}
+use Rattle.std.specs.Borrow.{MutBor}
+use Rattle.listing.specs.Writer.{HasRoom, Puts, Begins}
 use Rattle.listing.specs.Rendering.{WholeText}
+use Rattle.listing.specs.declared.writer.Writer.{Writer}
 
 pub set-sets : (l : List ℕ) (i : ℕ) (xs : List ℕ) (j v : ℕ) → i + length xs ≤ j → set (sets l i xs) j v ≡ sets (set l j v) i xs
 set-sets l i [] j v h = refl
@@ -54,37 +56,45 @@ module _ {old : List ℕ} {at : ℕ} {bytes now : List ℕ} {pos : ℕ} where
   pub none_left : Rest old at bytes now pos [] → Written old at bytes now pos
   none_left o = record { is = o.is; end = omega (arith, o.end) }
 
-pub joined : {old : List ℕ} {at : ℕ} (xs ys : List ℕ) {mid new : List ℕ} {i r : ℕ} → Written old at xs mid i → Written mid i ys new r → Written old at (xs ++ ys) new r
-joined {old} {at} xs ys w v = last-left (next-left xs ys (all_left old at (xs ++ ys)) w) v
+-- of bytes that a writer has to put, from `first` on, so many are left
+pub record Left (first : Writer) (bytes : List ℕ) (now : Writer) (rest : List ℕ) : Type 0 where
+  pub is : Rest first.text.now first.at bytes now.text.now now.at rest
+  pub same : now.text.ghost_name ≡ first.text.ghost_name
 
--- the bytes before i are copied
-pub record Copying (old : List ℕ) (at : ℕ) (bytes now : List ℕ) (i : ℕ) : Type 0 where
-  pub bound : i ≤ length bytes
-  pub left : Rest old at bytes now (at + i) (drop i bytes)
+pub left-all : (first : Writer) (bytes : List ℕ) → Left first bytes first bytes
+left-all first bytes = record { is = all_left first.text.now first.at bytes; same = refl }
 
-pub copying_none : (old : List ℕ) (at : ℕ) (bytes : List ℕ) → Copying old at bytes old 0
-copying_none old at bytes = record { bound = omega arith; left = rw add-zero (all_left old at bytes) }
+module _ {first : Writer} {bytes : List ℕ} {now : Writer} where
+  pub left-next : (xs ys : List ℕ) {new : Writer} → Left first bytes now (xs ++ ys) → Puts now xs new → Left first bytes new ys
+  left-next xs ys o w = record { is = next-left xs ys o.is w.written; same = w.same ∙ o.same }
 
-module _ {old : List ℕ} {at : ℕ} {bytes now : List ℕ} {i : ℕ} (o : Copying old at bytes now i) where
-  pub copying_next : i < length bytes → Copying old at bytes (set now (at + i) (get_or bytes i 0)) (i + 1)
-  copying_next h =
-      record {
-        bound = omega arith;
-        left =
-            let front : Rest old at bytes now (at + i) (get_or bytes i 0 ∷ drop (i + 1) bytes) = rw (add-one i, ← (drop-cons bytes i 0 h)) o.left in
-            next-left (get_or bytes i 0 ∷ []) (drop (i + 1) bytes) front (record { is = refl; end = omega arith });
-      }
+  pub left-last : {rest : List ℕ} {new : Writer} → Left first bytes now rest → Puts now rest new → Puts first bytes new
+  left-last o w = record { written = last-left o.is w.written; same = w.same ∙ o.same }
 
-  pub copying_end : length bytes ≤ i → Written old at bytes now (at + i)
-  copying_end h = none_left (rw (drop_of_length-le bytes h) at o.left)
+  pub left-fits : {rest : List ℕ} → HasRoom first bytes → Left first bytes now rest → HasRoom now rest
+  left-fits h o = rest-fits h o.is
+
+  pub left-none : Left first bytes now [] → Puts first bytes now
+  left-none o = record { written = none_left o.is; same = o.same }
+
+pub joined : {old : Writer} (xs ys : List ℕ) {mid new : Writer} → Puts old xs mid → Puts mid ys new → Puts old (xs ++ ys) new
+joined {old} xs ys w v = left-last (left-next xs ys (left-all old (xs ++ ys)) w) v
+
+pub second_fits : {old mid : Writer} (xs ys : List ℕ) → HasRoom old (xs ++ ys) → Puts old xs mid → HasRoom mid ys
+second_fits {old} xs ys h w = left-fits h (left-next xs ys (left-all old (xs ++ ys)) w)
+
+-- the bytes are pasted at a place
+pub pasted : (old : List ℕ) (at : ℕ) (bytes : List ℕ) {part : List ℕ} → at + length bytes ≤ length old → part ≡ bytes → put_mid at (at + length bytes - at) old part ≡ sets old at bytes
+pasted old at bytes h e =
+    rw (e, Post-is at (at + length bytes) old (omega arith), ← (append_assoc (take at old) bytes (drop (at + length bytes) old))) (sym (sets-eq bytes old at h))
 
 -- a text at the front of a buffer
-pub written-whole : {line old new : List ℕ} {r : ℕ} → length line ≤ length old → Written old 0 line new r → WholeText line old new r
-written-whole {line} {old} {new} {r} h w =
-    let none : 0 + length line ≡ length line = omega arith in
-    let content : new ≡ line ++ drop (length line) old = w.is ∙ sets-front line old h in
-    record {
-      end = w.end ∙ none;
-      within = rw (content, length-append) (omega (arith, w.end));
-      content = content;
-    }
+module _ {lent : MutBor (List ℕ)} {first : Writer} (b : Begins lent first) (line : List ℕ) (h : length line ≤ length lent.now) where
+  pub begin_fits : HasRoom first line
+  begin_fits = rw (b.at, b.content) (omega arith)
+
+  pub written-whole : {last : Writer} {new : List ℕ} {r : ℕ} → Puts first line last → new ≡ last.text.now → r ≡ last.at → WholeText line lent.now new r
+  written-whole w e f =
+      let content : _ ≡ line ++ drop (length line) lent.now = e ∙ (w.written.is ∙ rw (b.at, b.content) (sets-front line lent.now h)) in
+      let end : _ ≡ length line = f ∙ (w.written.end ∙ rw b.at (omega arith)) in
+      record { end = end; within = rw (content, length-append) (omega (arith, end)); content = content }

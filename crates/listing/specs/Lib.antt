@@ -1,3 +1,5 @@
 pub mod Text
 pub mod Written
+pub mod Lines
+pub mod Writer
 pub mod Rendering

@@ -1,5 +1,5 @@
 -- A table that is too long is refused 1, whatever its bytes: so its line is that of a front of it that is too long still.
-use mathlib.Core.Path.{◌≡◌, sym, ◌∙◌}
+use mathlib.Core.Path.{sym, ◌∙◌}
 use mathlib.Core.List.{List}
 use Prim.Native.Nat.{ℕ, ◌*◌, ◌<◌}
 use lib.ListN.{take}

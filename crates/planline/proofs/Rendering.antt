@@ -1,27 +1,26 @@
 -- One lemma for each return of `render_line`, and that a table has one line.
 use mathlib.Core.Path.{◌≡◌, refl, sym, ap, ap₂, subst, ◌∙◌}
-use mathlib.Core.List.{List, [], ◌∷◌, ◌++◌}
-use Prim.Native.Nat.{ℕ, ◌+◌, ◌≤◌, ◌<◌}
+use mathlib.Core.List.{List, [], ◌∷◌}
+use Prim.Native.Nat.{ℕ, ◌≤◌, ◌<◌}
 use native.Mathlib.Omega.{arith}
 use lib.Dec.{lit≤}
 use lib.ListN.{length, length-append}
 use Rattle.esterel.specs.Limits.{max_nodes}
-use Rattle.esterel.specs.Statement.{Stmt, size}
-use Rattle.esterel.specs.Table.{passed, refused}
-use Rattle.esterel.specs.Checks.{verdict}
+use Rattle.esterel.specs.Table.{refused}
 use Rattle.esterel.proofs.Refusals.{one-program, one-refusal, passed-refused, refusals}
 use Rattle.table.proofs.Surveying.{few-accepted}
 use Rattle.starts.specs.Entries.{Greatest}
 use Rattle.starts.proofs.Entries.{first_tick}
 use Rattle.planning.specs.Planning.{Plans}
-use Rattle.planning.specs.declared.Planned.{Planned}
-use Rattle.planning.specs.declared.Planned.TheVariants.{Entries, Refused}
+use Rattle.esterel.specs.Refusal.{yields, rejects}
 use Rattle.planning.proofs.Theorems.{of_most_entries}
 use Rattle.listing.specs.Text.{decimal, fields, text_of}
-use Rattle.listing.specs.Written.{Written}
+use Rattle.std.specs.Borrow.{MutBor}
+use Rattle.listing.specs.Writer.{HasRoom, Puts, Begins}
+use Rattle.listing.specs.declared.writer.Writer.{Writer}
 use Rattle.listing.proofs.Digits.{digits-few}
 use Rattle.listing.proofs.Fields.{refusal-size}
-use Rattle.listing.proofs.Writing.{written-whole}
+use Rattle.listing.proofs.Writing.{begin_fits, written-whole}
 use Rattle.planline.specs.Line.{IsLine, plans, refuses, max_line, LineWritten}
 use Rattle.planline.specs.Theorems.{OneLine}
 
@@ -39,27 +38,32 @@ short t x (refuses number node v e) = let (some, known, within) = refusals t num
 
 -- ---- the returns
 
-written : {t line old new : List ℕ} {r : ℕ} → IsLine t line → max_line ≤ length old → Written old 0 line new r → LineWritten t old new r
-written {t} {line} is h w = record { line = line; is = is; whole = written-whole (let s = short t line is in omega arith) w }
+written : {t line : List ℕ} {lent : MutBor (List ℕ)} {first now last : Writer} {x : ℕ} → IsLine t line → max_line ≤ length lent.now → Begins lent first → Puts first line last → now ≡ last → x ≡ now.at → LineWritten t lent.now now.text.now x
+written {t} {line} is h b w k e =
+    record {
+      line = line;
+      is = is;
+      whole = written-whole b line (let s = short t line is in omega arith) w (ap (λ (x : Writer). x.text.now) k) (e ∙ ap (λ (x : Writer). x.at) k);
+    }
 
-module _ {t : List ℕ} {r : Planned} (o : Plans t r) where
-  planned-is : {n : ℕ} → r ≡ Entries n → IsLine t (fields (decimal n ∷ []))
-  planned-is {n} e = let (p, v, g) = (of_most_entries.planned t r o n).0 e in plans p n v g refl
+module _ {t : List ℕ} where
+  planned-is : {n : ℕ} → Plans t (yields n) → IsLine t (fields (decimal n ∷ []))
+  planned-is {n} o = let (p, v, g) = (of_most_entries.planned t (yields n) o n).0 refl in plans p n v g refl
 
-  refused-is : {number node : ℕ} → r ≡ Refused number node → IsLine t (text_of (refused number node))
-  refused-is {number} {node} e = refuses number node ((of_most_entries.refused t r o number node).0 e) refl
+  refused-is : {number node : ℕ} → Plans t (rejects number node) → IsLine t (text_of (refused number node))
+  refused-is {number} {node} o = refuses number node ((of_most_entries.refused t (rejects number node) o number node).0 refl) refl
 
-  pub number_fits : {n m : ℕ} → r ≡ Entries n → max_line ≤ m → 0 + length (fields (decimal n ∷ [])) ≤ m
-  number_fits {n} e h = let s = short t _ (planned-is e) in omega arith
+  pub number_fits : {n : ℕ} {lent : MutBor (List ℕ)} {first : Writer} → Plans t (yields n) → max_line ≤ length lent.now → Begins lent first → HasRoom first (fields (decimal n ∷ []))
+  number_fits {n} o h b = let s = short t _ (planned-is o) in begin_fits b (fields (decimal n ∷ [])) (omega arith)
 
-  pub refusal-fits : {number node m : ℕ} → r ≡ Refused number node → max_line ≤ m → 0 + length (text_of (refused number node)) ≤ m
-  refusal-fits e h = let s = short t _ (refused-is e) in omega arith
+  pub refusal-fits : {number node : ℕ} {lent : MutBor (List ℕ)} {first : Writer} → Plans t (rejects number node) → max_line ≤ length lent.now → Begins lent first → HasRoom first (text_of (refused number node))
+  refusal-fits {number} {node} o h b = let s = short t _ (refused-is o) in begin_fits b (text_of (refused number node)) (omega arith)
 
-  pub number-line : {n : ℕ} {text new : List ℕ} {x : ℕ} → r ≡ Entries n → max_line ≤ length text → Written text 0 (fields (decimal n ∷ [])) new x → LineWritten t text new x
-  number-line e h w = written (planned-is e) h w
+  pub number-line : {n : ℕ} {lent : MutBor (List ℕ)} {first now last : Writer} {x : ℕ} → Plans t (yields n) → max_line ≤ length lent.now → Begins lent first → Puts first (fields (decimal n ∷ [])) last → now ≡ last → x ≡ now.at → LineWritten t lent.now now.text.now x
+  number-line o h b w k e = written (planned-is o) h b w k e
 
-  pub refused-line : {number node : ℕ} {text new : List ℕ} {x : ℕ} → r ≡ Refused number node → max_line ≤ length text → Written text 0 (text_of (refused number node)) new x → LineWritten t text new x
-  refused-line e h w = written (refused-is e) h w
+  pub refused-line : {number node : ℕ} {lent : MutBor (List ℕ)} {first now last : Writer} {x : ℕ} → Plans t (rejects number node) → max_line ≤ length lent.now → Begins lent first → Puts first (text_of (refused number node)) last → now ≡ last → x ≡ now.at → LineWritten t lent.now now.text.now x
+  refused-line o h b w k e = written (refused-is o) h b w k e
 
 once : (t x y : List ℕ) → IsLine t x → IsLine t y → x ≡ y
 once t x y (plans p n v g e) (plans q m w h f) =

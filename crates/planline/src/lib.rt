@@ -3,7 +3,7 @@
 
 ghost use Rattle.planline.specs.Line.{LineWritten};
 
-use planning::Planned;
+use listing::Writer;
 
 // No line is longer: the word, a number of 2 digits and a node of 4, with blanks and the line feed.
 pub const MAX_LINE: usize = 16;
@@ -12,9 +12,10 @@ pub const MAX_LINE: usize = 16;
 pub fn render_line(table: &[u8], text: &mut [u8; MAX_LINE]) -> usize
     ensures { LineWritten table.now text.old text.new result }
 {
-    let planned = planning::most_entries(table);
-    match planned {
-        Planned::Entries { entries } => { listing::write_field(text, 0, entries as u64, 10, b'\n') }
-        Planned::Refused { number, node } => listing::write_refusal(text, 0, number, node),
+    let mut to = Writer::new(text);
+    match planning::most_entries(table) {
+        Ok(entries) => to.field(entries as u64, 10, b'\n'),
+        Err(refusal) => to.refusal(refusal),
     }
+    to.written()
 }

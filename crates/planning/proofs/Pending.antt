@@ -4,7 +4,11 @@ use mathlib.Core.List.{List, [], ◌∷◌}
 use Prim.Native.Nat.{ℕ, suc, ◌+◌, ◌-◌, ◌*◌, ◌≤◌, ◌<◌}
 use native.Mathlib.Decide.{dec_lt}
 use native.Mathlib.Omega.{arith}
-use lib.ListN.{length, get_or, replicate, get_or-replicate}
+use mathlib.Core.Bool.{Bool, true, false}
+use borrow.Author.Tests.{eqb-true, eqb-false}
+use lib.Dec.{eqb}
+use lib.ListN.{length, get_or, set, length-set, replicate, length-replicate, get_or-replicate, get_or-eq_default}
+use lib.Seq.{get_or-set_same, get_or-set_other}
 use Rattle.codes.specs.Codes.{Codes}
 use Rattle.esterel.specs.Limits.{max_nodes, max_depth}
 use Rattle.esterel.specs.Statement.{Stmt, leaf, one, two, kind, field, size}
@@ -24,86 +28,99 @@ use Rattle.starts.specs.Summary.{most_entries}
 use Rattle.starts.specs.Walk.{Below}
 use Rattle.starts.proofs.Cost.{below-low}
 use Rattle.starts.proofs.Theorems.{codes-below}
-use Rattle.rows.specs.Rows.{value_of, values_of, max_number, LowRow, Holds}
-use Rattle.rows.specs.Filled.{RowAt, Stored}
-use Rattle.rows.proofs.Said.{list-low, row_low, holds-low, holds-all, own_code, OfChildren, row_is}
-use Rattle.planning.specs.Rows.{Lies, NextRow, Pushed}
+use Rattle.rows.specs.Rows.{values_of, max_number, LowRow, Holds}
+use Rattle.rows.specs.declared.Row.{Row}
+use Rattle.rows.specs.Filled.{numbers_at}
+use Rattle.rows.proofs.Said.{holds-low, holds-all, own_code, OfChildren, row_is}
+use Rattle.planning.specs.Rows.{Lies, NextRow}
 
--- the row at a place says the most entries of a statement
-pub record SaysAt (stack : List ℕ) (place : ℕ) (p : Stmt) : Type 0 where
-  pub at : (k : ℕ) → k < 64 → value_of (get_or stack (64 * place + k) 0) ≡ most_entries p k
-
-pub said : {stack row : List ℕ} {place : ℕ} {p : Stmt} → SaysAt stack place p → RowAt stack place row → Holds (most_entries p) row
-said o r = record { long = r.long; at = λ k l. ap value_of (r.at k l) ∙ o.at k l }
-
--- a row that is taken from the stack has small numbers
-pub loaded_low : {stack row : List ℕ} {place : ℕ} → LowRow max_number stack → RowAt stack place row → LowRow max_number row
-loaded_low {place = place} l r = row_low max_number r.long (λ k h. omega (arith, r.at k h, l.at (64 * place + k)))
+abbrev Small : List Row → Type 0
+Small stack = (j : ℕ) → LowRow max_number (numbers_at stack j)
 
 -- that of each that waits is on the stack, the one that comes next last
-pub data On (stack : List ℕ) : List Waiting → Type 0 where
+pub data On (stack : List Row) : List Waiting → Type 0 where
   none : On stack []
-  more : (w : Waiting) (ws : List Waiting) → SaysAt stack (length ws) w.root → On stack ws → On stack (w ∷ ws)
+  more : (w : Waiting) (ws : List Waiting) → Holds (most_entries w.root) (numbers_at stack (length ws)) → On stack ws → On stack (w ∷ ws)
 
-module _ {stack stack' row : List ℕ} {base : ℕ} (s : Stored stack base row stack') where
-  kept : {ws : List Waiting} → length ws ≤ base → On stack ws → On stack' ws
+-- a row is written over the one at base
+module _ (stack : List Row) (row : Row) (base : ℕ) where
+  here_is : base < length stack → numbers_at (set stack base row) base ≡ row.of
+  here_is h = ap (λ x. x.of) (get_or-set_same stack base row (record { of = [] }) h)
+
+  other-is : (j : ℕ) → (j ≡ base → ⊥) → numbers_at (set stack base row) j ≡ numbers_at stack j
+  other-is j d = ap (λ x. x.of) (get_or-set_other stack base j row (record { of = [] }) d)
+
+  kept : {ws : List Waiting} → length ws ≤ base → On stack ws → On (set stack base row) ws
   kept le none = none
-  kept le (more w ws e h) = more w ws record { at = λ k l. ap value_of (s.kept (64 * length ws + k) (omega arith)) ∙ e.at k l } (kept (omega arith) h)
+  kept le (more w ws e h) = more w ws (subst (Holds (most_entries w.root)) (sym (other-is (length ws) (λ z. omega arith))) e) (kept (omega arith) h)
 
-  pushed : (w : Waiting) (ws : List Waiting) → base ≡ length ws → Holds (most_entries w.root) row → On stack ws → On stack' (w ∷ ws)
-  pushed w ws e h o =
-      more w ws record { at = λ k l. ap (λ b. value_of (get_or stack' (64 * b + k) 0)) (sym e) ∙ ap value_of (s.at k l) ∙ h.at k l } (kept (omega arith) o)
+  pushed : (w : Waiting) (ws : List Waiting) → base < length stack → base ≡ length ws → Holds (most_entries w.root) row.of → On stack ws → On (set stack base row) (w ∷ ws)
+  pushed w ws lt e h o =
+      more w ws (subst (λ j. Holds (most_entries w.root) (numbers_at (set stack base row) j)) e (subst (Holds (most_entries w.root)) (sym (here_is lt)) h)) (kept (omega arith) o)
 
-  stored_low : LowRow max_number stack → LowRow max_number row → LowRow max_number stack'
-  stored_low l r = record { at = λ m. go m (dec_lt m (64 * base)) (dec_lt m (64 * base + 64)) }
+  stored_low : base < length stack → Small stack → LowRow max_number row.of → Small (set stack base row)
+  stored_low lt l r j = go (eqb j base) refl
     where
-      go : (m : ℕ) → Dec (m < 64 * base) → Dec (m < 64 * base + 64) → get_or stack' m 0 ≤ max_number
-      go m (yes h) d = omega (arith, s.kept m h, l.at m)
-      go m (no h) (no d) = omega (arith, s.past m (omega arith), l.at m)
-      go m (no h) (yes d) =
-          let k = m - 64 * base in
-          let z : 64 * base + k ≡ m = omega arith in
-          let e : get_or stack' (64 * base + k) 0 ≡ get_or stack' m 0 = ap (λ i. get_or stack' i 0) z in
-          omega (arith, s.at k (omega arith), r.at k)
+      go : (b : Bool) → eqb j base ≡ b → LowRow max_number (numbers_at (set stack base row) j)
+      go true z = subst (λ i. LowRow max_number (numbers_at (set stack base row) i)) (sym (eqb-true j base z)) (subst (LowRow max_number) (sym (here_is lt)) r)
+      go false z = subst (LowRow max_number) (sym (other-is j (eqb-false j base z))) (l j)
 
 -- the children of a statement are on top
-module _ (d t l : ℕ) (P : Codes) {stack : List ℕ} where
+module _ (d t l : ℕ) (P : Codes) {stack : List Row} where
   rest : (s : Stmt) (ws : List Waiting) → On stack (children d t l P s ws) → On stack ws
   rest (leaf a) ws h = h
   rest (one u p) ws (more _ _ e h) = h
   rest (two b p q) ws (more _ _ e (more _ _ e' h)) = h
 
-  taken : (s : Stmt) (ws : List Waiting) {a b : List ℕ} (base : ℕ) → base ≡ length ws → (children_of s ≡ 0 → ⊥) → Below 63 s → On stack (children d t l P s ws) → RowAt stack base a → RowAt stack (base + 1) b → OfChildren Entries s (values_of a) (values_of b)
-  taken (leaf x) ws base e some low h ra rb = absurd (some refl)
-  taken (one u p) ws {a = a} base e some low (more _ _ f h) ra rb =
-      holds-all Entries p (said f (subst (λ i. RowAt stack i a) e ra)) (below-low 63 p low.1)
-  taken (two c p q) ws {a = a} {b = b} base e some low (more _ _ f (more _ _ g h)) ra rb =
-      let z : base + 1 ≡ suc (length ws) = omega arith in (
-        holds-all Entries p (said g (subst (λ i. RowAt stack i a) e ra)) (below-low 63 p low.1),
-        holds-all Entries q (said f (subst (λ i. RowAt stack i b) z rb)) (below-low 63 q low.2),
+  taken : (s : Stmt) (ws : List Waiting) (base : ℕ) → base ≡ length ws → (children_of s ≡ 0 → ⊥) → Below 63 s → On stack (children d t l P s ws) → OfChildren Entries s (values_of (numbers_at stack base)) (values_of (numbers_at stack (base + 1)))
+  taken (leaf x) ws base e some low h = absurd (some refl)
+  taken (one u p) ws base e some low (more _ _ f h) = holds-all Entries p (subst (λ j. Holds (most_entries p) (numbers_at stack j)) (sym e) f) (below-low 63 p low.1)
+  taken (two c p q) ws base e some low (more _ _ f (more _ _ g h)) =
+      let z : suc (length ws) ≡ base + 1 = omega arith in (
+        holds-all Entries p (subst (λ j. Holds (most_entries p) (numbers_at stack j)) (sym e) g) (below-low 63 p low.1),
+        holds-all Entries q (subst (λ j. Holds (most_entries q) (numbers_at stack j)) z f) (below-low 63 q low.2),
       )
 
-pub record Rows (us : List Waiting) (stack : List ℕ) : Type 0 where
-  pub long : length stack ≡ 64 * (max_depth + 1)
-  pub low : LowRow max_number stack
+pub record Rows (us : List Waiting) (stack : List Row) : Type 0 where
+  pub long : length stack ≡ max_depth + 1
+  pub low : Small stack
   pub on : On stack us
 
-pub no_rows : Rows [] (replicate (64 * (max_depth + 1)) 0)
-no_rows =
-    record {
-      long = refl;
-      low = list-low (64 * (max_depth + 1)) max_number refl (λ k l. omega (arith, get_or-replicate {A = ℕ} (64 * (max_depth + 1)) k 0 0 l));
-      on = none;
-    }
+abbrev zeros : Row
+zeros = record { of = replicate 64 0 }
+
+no_number : (k : ℕ) → get_or (replicate {A = ℕ} 64 0) k 0 ≡ 0
+no_number k = go (dec_lt k 64)
+  where
+    go : Dec (k < 64) → get_or (replicate {A = ℕ} 64 0) k 0 ≡ 0
+    go (yes l) = get_or-replicate {A = ℕ} 64 k 0 0 l
+    go (no l) =
+        let past : length (replicate {A = ℕ} 64 0) ≤ k = omega arith in
+        get_or-eq_default (replicate 64 0) 0 past
+
+nowhere : (j k : ℕ) → get_or (numbers_at (replicate (max_depth + 1) zeros) j) k 0 ≡ 0
+nowhere j k = go (dec_lt j (max_depth + 1))
+  where
+    d : Row
+    d = record { of = [] }
+
+    go : Dec (j < max_depth + 1) → get_or (numbers_at (replicate (max_depth + 1) zeros) j) k 0 ≡ 0
+    go (yes n) = ap (λ x. get_or x.of k 0) (get_or-replicate (max_depth + 1) j zeros d n) ∙ no_number k
+    go (no n) =
+        let past : length (replicate (max_depth + 1) zeros) ≤ j = omega (arith, length-replicate (max_depth + 1) zeros) in
+        ap (λ x. get_or x.of k 0) (get_or-eq_default (replicate (max_depth + 1) zeros) d past)
+
+pub no_rows : Rows [] (replicate (max_depth + 1) zeros)
+no_rows = record { long = refl; low = λ j. record { at = λ k. omega (arith, nowhere j k) }; on = none }
 
 -- before node i: the statements that wait, and their rows
-pub record Pending (t stack : List ℕ) (unused i : ℕ) : Type 0 where
+pub record Pending (t : List ℕ) (stack : List Row) (unused i : ℕ) : Type 0 where
   pub us : List Waiting
   pub before : Before (program_of t) us unused i
   pub rows : Rows us stack
 
 -- a turn at node i, with the kind k, the field f and the number c of children that the code has read
-module _ {t : List ℕ} (ok : Placed t) {us : List Waiting} {unused i : ℕ} (o : Before (program_of t) us unused i) (inside : i < size (program_of t)) {k : Kind} {f c : ℕ} (ek : k ≡ kind_of (get_or t (2 * i) 0)) (ef : f ≡ get_or t (2 * i + 1) 0) (ec : c ≡ arity_of k) {stack : List ℕ} (rows : Rows us stack) where
+module _ {t : List ℕ} (ok : Placed t) {us : List Waiting} {unused i : ℕ} (o : Before (program_of t) us unused i) (inside : i < size (program_of t)) {k : Kind} {f c : ℕ} (ek : k ≡ kind_of (get_or t (2 * i) 0)) (ef : f ≡ get_or t (2 * i + 1) 0) (ec : c ≡ arity_of k) {stack : List Row} (rows : Rows us stack) where
   abbrev w : Waiting
   w = (here ok o inside ek ef ec).top
 
@@ -134,7 +151,7 @@ module _ {t : List ℕ} (ok : Placed t) {us : List Waiting} {unused i : ℕ} (o 
   pub lies : f < 256 → Lies k f (unused - c) stack
   lies h =
       record {
-        room = omega (arith, low ok o inside ek ef ec, rows.long);
+        room = omega (arith, low ok o inside ek ef ec);
         low = rows.low;
         few = h;
         known = λ z. (let at = below-low 63 (leaf (leaf_of k f)) (subst (Below 63) (leaf-here z) low-codes) (leaf_code (leaf_of k f)) (own_code (leaf_of k f)) in omega arith);
@@ -148,22 +165,25 @@ module _ {t : List ℕ} (ok : Placed t) {us : List Waiting} {unused i : ℕ} (o 
 
   row_here : {row : List ℕ} → NextRow k f (unused - c) stack row → Holds (most_entries w.root) row
   row_here {row} (NextRow.of_leaf z h) = subst (λ s. Holds (most_entries s) row) (sym (leaf-here z)) h
-  row_here (NextRow.of_children d a b ra rb is) =
+  row_here (NextRow.of_children d is) =
       row_is w.root (kind-here ok o inside ek ef ec)
-      (taken w.depth w.traps w.loops w.context w.root below (unused - c) (base_is ok o inside ek ef ec) (λ z. d (arity_here ∙ z)) low-codes on-top ra rb) is
+      (taken w.depth w.traps w.loops w.context w.root below (unused - c) (base_is ok o inside ek ef ec) (λ z. d (arity_here ∙ z)) low-codes on-top) is
 
-  pub rows_next : {stack' : List ℕ} → Pushed k f (unused - c) stack stack' → Rows (after ok o inside ek ef ec) stack'
-  rows_next p =
-      let is : Holds (most_entries w.root) p.row = row_here p.is in
+  pub fits-here : unused - c < length stack
+  fits-here = omega (arith, low ok o inside ek ef ec, rows.long)
+
+  pub rows_next : {row : Row} → NextRow k f (unused - c) stack row.of → Rows (after ok o inside ek ef ec) (set stack (unused - c) row)
+  rows_next {row} n =
+      let is : Holds (most_entries w.root) row.of = row_here n in
       record {
-        long = p.stored.long ∙ rows.long;
-        low = stored_low p.stored rows.low (holds-low Entries w.root is few-below);
-        on = pushed p.stored w below (base_is ok o inside ek ef ec) is (rest w.depth w.traps w.loops w.context w.root below on-top);
+        long = length-set stack (unused - c) row ∙ rows.long;
+        low = stored_low stack row (unused - c) fits-here rows.low (holds-low Entries w.root is few-below);
+        on = pushed stack row (unused - c) w below fits-here (base_is ok o inside ek ef ec) is (rest w.depth w.traps w.loops w.context w.root below on-top);
       }
 
 -- after the last node
-pub program-says : {p : Stmt} {us : List Waiting} {unused i : ℕ} {stack row : List ℕ} → Before p us unused i → size p ≤ i → Rows us stack → RowAt stack 0 row → Holds (most_entries p) row
-program-says {p} {stack = stack} {row = row} b le rows r = go (subst (On stack) (at_last p b.waits le) rows.on)
+pub program-says : {p : Stmt} {us : List Waiting} {unused i : ℕ} {stack : List Row} → Before p us unused i → size p ≤ i → Rows us stack → Holds (most_entries p) (numbers_at stack 0)
+program-says {p} {stack = stack} b le rows = go (subst (On stack) (at_last p b.waits le) rows.on)
   where
-    go : On stack (program p ∷ []) → Holds (most_entries p) row
-    go (more _ _ e h) = said e r
+    go : On stack (program p ∷ []) → Holds (most_entries p) (numbers_at stack 0)
+    go (more _ _ e h) = e

@@ -3,7 +3,7 @@ use mathlib.Core.Path.{◌≡◌, refl, sym, ap, ap₂, subst, ◌∙◌}
 use mathlib.Core.Bool.{true}
 use mathlib.Core.Option.{Option, none, some}
 use mathlib.Core.List.{List}
-use Prim.Native.Nat.{ℕ, zero, suc, ◌+◌, ◌-◌, ◌*◌, ◌/◌, ◌≤◌, max}
+use Prim.Native.Nat.{ℕ, zero, suc, ◌+◌, ◌-◌, ◌/◌, ◌≤◌, max}
 use native.Mathlib.Omega.{arith}
 use borrow.Author.Tests.{leb-true}
 use lib.Dec.{leb}
@@ -12,6 +12,7 @@ use lib.Seq.{sets}
 use Rattle.esterel.specs.Limits.{max_nodes}
 use Rattle.esterel.specs.Statement.{Stmt, size, nodes}
 use Rattle.esterel.specs.Table.{passed}
+use Rattle.esterel.specs.Refusal.{yields, rejects}
 use Rattle.esterel.specs.Checks.{verdict}
 use Rattle.esterel.specs.Outcome.{statement_at}
 use Rattle.esterel.specs.Theorems.{Accepted, Closed}
@@ -21,14 +22,10 @@ use Rattle.esterel.proofs.Sizes.{size_pos}
 use Rattle.esterel.proofs.Theorems.{exactness, demand3}
 use Rattle.table.specs.Program.{program_of}
 use Rattle.table.specs.Columns.{stmt_at}
-use Rattle.table.specs.declared.Check.{Check}
-use Rattle.table.specs.declared.Check.TheVariants.{Passed}
-use Rattle.table.specs.declared.Check.TheVariants.{Refused as RefusedCheck}
 use Rattle.table.proofs.Buffers.{sets-front}
 use Rattle.analysis.specs.Passes.{Placed}
-use Rattle.analysis.specs.Analysis.{checked, TableChecked, Sized, SizesChecked}
-use Rattle.analysis.specs.declared.Acceptance.{Acceptance}
-use Rattle.analysis.proofs.Analyses.{table-refused, table-passed, verdict-refused, nodes-are}
+use Rattle.analysis.specs.Analysis.{TableChecked, Sized, SizesChecked}
+use Rattle.analysis.proofs.Analyses.{table-refused, ready, table-passed, verdict-refused, nodes-are}
 use Rattle.analysis.proofs.Nodes.{well_formed_lem}
 use Rattle.analysis.proofs.Theorems.{checked-room, checked-passed}
 use Rattle.starts.specs.declared.Weight.TheVariants.{Entries}
@@ -41,16 +38,14 @@ use Rattle.starts.proofs.Short.{walk-short}
 use Rattle.starts.proofs.Theorems.{few-tests, codes-below}
 use Rattle.starts.proofs.Entries.{first_tick, composed}
 use Rattle.rows.specs.Rows.{value_of, values_of, Picks, Holds}
-use Rattle.rows.specs.Filled.{Formed, RowAt, RowsTo}
-use Rattle.rows.proofs.Said.{row_low, rows_all}
+use Rattle.rows.specs.declared.Row.{Row}
+use Rattle.rows.specs.Filled.{Formed, numbers_at, RowsTo}
+use Rattle.rows.proofs.Said.{row_low}
 use Rattle.walk.specs.declared.Walked.{Walked}
+use Rattle.walk.specs.declared.Ground.{Ground}
 use Rattle.walk.specs.Walks.{Walking, Walks}
-use Rattle.planning.specs.declared.Planned.{Planned}
-use Rattle.planning.specs.declared.Planned.TheVariants.{Entries as EntriesOf}
-use Rattle.planning.specs.declared.Longest.{Longest}
-use Rattle.planning.specs.declared.Longest.TheVariants.{Reached}
 use Rattle.planning.specs.Rows.{larger01, top_of, Tops, AnyCode}
-use Rattle.planning.specs.Planning.{Plans, Hands, refusal_of, longest_refusal}
+use Rattle.planning.specs.Planning.{Plans, reaches, Hands}
 
 -- ---- top
 
@@ -100,32 +95,28 @@ tops p {row} a o = record { long = o.long; some = omega (arith, (top_of_lem p ro
 
 -- ---- most_entries
 
-module _ {t : List ℕ} {a : Acceptance} (o : TableChecked true t a) where
-  verdict-is : verdict t ≡ checked true t
-  verdict-is = sym (checked-room t)
+pub refused_plan : {t : List ℕ} {number node : ℕ} → TableChecked true t (rejects number node) → Plans t (rejects number node)
+refused_plan {t} o = Plans.refuses _ _ (sym (checked-room t) ∙ table-refused o) refl
 
-  pub refused_plan : {r : Planned} (number node : ℕ) → a.check ≡ RefusedCheck number node → r ≡ refusal_of a.check → Plans t r
-  refused_plan number node z e = Plans.refuses number node (verdict-is ∙ table-refused o number node z) (e ∙ ap refusal_of z)
+module _ {t : List ℕ} {d : ℕ} (o : TableChecked true t (yields d)) where
+  pub placed : Placed t
+  placed = (ready o).placed
 
-  module _ (z : a.check ≡ Passed) where
-    pub placed : Placed t
-    placed = (o.ready z).placed
+  passes : verdict t ≡ passed (program_of t)
+  passes = sym (checked-room t) ∙ (table-passed o).1
 
-    passes : verdict t ≡ passed (program_of t)
-    passes = verdict-is ∙ (table-passed o z).1
+  accepted : Accepted (program_of t)
+  accepted = (acceptance t (program_of t) passes).1
 
-    accepted : Accepted (program_of t)
-    accepted = (acceptance t (program_of t) passes).1
+  module _ {row : List ℕ} (h : Holds (most_entries (program_of t)) row) where
+    pub row_tops : Tops row
+    row_tops = tops (program_of t) accepted h
 
-    module _ {row : List ℕ} (h : Holds (most_entries (program_of t)) row) where
-      pub row_tops : Tops row
-      row_tops = tops (program_of t) accepted h
-
-      pub planned : {n : ℕ} → n ≡ top_of row → Plans t (EntriesOf n)
-      planned {n} e =
-          let x = top_of_lem (program_of t) row accepted h in
-          let same : n ≡ x.most = omega (arith, x.is) in
-          Plans.plans (program_of t) x.most passes x.greatest (ap EntriesOf same)
+    pub planned : {n : ℕ} → n ≡ top_of row → Plans t (yields n)
+    planned {n} e =
+        let x = top_of_lem (program_of t) row accepted h in
+        let same : n ≡ x.most = omega (arith, x.is) in
+        Plans.plans (program_of t) x.most passes x.greatest (ap yields same)
 
 -- ---- any_code
 
@@ -138,73 +129,70 @@ any-is =
 
 -- ---- find_longest
 
-module _ (old : List ℕ) {t sizes : List ℕ} {r : Check} (o : SizesChecked (leb tick_answers (length old)) t sizes r) where
-  pub refused-hands : {x : Longest} (number node : ℕ) → r ≡ RefusedCheck number node → x ≡ longest_refusal r → Hands t old old x
-  refused-hands number node z e = Hands.refuses number node (verdict-refused _ r number node o.answer z) (e ∙ ap longest_refusal z) refl
+pub refused-hands : (old : List ℕ) {t sizes : List ℕ} {number node : ℕ} → SizesChecked (leb tick_answers (length old)) t sizes (rejects number node) → Hands t old old (rejects number node)
+refused-hands old o = Hands.refuses _ _ (verdict-refused _ _ _ o.answer) refl refl
 
-  module _ (z : r ≡ Passed) where
-    sized : Sized (leb tick_answers (length old)) t sizes
-    sized = o.sized z
+module _ (old : List ℕ) {t sizes : List ℕ} (o : SizesChecked (leb tick_answers (length old)) t sizes (yields tt)) where
+  sized : Sized (leb tick_answers (length old)) t sizes
+  sized = o.sized refl
 
-    accepts : Accepted (program_of t)
-    accepts = (acceptance t (program_of t) (checked-passed _ t (program_of t) sized.verdict)).1
+  accepts : Accepted (program_of t)
+  accepts = (acceptance t (program_of t) (checked-passed _ t (program_of t) sized.verdict)).1
 
-    count : length t / 2 ≡ size (program_of t)
-    count = nodes-are sized.ready
+  count : length t / 2 ≡ size (program_of t)
+  count = nodes-are sized.ready
 
-    pub formed : Formed t sizes
-    formed = record { well_formed = well_formed_lem sized.ready.placed; measured = sized.measured }
+  pub formed : Formed t sizes
+  formed = record { well_formed = well_formed_lem sized.ready.placed; measured = sized.measured }
 
-    pub all-nodes : length t / 2 ≤ size (program_of t)
-    all-nodes = omega (arith, count)
+  pub all-nodes : length t / 2 ≤ size (program_of t)
+  all-nodes = omega (arith, count)
 
-    pub some-node : 1 ≤ length t / 2
-    some-node = omega (arith, count, size_pos (program_of t))
+  pub some-node : 1 ≤ length t / 2
+  some-node = omega (arith, count, size_pos (program_of t))
 
-    last-is : stmt_at t (length t / 2 - 1) ≡ program_of t
-    last-is = ap (λ i. statement_at (nodes (program_of t)) (i - 1)) count ∙ last-node (program_of t)
+  pub few-nodes : length t / 2 ≤ max_nodes
+  few-nodes = omega (arith, count, sized.few)
 
-    module _ {all : List ℕ} (done : RowsTo Entries t (length t / 2) all) where
-      pub last-room : 64 * (length t / 2 - 1) + 64 ≤ length all
-      last-room = omega (arith, some-node, count, sized.few, done.room)
+  pub last-is : stmt_at t (length t / 2 - 1) ≡ program_of t
+  last-is = ap (λ i. statement_at (nodes (program_of t)) (i - 1)) count ∙ last-node (program_of t)
 
-      module _ {row : List ℕ} (l : RowAt all (length t / 2 - 1) row) where
-        says : Holds (most_entries (program_of t)) row
-        says = record { long = l.long; at = λ k h. ap value_of (l.at k h) ∙ done.at (length t / 2 - 1) k (omega (arith, some-node)) h ∙ ap (λ p. most_entries p k) last-is }
+  few-presents : presents (program_of t) ≤ 511
+  few-presents = omega (arith, few-tests (program_of t), sized.few)
 
-        pub last_tops : Tops row
-        last_tops = tops (program_of t) accepts says
+  room : tick_answers ≤ length old
+  room = leb-true tick_answers (length old) sized.suffices
 
-        module _ {need : List ℕ} (g : AnyCode need) where
-          few-presents : presents (program_of t) ≤ 511
-          few-presents = omega (arith, few-tests (program_of t), sized.few)
+  module _ {rows : List Row} (done : RowsTo Entries t (length t / 2) rows) where
+    says : Holds (most_entries (program_of t)) (numbers_at rows (length t / 2 - 1))
+    says = subst (λ p. Holds (most_entries p) (numbers_at rows (length t / 2 - 1))) last-is (done.at (length t / 2 - 1) (omega (arith, some-node)))
 
-          room : tick_answers ≤ length old
-          room = leb-true tick_answers (length old) sized.suffices
+    pub last_tops : Tops (numbers_at rows (length t / 2 - 1))
+    last_tops = tops (program_of t) accepts says
 
-          pub walking : Walking Entries t sizes all need old (length t / 2 - 1) 0
-          walking =
-              record {
-                formed = formed;
-                top = size (program_of t);
-                within = omega (arith, count, some-node);
-                known = omega arith;
-                filled = rows_all done all-nodes (omega (arith, count));
-                long = g.holds.long;
-                most = 0;
-                low = g.low;
-                few = subst (λ p. 0 + size p ≤ max_nodes) (sym last-is) (omega (arith, sized.few));
-                room = subst (λ p. 0 + presents p ≤ length old) (sym last-is) (omega (arith, few-presents, room));
-              }
+    pub handed : {need new : List ℕ} {x : Walked} {n : ℕ} → AnyCode need → n ≡ top_of (numbers_at rows (length t / 2 - 1)) → Walks Entries (stmt_at t (length t / 2 - 1)) need old new 0 x → Hands t old new (reaches n x.at)
+    handed {need} {new} {x} {n} g en w =
+        let p = program_of t in
+        let below : Below 63 p = subst (Below 63) last-is (codes-below formed.well_formed (length t / 2 - 1)) in
+        let same : walk Entries 63 (stmt_at t (length t / 2 - 1)) (values_of need) ≡ walk Entries 63 p any_code = ap (λ q. walk Entries 63 q (values_of need)) last-is ∙ walk_agree Entries 63 p below (values_of need) any_code (λ k h. g.holds.at k (omega arith)) in
+        let list = answers_of (walk Entries 63 p any_code) in
+        let y = top_of_lem p (numbers_at rows (length t / 2 - 1)) accepts says in
+        let entries : n ≡ y.most = omega (arith, y.is) in
+        let long : x.at ≡ length list = (let k : 0 + length list ≡ length list = omega arith in w.after ∙ ap (λ v. 0 + length (answers_of v)) same ∙ k) in
+        Hands.hands p y.most list sized.verdict y.greatest (composed.found 63 p below y.most y.greatest) (ap₂ reaches entries long)
+        (w.written ∙ ap (λ v. sets old 0 (answers_of v)) same ∙ sets-front list old (omega (arith, walk-short Entries 63 p any_code, few-presents, room)))
 
-          pub handed : {new : List ℕ} {x : Walked} {n m : ℕ} → n ≡ top_of row → Walks Entries (stmt_at t (length t / 2 - 1)) need old new 0 x → m ≡ x.at → Hands t old new (Reached n m)
-          handed {new} {x} {n} {m} en w em =
-              let p = program_of t in
-              let below : Below 63 p = subst (Below 63) last-is (codes-below formed.well_formed (length t / 2 - 1)) in
-              let same : walk Entries 63 (stmt_at t (length t / 2 - 1)) (values_of need) ≡ walk Entries 63 p any_code = ap (λ q. walk Entries 63 q (values_of need)) last-is ∙ walk_agree Entries 63 p below (values_of need) any_code (λ k h. g.holds.at k (omega arith)) in
-              let list = answers_of (walk Entries 63 p any_code) in
-              let y = top_of_lem p row accepts says in
-              let entries : n ≡ y.most = omega (arith, y.is) in
-              let long : m ≡ length list = (let k : 0 + length list ≡ length list = omega arith in em ∙ w.after ∙ ap (λ v. 0 + length (answers_of v)) same ∙ k) in
-              Hands.hands p y.most list sized.verdict y.greatest (composed.found 63 p below y.most y.greatest) (ap₂ Reached entries long)
-              (w.written ∙ ap (λ v. sets old 0 (answers_of v)) same ∙ sets-front list old (omega (arith, walk-short Entries 63 p any_code, few-presents, room)))
+-- the walk over that ground begins at the whole program
+pub walking : {g : Ground} {need old : List ℕ} → g.weight ≡ Entries → SizesChecked (leb tick_answers (length old)) g.table.now g.sizes.now (yields tt) → RowsTo Entries g.table.now (length g.table.now / 2) g.rows.now → AnyCode need → Walking g need old (length g.table.now / 2 - 1) 0
+walking {g} {need} {old} w o done will =
+    record {
+      formed = formed old o;
+      top = length g.table.now / 2;
+      within = omega (arith, some-node old o);
+      known = all-nodes old o;
+      filled = subst (λ x. RowsTo x g.table.now (length g.table.now / 2) g.rows.now) (sym w) done;
+      most = 0;
+      low = will.low;
+      few = subst (λ p. 0 + size p ≤ max_nodes) (sym (last-is old o)) (omega (arith, (o.sized refl).few));
+      room = subst (λ p. 0 + presents p ≤ length old) (sym (last-is old o)) (omega (arith, few-tests (program_of g.table.now), (o.sized refl).few, leb-true tick_answers (length old) (o.sized refl).suffices));
+    }

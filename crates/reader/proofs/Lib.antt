@@ -1,4 +1,4 @@
-pub mod Openings
-pub mod Endings
 pub mod Dialect
+pub mod Endings
+pub mod Openings
 pub mod Readers

@@ -1,207 +1,157 @@
 // The readers of a text: statement, sequence and bracket readers that call each other, the text that is left falling. What they
 // read they write on a sheet (crates/sheet), node by node. Neither an exit without its trap nor too many signals or nodes stop
 // them, since a text outside the grammar is refused first.
+//
+// A reader answers where it ended, or that no text of the grammar goes on so, unless by more levels than a text within the length
+// has.
 #![tactic(auto)]
 
-ghost use Rattle.std.specs.Prelude.{◌≡◌, List, ◌∷◌, ℕ, ◌+◌, ◌-◌, ◌<◌, ◌≤◌, length};
-ghost use Rattle.grammar.specs.Limits.{max_levels};
+ghost use Rattle.std.specs.Prelude.{◌≡◌, List, ◌∷◌, ℕ, ◌+◌, ◌<◌, ◌≤◌, length};
 ghost use Rattle.grammar.specs.Tokens as G;
-ghost use Rattle.grammar.specs.Tree.{Tree, Name, Strength};
+ghost use Rattle.grammar.specs.Tree.{Name};
 ghost use Rattle.grammar.specs.Kernel.{Kernel, added, halt_of, sustain_of, await_loop, await_of, abort_of, expand};
-ghost use Rattle.grammar.specs.Machine.{Frame, branch, then_branch, suspended, aborted, alone, Wanting, expect, want_name, want_abort, a_signal, a_trap, a_present};
-ghost use Rattle.grammar.specs.Progress.{Progress, past, traps_within, past_open};
-ghost use Rattle.sheet.specs.Sheet.{max_counted, part, Part, Filled, Adds};
+ghost use Rattle.grammar.specs.Machine.{branch, then_branch, suspended, aborted, alone, expect, want_name, want_abort, a_present};
+ghost use Rattle.grammar.specs.Progress.{Progress, past, traps_within};
+ghost use Rattle.sheet.specs.Sheet.{max_counted, name_at, InText, Filled, Adds};
 ghost use Rattle.scan.specs.Scanning.{Lacks};
-ghost use Rattle.reader.specs.Reading.{OpenedFrom, NamedLeaf, LeafOf, FrameOf, AbortOf, guard_done, Room, Ready, WholeIs, end_of, StatementRead, SequenceRead, RestRead, Plain, PlainEnd};
-ghost use Rattle.reader.specs.declared.Form as F;
 ghost use Rattle.reader.specs.declared.Opened.TheVariants.{Whole, Inside};
-ghost use Rattle.reader.specs.declared.Form.TheVariants as FV;
+ghost use Rattle.reader.specs.Reading.{leaf_of, LeafIn, strength_of, frame_of, FrameIn, NamedIn, OpenedFrom, guard_done, Room, Ready, Enters, end_of, StatementRead, SequenceRead, RestRead, Plain, PlainEnd};
 
-use scan::{Called, Mark, Opening, Past, Token};
+use scan::{Mark, Opening, Part, Token};
+use sheet::{Kind, Sheet};
 
-// What an open statement goes on with: branches of a bracket, a body up to `end`, a then branch, an else branch alone, a body up
-// to `when`, a body up to `when` and `end`.
+// A statement without children, with its name.
 #[derive(Clone, Copy)]
-pub enum Form {
-    Bracket,
-    Body,
-    Then,
-    Else,
-    Suspend,
-    Abort,
+pub enum Leaf {
+    Nothing,
+    Pause,
+    Emit(Part),
+    Exit(Part),
+    Halt,
+    Sustain(Part),
+    Await(Part),
 }
 
-// The forms of the everyday dialect, beside the kinds of nodes.
-const HALT: u16 = 12;
+// Whether an abort suspends its body.
+#[derive(Clone, Copy)]
+pub enum Strength {
+    Strong,
+    Weak,
+}
 
-const SUSTAIN: u16 = 13;
+// A statement that is open, by what it goes on with, with its name if that came first: branches of a bracket; the body of a
+// signal, a loop or a trap; a then branch, or an else branch alone; a body up to `when`, and that of an abort.
+#[derive(Clone, Copy)]
+pub enum Frame {
+    Bracket,
+    Signal(Part),
+    Loop,
+    Trap(Part),
+    Then(Part),
+    Else(Part),
+    Suspend,
+    Abort(Strength),
+}
 
-const AWAIT: u16 = 14;
-
-const ABORT: u16 = 15;
-
-const WEAK_ABORT: u16 = 16;
-
-// The beginning of a statement: all of one without children, or one that is open. Both with the kind of its node, or its form, and
-// the places of its name, which are the same where it has none so far.
+// The beginning of a statement, and where it ends: all of one without children, or one that is open.
 #[derive(Clone, Copy)]
 pub enum Opened {
-    Whole {
-        kind: u16,
-        start: usize,
-        stop: usize,
-        end: usize,
-    },
-    Inside {
-        form: Form,
-        kind: u16,
-        start: usize,
-        stop: usize,
-        end: usize,
-    },
-    Unopened,
+    Whole { leaf: Leaf, end: usize },
+    Inside { frame: Frame, end: usize },
 }
 
-// What a reader found: where it ended and how many nodes are written then; or that no text of the grammar goes on so, unless by
-// more levels than a text within the length has.
-#[derive(Clone, Copy)]
-pub enum Found {
-    Read { end: usize, nodes: usize },
-    Unread,
-}
-
-// After `emit`, `exit`, `sustain` or `await`.
-fn open_leaf(text: &[u8], at: usize, kind: u16) -> Opened
-    requires { at ≤ length text.now }
-    ensures { (w : Wanting) → NamedLeaf kind w → OpenedFrom (want_name w) text.now at result }
+// A beginning of one word or sign, or of a name after it.
+fn whole(leaf: Leaf, end: usize) -> Opened
+    ensures { result ≡ Whole leaf end }
 {
-    let Called::Named { start, stop } = scan::next_name(text, at) else {
-        return Opened::Unopened;
-    };
-    Opened::Whole {
-        kind,
-        start,
-        stop,
-        end: stop,
-    }
+    Opened::Whole { leaf, end }
 }
 
-// After `signal` or `trap`.
-fn open_body(text: &[u8], at: usize, kind: u16) -> Opened
-    requires { at ≤ length text.now }
-    ensures { (kind ≡ 5 → OpenedFrom (want_name a_signal) text.now at result) × (kind ≡ 11 → OpenedFrom (want_name a_trap) text.now at result) }
+fn inside(frame: Frame, end: usize) -> Opened
+    ensures { result ≡ Inside frame end }
 {
-    let Called::Named { start, stop } = scan::next_name(text, at) else {
-        return Opened::Unopened;
-    };
-    let Past::At(end) = scan::past_mark(text, stop, Mark::In) else {
-        return Opened::Unopened;
-    };
-    Opened::Inside {
-        form: Form::Body,
-        kind,
-        start,
-        stop,
-        end,
-    }
+    Opened::Inside { frame, end }
+}
+
+// A name and `in`, and where they end: after `signal` or `trap`.
+fn name_in(text: &[u8], at: usize) -> Option<(Part, usize)>
+    requires { at ≤ length text.now }
+    ensures { NamedIn text.now at result }
+{
+    let name = scan::next_name(text, at)?;
+    let end = scan::past_mark(text, name.stop, Mark::In)?;
+    Some((name, end))
 }
 
 // After `present`.
-fn open_present(text: &[u8], at: usize) -> Opened
+fn open_present(text: &[u8], at: usize) -> Option<Opened>
     requires { at ≤ length text.now }
     ensures { OpenedFrom (want_name a_present) text.now at result }
 {
-    let Called::Named { start, stop } = scan::next_name(text, at) else {
-        return Opened::Unopened;
-    };
-    if let Past::At(end) = scan::past_mark(text, stop, Mark::Then) {
-        return Opened::Inside {
-            form: Form::Then,
-            kind: sheet::PRESENT,
-            start,
-            stop,
-            end,
-        };
+    let name = scan::next_name(text, at)?;
+    if let Some(end) = scan::past_mark(text, name.stop, Mark::Then) {
+        return Some(inside(Frame::Then(name), end));
     }
-    let Past::At(end) = scan::past_mark(text, stop, Mark::Else) else {
-        return Opened::Unopened;
-    };
-    Opened::Inside {
-        form: Form::Else,
-        kind: sheet::PRESENT,
-        start,
-        stop,
-        end,
-    }
-}
-
-// A beginning of one word or sign: a whole statement, or an open one.
-fn bare(kind: u16, end: usize) -> Opened
-    ensures { result ≡ Whole kind end end end }
-{
-    Opened::Whole {
-        kind,
-        start: end,
-        stop: end,
-        end,
-    }
-}
-
-fn bare_inside(form: Form, kind: u16, end: usize) -> Opened
-    ensures { result ≡ Inside form kind end end end }
-{
-    Opened::Inside {
-        form,
-        kind,
-        start: end,
-        stop: end,
-        end,
-    }
+    let end = scan::past_mark(text, name.stop, Mark::Else)?;
+    Some(inside(Frame::Else(name), end))
 }
 
 // After `weak`.
-fn open_weak(text: &[u8], at: usize) -> Opened
+fn open_weak(text: &[u8], at: usize) -> Option<Opened>
     requires { at ≤ length text.now }
     ensures { OpenedFrom want_abort text.now at result }
 {
     let scanned = scan::next_token(text, at);
-    let token = scanned.token;
-    let end = scanned.end;
-    let Token::Opens(opening) = token else {
-        return Opened::Unopened;
-    };
-    match opening {
-        Opening::Abort => bare_inside(Form::Abort, WEAK_ABORT, end),
-        _ => Opened::Unopened,
+    let end = scanned.part.stop;
+    match scanned.token {
+        Token::Opens(Opening::Abort) => Some(inside(Frame::Abort(Strength::Weak), end)),
+        _ => None,
     }
 }
 
 // The beginning of a statement.
-fn open(text: &[u8], at: usize) -> Opened
+fn open(text: &[u8], at: usize) -> Option<Opened>
     requires { at ≤ length text.now }
     ensures { OpenedFrom expect text.now at result }
 {
     let scanned = scan::next_token(text, at);
-    let token = scanned.token;
-    let end = scanned.end;
-    let Token::Opens(opening) = token else {
-        return Opened::Unopened;
+    let end = scanned.part.stop;
+    let Token::Opens(opening) = scanned.token else {
+        return None;
     };
     match opening {
-        Opening::Nothing => bare(sheet::NOTHING, end),
-        Opening::Pause => bare(sheet::PAUSE, end),
-        Opening::Emit => open_leaf(text, end, sheet::EMIT),
-        Opening::Exit => open_leaf(text, end, sheet::EXIT),
-        Opening::Signal => open_body(text, end, sheet::SIGNAL),
-        Opening::Trap => open_body(text, end, sheet::TRAP),
-        Opening::Loop => bare_inside(Form::Body, sheet::LOOP, end),
+        Opening::Nothing => Some(whole(Leaf::Nothing, end)),
+        Opening::Pause => Some(whole(Leaf::Pause, end)),
+        Opening::Emit => {
+            let name = scan::next_name(text, end)?;
+            Some(whole(Leaf::Emit(name), name.stop))
+        }
+        Opening::Exit => {
+            let name = scan::next_name(text, end)?;
+            Some(whole(Leaf::Exit(name), name.stop))
+        }
+        Opening::Signal => {
+            let (name, end) = name_in(text, end)?;
+            Some(inside(Frame::Signal(name), end))
+        }
+        Opening::Trap => {
+            let (name, end) = name_in(text, end)?;
+            Some(inside(Frame::Trap(name), end))
+        }
+        Opening::Loop => Some(inside(Frame::Loop, end)),
         Opening::Present => open_present(text, end),
-        Opening::Suspend => bare_inside(Form::Suspend, sheet::SUSPEND, end),
-        Opening::Bracket => bare_inside(Form::Bracket, sheet::PARALLEL, end),
-        Opening::Halt => bare(HALT, end),
-        Opening::Sustain => open_leaf(text, end, SUSTAIN),
-        Opening::Await => open_leaf(text, end, AWAIT),
-        Opening::Abort => bare_inside(Form::Abort, ABORT, end),
+        Opening::Suspend => Some(inside(Frame::Suspend, end)),
+        Opening::Bracket => Some(inside(Frame::Bracket, end)),
+        Opening::Halt => Some(whole(Leaf::Halt, end)),
+        Opening::Sustain => {
+            let name = scan::next_name(text, end)?;
+            Some(whole(Leaf::Sustain(name), name.stop))
+        }
+        Opening::Await => {
+            let name = scan::next_name(text, end)?;
+            Some(whole(Leaf::Await(name), name.stop))
+        }
+        Opening::Abort => Some(inside(Frame::Abort(Strength::Strong), end)),
         Opening::Weak => open_weak(text, end),
     }
 }
@@ -210,441 +160,245 @@ fn open(text: &[u8], at: usize) -> Opened
 // counted, and the one that they share, for the await loop, 12: more than they need, and one number for all.
 
 // `halt`: a loop of pause.
-fn put_halt(nodes: usize, sheet: &mut [u16; sheet::ROOM]) -> usize
-    requires { nodes + 16 ≤ max_counted }
-    ensures { (result ≡ nodes + 2) × ((x : List ℕ) → Adds x sheet.old nodes sheet.new result (λ ts g. past ts halt_of g)) }
+fn put_halt(sheet: &mut Sheet)
+    requires { sheet.old.nodes + 16 ≤ max_counted }
+    ensures nodes { sheet.new.nodes ≡ sheet.old.nodes + 2 }
+    ensures adds { (x : List ℕ) → Adds x sheet.old sheet.new (λ ts g. past ts halt_of g) }
 {
-    let body = sheet::put(sheet, nodes, sheet::PAUSE, 0);
-    sheet::put(sheet, body, sheet::LOOP, 0)
+    sheet.put(Kind::Pause, 0);
+    sheet.put(Kind::Loop, 0);
 }
 
 // `sustain`: a loop of emit and pause.
-fn put_sustain(
-    text: &[u8],
-    start: usize,
-    stop: usize,
-    nodes: usize,
-    sheet: &mut [u16; sheet::ROOM],
-) -> usize
-    requires { nodes + 16 ≤ max_counted }
-    ensures { (result ≡ nodes + 4) × (Part text.now start stop → Adds text.now sheet.old nodes sheet.new result (λ ts g. past ts (sustain_of (part text.now start stop)) g)) }
+fn put_sustain(text: &[u8], name: Part, sheet: &mut Sheet)
+    requires { sheet.old.nodes + 16 ≤ max_counted }
+    ensures nodes { sheet.new.nodes ≡ sheet.old.nodes + 4 }
+    ensures adds { InText text.now name → Adds text.now sheet.old sheet.new (λ ts g. past ts (sustain_of (name_at text.now name)) g) }
 {
-    let number = sheet::note(text, sheet, start, stop);
-    let first = sheet::put(sheet, nodes, sheet::EMIT, number);
-    let second = sheet::put(sheet, first, sheet::PAUSE, 0);
-    let body = sheet::put(sheet, second, sheet::SEQUENCE, 0);
-    sheet::put(sheet, body, sheet::LOOP, 0)
+    sheet.put_met(text, Kind::Emit, name);
+    sheet.put(Kind::Pause, 0);
+    sheet.put(Kind::Sequence, 0);
+    sheet.put(Kind::Loop, 0);
 }
 
 // The loop of await and abort: pause, and an exit of the added trap if the signal is present.
-fn put_await_loop(
-    text: &[u8],
-    start: usize,
-    stop: usize,
-    nodes: usize,
-    sheet: &mut [u16; sheet::ROOM],
-) -> usize
-    requires { nodes + 12 ≤ max_counted }
-    ensures { (result ≡ nodes + 6) × (Part text.now start stop → (ts : List Name) → Adds text.now sheet.old nodes sheet.new result (λ us g. past (added ∷ ts) (await_loop (part text.now start stop)) g)) }
+fn put_await_loop(text: &[u8], name: Part, sheet: &mut Sheet)
+    requires { sheet.old.nodes + 12 ≤ max_counted }
+    ensures nodes { sheet.new.nodes ≡ sheet.old.nodes + 6 }
+    ensures adds { InText text.now name → (ts : List Name) → Adds text.now sheet.old sheet.new (λ us g. past (added ∷ ts) (await_loop (name_at text.now name)) g) }
 {
-    let first = sheet::put(sheet, nodes, sheet::PAUSE, 0);
-    sheet::note(text, sheet, start, stop);
-    let exits = sheet::put(sheet, first, sheet::EXIT, 0);
-    let missing = sheet::put(sheet, exits, sheet::NOTHING, 0);
-    let test = sheet::put_named(text, sheet, missing, sheet::PRESENT, start, stop);
-    let body = sheet::put(sheet, test, sheet::SEQUENCE, 0);
-    sheet::put(sheet, body, sheet::LOOP, 0)
+    sheet.put(Kind::Pause, 0);
+    sheet.note(text, name);
+    sheet.put(Kind::Exit, 0);
+    sheet.put(Kind::Nothing, 0); // the branch that is missing
+    sheet.put_named(text, Kind::Present, name);
+    sheet.put(Kind::Sequence, 0);
+    sheet.put(Kind::Loop, 0);
 }
 
 // `await`: a trap around that loop.
-fn put_await(
-    text: &[u8],
-    start: usize,
-    stop: usize,
-    nodes: usize,
-    sheet: &mut [u16; sheet::ROOM],
-) -> usize
-    requires { nodes + 16 ≤ max_counted }
-    ensures { (result ≡ nodes + 7) × (Part text.now start stop → Adds text.now sheet.old nodes sheet.new result (λ ts g. past ts (await_of (part text.now start stop)) g)) }
+fn put_await(text: &[u8], name: Part, sheet: &mut Sheet)
+    requires { sheet.old.nodes + 16 ≤ max_counted }
+    ensures nodes { sheet.new.nodes ≡ sheet.old.nodes + 7 }
+    ensures adds { InText text.now name → Adds text.now sheet.old sheet.new (λ ts g. past ts (await_of (name_at text.now name)) g) }
 {
-    let body = put_await_loop(text, start, stop, nodes, sheet);
-    sheet::put(sheet, body, sheet::TRAP, 0)
+    put_await_loop(text, name, sheet);
+    sheet.put(Kind::Trap, 0);
 }
 
 // The nodes of a statement without children.
-fn put_leaf(
-    text: &[u8],
-    kind: u16,
-    start: usize,
-    stop: usize,
-    nodes: usize,
-    sheet: &mut [u16; sheet::ROOM],
-) -> usize
-    requires { nodes + 16 ≤ max_counted }
-    ensures { (nodes ≤ result) × (result ≤ nodes + 7) × ((l : Tree) → LeafOf kind (part text.now start stop) l → Part text.now start stop → Adds text.now sheet.old nodes sheet.new result (λ ts g. past ts (expand l) g)) }
+fn put_leaf(text: &[u8], leaf: Leaf, sheet: &mut Sheet)
+    requires { sheet.old.nodes + 16 ≤ max_counted }
+    ensures nodes { sheet.new.nodes ≤ sheet.old.nodes + 7 }
+    ensures adds { LeafIn text.now leaf → Adds text.now sheet.old sheet.new (λ ts g. past ts (expand (leaf_of text.now leaf)) g) }
 {
-    if kind == sheet::EMIT {
-        let number = sheet::note(text, sheet, start, stop);
-        return sheet::put(sheet, nodes, sheet::EMIT, number);
-    }
-    if kind == sheet::EXIT {
-        return sheet::put_exit(text, sheet, nodes, start, stop);
-    }
-    if kind == HALT {
-        return put_halt(nodes, sheet);
-    }
-    if kind == SUSTAIN {
-        return put_sustain(text, start, stop, nodes, sheet);
-    }
-    if kind == AWAIT {
-        return put_await(text, start, stop, nodes, sheet);
-    }
-    sheet::put(sheet, nodes, kind, 0)
-}
-
-// What a beginning that is a whole statement, or none, comes to.
-fn read_whole(text: &[u8], opened: Opened, nodes: usize, sheet: &mut [u16; sheet::ROOM]) -> Found
-    requires { nodes + 16 ≤ max_counted }
-    ensures { WholeIs text.now sheet.old nodes sheet.new opened result }
-{
-    let Opened::Whole {
-        kind,
-        start,
-        stop,
-        end,
-    } = opened
-    else {
-        return Found::Unread;
-    };
-    let nodes = put_leaf(text, kind, start, stop, nodes, sheet);
-    Found::Read { end, nodes }
-}
-
-// What is done before a body: a signal is noted, a trap comes around it.
-fn enter_body(text: &[u8], kind: u16, start: usize, stop: usize, sheet: &mut [u16; sheet::ROOM])
-    ensures { (n : ℕ) (f : Frame) → FrameOf FV.Body kind (part text.now start stop) f → Part text.now start stop → (ts : List Name) (g : Progress) → length ts < max_levels → Filled text.now sheet.old n ts g → Filled text.now sheet.new n (traps_within f ts) (past_open ts f g) }
-{
-    if kind == sheet::SIGNAL {
-        sheet::note(text, sheet, start, stop);
-        return;
-    }
-    if kind == sheet::TRAP {
-        sheet::enter_trap(sheet, start, stop);
-        return;
+    match leaf {
+        Leaf::Nothing => sheet.put(Kind::Nothing, 0),
+        Leaf::Pause => sheet.put(Kind::Pause, 0),
+        Leaf::Emit(name) => sheet.put_met(text, Kind::Emit, name),
+        Leaf::Exit(name) => sheet.put_exit(text, name),
+        Leaf::Halt => put_halt(sheet),
+        Leaf::Sustain(name) => put_sustain(text, name, sheet),
+        Leaf::Await(name) => put_await(text, name, sheet),
     }
 }
 
-// What is done before the first sequence of an open statement. The then branch of a present that has only an else branch is
-// written before it. The trap that an abort adds has no name.
-fn enter(
-    text: &[u8],
-    form: Form,
-    kind: u16,
-    start: usize,
-    stop: usize,
-    nodes: usize,
-    sheet: &mut [u16; sheet::ROOM],
-) -> usize
-    requires { nodes ≤ max_counted }
-    ensures { (nodes ≤ result) × (result ≤ nodes + 1) × ((f : Frame) → FrameOf form kind (part text.now start stop) f → Part text.now start stop → (ts : List Name) (g : Progress) → length ts < max_levels → Filled text.now sheet.old nodes ts g → Filled text.now sheet.new result (traps_within f ts) (past_open ts f g)) }
+// What is done before the first sequence of an open statement: a signal is noted, a trap comes around it. The then branch of a
+// present that has only an else branch is written before it. The trap that an abort adds has no name.
+fn enter(text: &[u8], frame: Frame, sheet: &mut Sheet)
+    requires { sheet.old.nodes ≤ max_counted }
+    ensures nodes { sheet.new.nodes ≤ sheet.old.nodes + 1 }
+    ensures enters { FrameIn text.now frame → Enters text.now sheet.old sheet.new (frame_of text.now frame) }
 {
-    match form {
-        Form::Else => {
-            sheet::note(text, sheet, start, stop);
-            sheet::put(sheet, nodes, sheet::NOTHING, 0)
+    match frame {
+        Frame::Signal(name) | Frame::Then(name) => {
+            sheet.note(text, name);
         }
-        Form::Then => {
-            sheet::note(text, sheet, start, stop);
-            nodes
+        Frame::Else(name) => {
+            sheet.note(text, name);
+            sheet.put(Kind::Nothing, 0);
         }
-        Form::Body => {
-            enter_body(text, kind, start, stop, sheet);
-            nodes
-        }
-        Form::Abort => {
-            sheet::enter_trap(sheet, start, stop);
-            nodes
-        }
-        _ => nodes,
+        Frame::Trap(name) => sheet.enter_trap(name),
+        Frame::Abort(_) => sheet.enter_trap(Part { start: 0, stop: 0 }),
+        _ => {}
     }
 }
 
 // The node of a body, or of an only else branch, that ended.
-fn put_end(
-    text: &[u8],
-    kind: u16,
-    start: usize,
-    stop: usize,
-    nodes: usize,
-    sheet: &mut [u16; sheet::ROOM],
-) -> usize
-    requires { nodes ≤ max_counted }
-    ensures { (result ≡ nodes + 1) × ((form : F.Form) (f : Frame) → FrameOf form kind (part text.now start stop) f → PlainEnd form → Part text.now start stop → (ts : List Name) (g : Progress) → Filled text.now sheet.old nodes (traps_within f ts) g → Filled text.now sheet.new result ts (end_of f g)) }
+fn put_end(text: &[u8], frame: Frame, sheet: &mut Sheet)
+    requires nodes { sheet.old.nodes ≤ max_counted }
+    requires plain { PlainEnd frame }
+    ensures nodes { sheet.new.nodes ≡ sheet.old.nodes + 1 }
+    ensures ends { FrameIn text.now frame → (ts : List Name) (g : Progress) → Filled text.now sheet.old (traps_within (frame_of text.now frame) ts) g → Filled text.now sheet.new ts (end_of (frame_of text.now frame) g) }
 {
-    if kind == sheet::LOOP {
-        return sheet::put(sheet, nodes, sheet::LOOP, 0);
+    match frame {
+        Frame::Signal(name) => sheet.put_named(text, Kind::Signal, name),
+        Frame::Else(name) => sheet.put_named(text, Kind::Present, name),
+        Frame::Trap(_) => {
+            sheet.leave_trap();
+            sheet.put(Kind::Trap, 0);
+        }
+        _ => sheet.put(Kind::Loop, 0),
     }
-    if kind == sheet::TRAP {
-        sheet::leave_trap(sheet);
-        return sheet::put(sheet, nodes, sheet::TRAP, 0);
-    }
-    sheet::put_named(text, sheet, nodes, kind, start, stop)
 }
 
 // The end of a body, or of an only else branch.
-fn close_end(
-    text: &[u8],
-    kind: u16,
-    start: usize,
-    stop: usize,
-    at: usize,
-    nodes: usize,
-    sheet: &mut [u16; sheet::ROOM],
-) -> Found
-    requires { Ready text.now at nodes }
-    ensures { (depth : ℕ) (form : F.Form) (f : Frame) → FrameOf form kind (part text.now start stop) f → PlainEnd form → Part text.now start stop → RestRead f text.now at depth sheet.old nodes sheet.new result }
+fn close_end(text: &[u8], frame: Frame, at: usize, sheet: &mut Sheet) -> Option<usize>
+    requires ready { Ready text.now at sheet.old.nodes }
+    requires plain { PlainEnd frame }
+    ensures { (depth : ℕ) → FrameIn text.now frame → RestRead (frame_of text.now frame) text.now at depth sheet.old sheet.new result }
 {
-    let Past::At(end) = scan::past_mark(text, at, Mark::End) else {
-        return Found::Unread;
-    };
-    let nodes = put_end(text, kind, start, stop, nodes, sheet);
-    Found::Read { end, nodes }
+    let end = scan::past_mark(text, at, Mark::End)?;
+    put_end(text, frame, sheet);
+    Some(end)
 }
 
 // The end of a suspend, whose name comes last.
-fn close_when(text: &[u8], at: usize, nodes: usize, sheet: &mut [u16; sheet::ROOM]) -> Found
-    requires { Ready text.now at nodes }
-    ensures { (depth : ℕ) → RestRead suspended text.now at depth sheet.old nodes sheet.new result }
+fn close_when(text: &[u8], at: usize, sheet: &mut Sheet) -> Option<usize>
+    requires { Ready text.now at sheet.old.nodes }
+    ensures { (depth : ℕ) → RestRead suspended text.now at depth sheet.old sheet.new result }
 {
-    let Past::At(named) = scan::past_mark(text, at, Mark::When) else {
-        return Found::Unread;
-    };
-    let Called::Named { start, stop } = scan::next_name(text, named) else {
-        return Found::Unread;
-    };
-    let number = sheet::note(text, sheet, start, stop);
-    let nodes = sheet::put(sheet, nodes, sheet::SUSPEND, number);
-    Found::Read { end: stop, nodes }
+    let named = scan::past_mark(text, at, Mark::When)?;
+    let name = scan::next_name(text, named)?;
+    sheet.put_met(text, Kind::Suspend, name);
+    Some(name.stop)
 }
 
 // The body of an abort is suspended, that of a weak abort is not.
-fn put_guard(
-    text: &[u8],
-    kind: u16,
-    start: usize,
-    stop: usize,
-    nodes: usize,
-    sheet: &mut [u16; sheet::ROOM],
-) -> usize
-    requires { nodes + 16 ≤ max_counted }
-    ensures { (nodes ≤ result) × (result ≤ nodes + 1) × ((w : Strength) → AbortOf kind w → Part text.now start stop → Adds text.now sheet.old nodes sheet.new result (λ ts g. guard_done w (part text.now start stop) g)) }
+fn put_guard(text: &[u8], strength: Strength, name: Part, sheet: &mut Sheet)
+    requires { sheet.old.nodes + 16 ≤ max_counted }
+    ensures nodes { sheet.new.nodes ≤ sheet.old.nodes + 1 }
+    ensures adds { InText text.now name → Adds text.now sheet.old sheet.new (λ ts g. guard_done (strength_of strength) (name_at text.now name) g) }
 {
-    if kind == WEAK_ABORT {
-        return nodes;
+    match strength {
+        Strength::Strong => sheet.put_met(text, Kind::Suspend, name),
+        Strength::Weak => {}
     }
-    let number = sheet::note(text, sheet, start, stop);
-    sheet::put(sheet, nodes, sheet::SUSPEND, number)
 }
 
 // The nodes of an abort after those of its body: a trap around the body and an exit, beside the await loop.
-fn put_abort(
-    text: &[u8],
-    kind: u16,
-    start: usize,
-    stop: usize,
-    nodes: usize,
-    sheet: &mut [u16; sheet::ROOM],
-) -> usize
-    requires { nodes + 16 ≤ max_counted }
-    ensures { (nodes ≤ result) × (result ≤ nodes + 11) × ((w : Strength) → AbortOf kind w → Part text.now start stop → (p : Kernel) (ts : List Name) (g : Progress) → Filled text.now sheet.old nodes (added ∷ ts) (past (added ∷ ts) p g) → Filled text.now sheet.new result ts (past ts (abort_of w (part text.now start stop) p) g)) }
+fn put_abort(text: &[u8], strength: Strength, name: Part, sheet: &mut Sheet)
+    requires { sheet.old.nodes + 16 ≤ max_counted }
+    ensures nodes { sheet.new.nodes ≤ sheet.old.nodes + 11 }
+    ensures adds { InText text.now name → (p : Kernel) (ts : List Name) (g : Progress) → Filled text.now sheet.old (added ∷ ts) (past (added ∷ ts) p g) → Filled text.now sheet.new ts (past ts (abort_of (strength_of strength) (name_at text.now name) p) g) }
 {
-    let guarded = put_guard(text, kind, start, stop, nodes, sheet);
-    let exits = sheet::put(sheet, guarded, sheet::EXIT, 0);
-    let left = sheet::put(sheet, exits, sheet::SEQUENCE, 0);
-    let right = put_await_loop(text, start, stop, left, sheet);
-    let both = sheet::put(sheet, right, sheet::PARALLEL, 0);
-    sheet::leave_trap(sheet);
-    sheet::put(sheet, both, sheet::TRAP, 0)
+    put_guard(text, strength, name, sheet);
+    sheet.put(Kind::Exit, 0);
+    sheet.put(Kind::Sequence, 0);
+    put_await_loop(text, name, sheet);
+    sheet.put(Kind::Parallel, 0);
+    sheet.leave_trap();
+    sheet.put(Kind::Trap, 0);
 }
 
 // The end of an abort.
-fn close_abort(
-    text: &[u8],
-    kind: u16,
-    at: usize,
-    nodes: usize,
-    sheet: &mut [u16; sheet::ROOM],
-) -> Found
-    requires { Ready text.now at nodes }
-    ensures { (depth : ℕ) (w : Strength) → AbortOf kind w → RestRead (aborted w) text.now at depth sheet.old nodes sheet.new result }
+fn close_abort(text: &[u8], strength: Strength, at: usize, sheet: &mut Sheet) -> Option<usize>
+    requires { Ready text.now at sheet.old.nodes }
+    ensures { (depth : ℕ) → RestRead (aborted (strength_of strength)) text.now at depth sheet.old sheet.new result }
 {
-    let Past::At(named) = scan::past_mark(text, at, Mark::When) else {
-        return Found::Unread;
-    };
-    let Called::Named { start, stop } = scan::next_name(text, named) else {
-        return Found::Unread;
-    };
-    let Past::At(end) = scan::past_mark(text, stop, Mark::End) else {
-        return Found::Unread;
-    };
-    let nodes = put_abort(text, kind, start, stop, nodes, sheet);
-    Found::Read { end, nodes }
+    let named = scan::past_mark(text, at, Mark::When)?;
+    let name = scan::next_name(text, named)?;
+    let end = scan::past_mark(text, name.stop, Mark::End)?;
+    put_abort(text, strength, name, sheet);
+    Some(end)
 }
 
 // The end of a statement that has one sequence, and its node.
-fn close(
-    text: &[u8],
-    form: Form,
-    kind: u16,
-    start: usize,
-    stop: usize,
-    at: usize,
-    nodes: usize,
-    sheet: &mut [u16; sheet::ROOM],
-) -> Found
-    requires { Ready text.now at nodes × Plain form }
-    ensures { (depth : ℕ) (f : Frame) → FrameOf form kind (part text.now start stop) f → Part text.now start stop → RestRead f text.now at depth sheet.old nodes sheet.new result }
+fn close(text: &[u8], frame: Frame, at: usize, sheet: &mut Sheet) -> Option<usize>
+    requires ready { Ready text.now at sheet.old.nodes }
+    requires plain { Plain frame }
+    ensures { (depth : ℕ) → FrameIn text.now frame → RestRead (frame_of text.now frame) text.now at depth sheet.old sheet.new result }
 {
-    match form {
-        Form::Suspend => close_when(text, at, nodes, sheet),
-        Form::Abort => close_abort(text, kind, at, nodes, sheet),
-        _ => close_end(text, kind, start, stop, at, nodes, sheet),
+    match frame {
+        Frame::Suspend => close_when(text, at, sheet),
+        Frame::Abort(strength) => close_abort(text, strength, at, sheet),
+        _ => close_end(text, frame, at, sheet),
     }
 }
 
 // The end of a present that has no else branch.
-fn close_then(
-    text: &[u8],
-    at: usize,
-    start: usize,
-    stop: usize,
-    nodes: usize,
-    sheet: &mut [u16; sheet::ROOM],
-) -> Found
-    requires { Ready text.now at nodes × Lacks text.now at (G.mark G.else) × Part text.now start stop }
-    ensures { (depth : ℕ) → RestRead (then_branch (part text.now start stop)) text.now at depth sheet.old nodes sheet.new result }
+fn close_then(text: &[u8], at: usize, name: Part, sheet: &mut Sheet) -> Option<usize>
+    requires ready { Ready text.now at sheet.old.nodes }
+    requires no_else { Lacks text.now at (G.mark G.else) }
+    ensures { (depth : ℕ) → InText text.now name → RestRead (then_branch (name_at text.now name)) text.now at depth sheet.old sheet.new result }
 {
-    let Past::At(end) = scan::past_mark(text, at, Mark::End) else {
-        return Found::Unread;
-    };
-    let missing = sheet::put(sheet, nodes, sheet::NOTHING, 0);
-    let nodes = sheet::put_named(text, sheet, missing, sheet::PRESENT, start, stop);
-    Found::Read { end, nodes }
+    let end = scan::past_mark(text, at, Mark::End)?;
+    sheet.put(Kind::Nothing, 0);
+    sheet.put_named(text, Kind::Present, name);
+    Some(end)
 }
 
-// The statement at a place, with at most `depth` levels in it, after so many nodes.
+// The statement at a place, with at most `depth` levels in it.
 #[cycle(read_bracket_read_else_read_sequence_read_statement)]
-fn read_statement(
-    text: &[u8],
-    at: usize,
-    depth: usize,
-    nodes: usize,
-    sheet: &mut [u16; sheet::ROOM],
-) -> Found
-    requires { Room text.now at nodes }
-    ensures { StatementRead text.now at depth sheet.old nodes sheet.new result }
+fn read_statement(text: &[u8], at: usize, depth: usize, sheet: &mut Sheet) -> Option<usize>
+    requires { Room text.now at sheet.old.nodes }
+    ensures { StatementRead text.now at depth sheet.old sheet.new result }
 {
-    let opened = open(text, at);
-    let Opened::Inside {
-        form,
-        kind,
-        start,
-        stop,
-        end: inner,
-    } = opened
-    else {
-        return read_whole(text, opened, nodes, sheet);
+    let (frame, inner) = match open(text, at)? {
+        Opened::Whole { leaf, end } => {
+            put_leaf(text, leaf, sheet);
+            return Some(end);
+        }
+        Opened::Inside { frame, end } => (frame, end),
     };
     if depth == 0 {
-        return Found::Unread;
+        return None;
     }
-    let begun = enter(text, form, kind, start, stop, nodes, sheet);
-    let body = read_sequence(text, inner, depth - 1, begun, sheet);
-    let Found::Read {
-        end: last,
-        nodes: inside,
-    } = body
-    else {
-        return Found::Unread;
-    };
-    match form {
-        Form::Bracket => read_bracket(text, last, depth - 1, inside, sheet),
-        Form::Then => read_else(text, last, start, stop, depth - 1, inside, sheet),
-        _ => close(text, form, kind, start, stop, last, inside, sheet),
+    enter(text, frame, sheet);
+    let last = read_sequence(text, inner, depth - 1, sheet)?;
+    match frame {
+        Frame::Bracket => read_bracket(text, last, depth - 1, sheet),
+        Frame::Then(name) => read_else(text, last, name, depth - 1, sheet),
+        _ => close(text, frame, last, sheet),
     }
 }
 
 // The sequence at a place: statements with semicolons between them, which group to the left.
 #[cycle(read_bracket_read_else_read_sequence_read_statement)]
-pub fn read_sequence(
-    text: &[u8],
-    at: usize,
-    depth: usize,
-    nodes: usize,
-    sheet: &mut [u16; sheet::ROOM],
-) -> Found
-    requires { Room text.now at nodes }
-    ensures { SequenceRead text.now at depth sheet.old nodes sheet.new result }
+pub fn read_sequence(text: &[u8], at: usize, depth: usize, sheet: &mut Sheet) -> Option<usize>
+    requires { Room text.now at sheet.old.nodes }
+    ensures { SequenceRead text.now at depth sheet.old sheet.new result }
 {
-    let first = read_statement(text, at, depth, nodes, sheet);
-    let Found::Read {
-        end: one,
-        nodes: single,
-    } = first
-    else {
-        return Found::Unread;
-    };
-    let mut end = one;
-    let mut total = single;
-    loop {
-        let Past::At(start) = scan::past_mark(text, end, Mark::Semicolon) else {
-            return Found::Read { end, nodes: total };
-        };
-        let found = read_statement(text, start, depth, total, sheet);
-        let Found::Read {
-            end: after,
-            nodes: more,
-        } = found
-        else {
-            return Found::Unread;
-        };
-        end = after;
-        total = sheet::put(sheet, more, sheet::SEQUENCE, 0);
+    let mut end = read_statement(text, at, depth, sheet)?;
+    while let Some(start) = scan::past_mark(text, end, Mark::Semicolon) {
+        end = read_statement(text, start, depth, sheet)?;
+        sheet.put(Kind::Sequence, 0);
     }
+    Some(end)
 }
 
 // The rest of a bracket after its first branch: at least one more, which group to the left.
 #[cycle(read_bracket_read_else_read_sequence_read_statement)]
-fn read_bracket(
-    text: &[u8],
-    at: usize,
-    depth: usize,
-    nodes: usize,
-    sheet: &mut [u16; sheet::ROOM],
-) -> Found
-    requires { Ready text.now at nodes }
-    ensures { RestRead (branch alone) text.now at depth sheet.old nodes sheet.new result }
+fn read_bracket(text: &[u8], at: usize, depth: usize, sheet: &mut Sheet) -> Option<usize>
+    requires { Ready text.now at sheet.old.nodes }
+    ensures { RestRead (branch alone) text.now at depth sheet.old sheet.new result }
 {
-    let Past::At(first) = scan::past_mark(text, at, Mark::Bars) else {
-        return Found::Unread;
-    };
-    let mut start = first;
-    let mut total = nodes;
+    let mut start = scan::past_mark(text, at, Mark::Bars)?;
     loop {
-        let branch = read_sequence(text, start, depth, total, sheet);
-        let Found::Read {
-            end: last,
-            nodes: inside,
-        } = branch
-        else {
-            return Found::Unread;
-        };
-        total = sheet::put(sheet, inside, sheet::PARALLEL, 0);
-        let Past::At(next) = scan::past_mark(text, last, Mark::Bars) else {
-            let Past::At(end) = scan::past_mark(text, last, Mark::Close) else {
-                return Found::Unread;
-            };
-            return Found::Read { end, nodes: total };
+        let last = read_sequence(text, start, depth, sheet)?;
+        sheet.put(Kind::Parallel, 0);
+        let Some(next) = scan::past_mark(text, last, Mark::Bars) else {
+            return scan::past_mark(text, last, Mark::Close);
         };
         start = next;
     }
@@ -652,32 +406,16 @@ fn read_bracket(
 
 // The rest of a present after its then branch.
 #[cycle(read_bracket_read_else_read_sequence_read_statement)]
-fn read_else(
-    text: &[u8],
-    at: usize,
-    start: usize,
-    stop: usize,
-    depth: usize,
-    nodes: usize,
-    sheet: &mut [u16; sheet::ROOM],
-) -> Found
-    requires { Ready text.now at nodes × Part text.now start stop }
-    ensures { RestRead (then_branch (part text.now start stop)) text.now at depth sheet.old nodes sheet.new result }
+fn read_else(text: &[u8], at: usize, name: Part, depth: usize, sheet: &mut Sheet) -> Option<usize>
+    requires ready { Ready text.now at sheet.old.nodes }
+    requires named { InText text.now name }
+    ensures { RestRead (then_branch (name_at text.now name)) text.now at depth sheet.old sheet.new result }
 {
-    let Past::At(first) = scan::past_mark(text, at, Mark::Else) else {
-        return close_then(text, at, start, stop, nodes, sheet);
+    let Some(first) = scan::past_mark(text, at, Mark::Else) else {
+        return close_then(text, at, name, sheet);
     };
-    let branch = read_sequence(text, first, depth, nodes, sheet);
-    let Found::Read {
-        end: last,
-        nodes: inside,
-    } = branch
-    else {
-        return Found::Unread;
-    };
-    let Past::At(end) = scan::past_mark(text, last, Mark::End) else {
-        return Found::Unread;
-    };
-    let nodes = sheet::put_named(text, sheet, inside, sheet::PRESENT, start, stop);
-    Found::Read { end, nodes }
+    let last = read_sequence(text, first, depth, sheet)?;
+    let end = scan::past_mark(text, last, Mark::End)?;
+    sheet.put_named(text, Kind::Present, name);
+    Some(end)
 }

@@ -1,4 +1,3 @@
-pub mod Leaves
 pub mod Values
 pub mod Sweeps
 pub mod Said

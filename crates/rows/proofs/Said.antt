@@ -31,7 +31,8 @@ use Rattle.starts.proofs.Cost.{below-low}
 use Rattle.starts.proofs.Theorems.{few-best, codes-below}
 use Rattle.rows.specs.Rows.{value_of, values_of, max_number, LowRow, Holds}
 use Rattle.rows.specs.Steps.{row_of, IsRow}
-use Rattle.rows.specs.Filled.{Formed, RowAt, Stored, RowsTo}
+use Rattle.rows.specs.declared.Row.{Row}
+use Rattle.rows.specs.Filled.{Formed, numbers_at, RowsTo}
 
 -- ---- one node
 
@@ -140,18 +141,15 @@ module _ {t sizes : List ℕ} (ok : Formed t sizes) where
   size_low j h = omega (arith, spans t j h, few-nodes t ok.measured.readable)
 
   -- the row of a node that is done
-  module _ {w : Weight} {i : ℕ} {rows : List ℕ} (done : RowsTo w t i rows) (j : ℕ) (lt : j < i) {row : List ℕ} (o : RowAt rows j row) where
-    said : Holds (best w (stmt_at t j)) row
-    said = record { long = o.long; at = λ k l. ap value_of (o.at k l) ∙ done.at j k lt l }
+  module _ {w : Weight} {i : ℕ} {rows : List Row} (done : RowsTo w t i rows) (j : ℕ) (lt : j < i) where
+    pub said-low : j < size (program_of t) → LowRow max_number (numbers_at rows j)
+    said-low h = holds-low w (stmt_at t j) (done.at j lt) (size_low j h)
 
-    pub said-low : j < size (program_of t) → LowRow max_number row
-    said-low h = holds-low w (stmt_at t j) said (size_low j h)
+    pub said-few : LowRow (suc (size (stmt_at t j))) (numbers_at rows j)
+    said-few = holds-few w (stmt_at t j) (done.at j lt) (size (stmt_at t j)) (few-best w (stmt_at t j))
 
-    pub said-few : LowRow (suc (size (stmt_at t j))) row
-    said-few = holds-few w (stmt_at t j) said (size (stmt_at t j)) (few-best w (stmt_at t j))
-
-    pub said-is : {p : Stmt} → stmt_at t j ≡ p → values_of row ≡ best w p
-    said-is {p} e = holds-all w (stmt_at t j) said (codes-low j) ∙ ap (best w) e
+    pub said-is : {p : Stmt} → stmt_at t j ≡ p → values_of (numbers_at rows j) ≡ best w p
+    said-is {p} e = holds-all w (stmt_at t j) (done.at j lt) (codes-low j) ∙ ap (best w) e
 
   -- ---- the returns of `row_at`
   module _ {i : ℕ} (h : i < size (program_of t)) {k : Kind} {f n : ℕ} (ek : k ≡ kind_of (get_or t (2 * i) 0)) (ef : f ≡ get_or t (2 * i + 1) 0) (en : n ≡ arity_of k) where
@@ -171,31 +169,28 @@ module _ {t sizes : List ℕ} (ok : Formed t sizes) where
     as_read : {a b r : List ℕ} (s : Stmt) → stmt_at t i ≡ s → OfChildren w s (values_of a) (values_of b) → IsRow w k a b r → Holds (best w (stmt_at t i)) r
     as_read {r = r} s e c o = subst (λ x. Holds (best w x) r) (sym e) (row_is s (sym (kind-is ok.measured h ek en e)) c o)
 
-    module _ {rows : List ℕ} (done : RowsTo w t i rows) where
-      pub one-child : {a b r : List ℕ} → RowAt rows (i - 1) a → IsRow w k a b r → n ≡ 1 → Holds (best w (stmt_at t i)) r
-      one-child last o z =
+    module _ {rows : List Row} (done : RowsTo w t i rows) where
+      pub one-child : {b r : List ℕ} → IsRow w k (numbers_at rows (i - 1)) b r → n ≡ 1 → Holds (best w (stmt_at t i)) r
+      one-child o z =
           let (u, p, v) = one_of ok.measured h ek en refl z in
-          as_read (one u p) v.is (said-is done (i - 1) (omega (arith, v.ends, v.some)) last v.child) o
+          as_read (one u p) v.is (said-is done (i - 1) (omega (arith, v.ends, v.some)) v.child) o
 
-      pub two-child : {a b r : List ℕ} → RowAt rows (i - 1) b → IsRow w k a b r → {s : ℕ} → s ≡ get_or sizes (i - 1) 0 → (n ≡ 0 → ⊥) → (n ≡ 1 → ⊥) → RowAt rows (i - 1 - s) a → Holds (best w (stmt_at t i)) r
-      two-child last o {s} es z y first =
+      pub two-child : {s : ℕ} {r : List ℕ} → IsRow w k (numbers_at rows (i - 1 - s)) (numbers_at rows (i - 1)) r → s ≡ get_or sizes (i - 1) 0 → (n ≡ 0 → ⊥) → (n ≡ 1 → ⊥) → Holds (best w (stmt_at t i)) r
+      two-child {s} o es z y =
           let (c, p, q, v) = two_of_lem ok.measured h ek en es z y in
           as_read (two c p q) v.is
-          (said-is done (i - 1 - s) (omega (arith, v.ends, v.some_right)) first v.left, said-is done (i - 1) (omega (arith, v.ends, v.some_right)) last v.right) o
+          (said-is done (i - 1 - s) (omega (arith, v.ends, v.some_right)) v.left, said-is done (i - 1) (omega (arith, v.ends, v.some_right)) v.right) o
 
 -- ---- the loop of `fill_rows`
 
-pub rows_none : {w : Weight} {t rows : List ℕ} → 64 * max_nodes ≤ length rows → RowsTo w t 0 rows
-rows_none room = record { room = room; at = λ j k h l. absurd (omega arith) }
-
-pub rows_next : {w : Weight} {t : List ℕ} {i : ℕ} {rows rows' row : List ℕ} → RowsTo w t i rows → Holds (best w (stmt_at t i)) row → Stored rows i row rows' → RowsTo w t (i + 1) rows'
-rows_next {w} {t} {i} {rows} {rows'} {row} o h s = record { room = omega (arith, s.long, o.room); at = λ j k l m. go j k l m (dec_lt j i) }
+pub rows_next : {w : Weight} {t : List ℕ} {i : ℕ} {rows : List Row} {row : Row} → RowsTo w t i rows → i < length rows → Holds (best w (stmt_at t i)) row.of → RowsTo w t (i + 1) (set rows i row)
+rows_next {w} {t} {i} {rows} {row} o l h = record { room = rw length-set o.room; at = λ j m. go j m (dec_lt j i) }
   where
-    go : (j k : ℕ) → j < i + 1 → k < 64 → Dec (j < i) → value_of (get_or rows' (64 * j + k) 0) ≡ best w (stmt_at t j) k
-    go j k l m (yes n) = ap value_of (s.kept (64 * j + k) (omega arith)) ∙ o.at j k n m
-    go j k l m (no n) =
-        let z : j ≡ i = omega arith in
-        rw z (ap value_of (s.at k m) ∙ h.at k m)
+    d : Row
+    d = record { of = [] }
 
-pub rows_all : {w : Weight} {t : List ℕ} {i n : ℕ} {rows : List ℕ} → RowsTo w t i rows → i ≤ n → n ≤ i → RowsTo w t n rows
-rows_all {w} {t} {i} {n} {rows} o h l = let z : i ≡ n = omega arith in subst (λ j. RowsTo w t j rows) z o
+    go : (j : ℕ) → j < i + 1 → Dec (j < i) → Holds (best w (stmt_at t j)) (numbers_at (set rows i row) j)
+    go j m (yes n) = rw (numbers_at, get_or-set_other rows i j row d (λ e. omega arith)) (o.at j n)
+    go j m (no n) =
+        let z : j ≡ i = omega arith in
+        rw (z, numbers_at, get_or-set_same rows i row d l) h

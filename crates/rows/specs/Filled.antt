@@ -1,31 +1,24 @@
--- The rows of a program's nodes in one list, 64 numbers for each node.
-use Rattle.std.specs.Prelude.{ℕ, ◌+◌, ◌*◌, ◌<◌, ◌≤◌, ◌≡◌, List, length, get_or}
+-- The rows of a program's nodes.
+use Rattle.std.specs.Prelude.{ℕ, ◌<◌, ◌≤◌, List, [], length, slice_index_or}
 use Rattle.esterel.specs.Limits.{max_nodes}
 use Rattle.esterel.specs.Theorems.{WellFormed}
 use Rattle.table.specs.Program.{program_of}
 use Rattle.table.specs.Columns.{stmt_at, Measured}
 use Rattle.starts.specs.declared.Weight.{Weight}
 use Rattle.starts.specs.Summary.{best}
-use Rattle.rows.specs.Rows.{value_of}
+use Rattle.rows.specs.declared.Row.{Row}
+use Rattle.rows.specs.Rows.{Holds}
 
 -- a table that passes checks 1, 2 and 4 to 10, with the sizes of its subtrees
 pub record Formed (t sizes : List ℕ) : Type 0 where
   pub well_formed : WellFormed t (program_of t)
   pub measured : Measured t sizes
 
--- the row at place j
-pub record RowAt (rows : List ℕ) (j : ℕ) (row : List ℕ) : Type 0 where
-  pub long : length row ≡ 64
-  pub at : (k : ℕ) → k < 64 → get_or row k 0 ≡ get_or rows (64 * j + k) 0
-
--- the list with a row at place j; the others are as they were
-pub record Stored (rows : List ℕ) (j : ℕ) (row rows' : List ℕ) : Type 0 where
-  pub long : length rows' ≡ length rows
-  pub at : (k : ℕ) → k < 64 → get_or rows' (64 * j + k) 0 ≡ get_or row k 0
-  pub kept : (m : ℕ) → m < 64 * j → get_or rows' m 0 ≡ get_or rows m 0
-  pub past : (m : ℕ) → 64 * j + 64 ≤ m → get_or rows' m 0 ≡ get_or rows m 0
+-- the numbers of the row at place j; past the end there are none
+abbrev pub numbers_at : List Row → ℕ → List ℕ
+numbers_at rows j = (slice_index_or rows j (record { of = [] })).of
 
 -- the first i rows are those of the first i nodes
-pub record RowsTo (w : Weight) (t : List ℕ) (i : ℕ) (rows : List ℕ) : Type 0 where
-  pub room : 64 * max_nodes ≤ length rows
-  pub at : (j k : ℕ) → j < i → k < 64 → value_of (get_or rows (64 * j + k) 0) ≡ best w (stmt_at t j) k
+pub record RowsTo (w : Weight) (t : List ℕ) (i : ℕ) (rows : List Row) : Type 0 where
+  pub room : max_nodes ≤ length rows
+  pub at : (j : ℕ) → j < i → Holds (best w (stmt_at t j)) (numbers_at rows j)

@@ -1,12 +1,12 @@
 -- The row of a node with children from theirs, code by code. `f` is what is said of the only child or of the first of two, `g` of the
 -- second; x and y are the preferred of both up to the code.
-use Rattle.std.specs.Prelude.{ℕ, ◌+◌, ◌≤◌, max, ◌≡◌, Bool, true, List, []}
+use Rattle.std.specs.Prelude.{ℕ, ◌+◌, List, []}
 use Rattle.std.proofs.Math.Option.{Option, none, some}
 use Rattle.table.specs.declared.Kind.{Kind}
 use Rattle.table.specs.declared.Kind.TheVariants.{Nothing, Pause, Emit, Exit, Signal, Present, Suspend, Loop, Sequence, Parallel, Trap, Unknown}
 use Rattle.starts.specs.declared.Weight.{Weight}
 use Rattle.starts.specs.Summary.{up_to, tested, without_ended, followed, caught, together, weigh, weights}
-use Rattle.rows.specs.Rows.{value_of, values_of, Gets, Picks, Holds}
+use Rattle.rows.specs.Rows.{value_of, values_of, Gets, Holds}
 
 -- one part of a parallel gives the code, and the other a code up to it
 abbrev pub beside_at : Weight → (a b x y : Option ℕ) → Option ℕ
@@ -31,11 +31,6 @@ inner_at w Unknown f g x y k = none
 -- the code
 pub record IsInner (w : Weight) (kind : Kind) (a b : List ℕ) (x y k r : ℕ) : Type 0 where
   pub gets : Gets (inner_at w kind (values_of a) (values_of b) (value_of x) (value_of y) k) r
-
--- the preferred of a number and those before it, where it is asked for
-pub record UpIf (asked : Bool) (w : Weight) (a up r : ℕ) : Type 0 where
-  pub is : asked ≡ true → Picks w a up r
-  pub low : r ≤ max a up
 
 abbrev pub row_of : Weight → Kind → (f g : ℕ → Option ℕ) → ℕ → Option ℕ
 row_of w kind f g k = together ◌+◌ (some (weigh w [] 1)) (inner_at w kind f g (up_to (weights w) f k) (up_to (weights w) g k) k)

@@ -7,28 +7,22 @@ use native.Mathlib.Numerals.{add-one}
 use native.Mathlib.Omega.{arith}
 use Prim.Native.Char.{code}
 use lib.Dec.{eqb, leb}
-use borrow.Author.Tests.{ne_eqb, eq-eqb}
-use lib.ListN.{length, take, drop, get_or, length-drop}
+use lib.ListN.{length, take, drop, get_or, length-drop, drop_of_length-le}
 use lib.Seq.{drop-cons, take-suc, get_or-drop}
+use Rattle.std.specs.Char.{is_ascii_digit}
+use Rattle.std.specs.List.{list_all}
 use Rattle.grammar.specs.Limits.{max_name}
 use Rattle.grammar.specs.Tokens as G
-use Rattle.grammar.specs.Tokens.{tokens, class_of, word_token, same_bytes, Pending, none, word, first_bar, tokens_after, meet, begins, pending_after, cons_if, beginnings_after, Class, is_letter, is_digit, is_count, sign_of, name_or}
+use Rattle.grammar.specs.Tokens.{tokens, class_of, word_token, Pending, none, word, first_bar, tokens_after, meet, begins, pending_after, cons_if, beginnings_after, Class, is_letter, is_digit, is_count, sign_of, name_or}
 use Rattle.grammar.proofs.Runs.{bar-met, word-met}
 use Rattle.grammar.proofs.Beginnings.{bar-begun, word-begun}
 use Rattle.scan.specs.declared.Token.{Token}
 use Rattle.scan.specs.declared.Token.TheVariants.{Opens, Marks, Names, Foreign, Stray, Finished}
 use Rattle.scan.specs.Scanning.{opening_is, mark_is, token_is, rest, starts, Skipped, Worded, ScannedAs, BeginsAs}
 
-empty : (l : List ℕ) → length l ≡ 0 → l ≡ []
-empty [] e = refl
-empty (b ∷ l) e = let z : ◌≡◌ {A = ℕ} 0 1 = absurd (omega arith) in absurd (omega arith)
-
-pub drop_past : (x : List ℕ) (at : ℕ) → length x ≤ at → drop at x ≡ []
-drop_past x at h = empty (drop at x) (omega (arith, length-drop at x))
-
 pub rest-past : (x : List ℕ) (at : ℕ) → length x ≤ at → rest x at ≡ []
 unfolding rest tokens
-rest-past x at h = rw (drop_past x at h)
+rest-past x at h = rw (drop_of_length-le x h)
 
 -- a byte of a class, with something before it
 pub after_byte : (x : List ℕ) (at : ℕ) (s : Pending) (c : Class) → at < length x → class_of (get_or x at 0) ≡ c → tokens_after s (drop at x) ≡ meet c (get_or x at 0) s (λ n. tokens_after n (drop (at + 1) x))
@@ -40,7 +34,7 @@ begins_byte x at s c h e = rw (add-one, drop-cons x at 0 h, e)
 
 pub starts-past : (x : List ℕ) (at : ℕ) → length x ≤ at → starts x at ≡ []
 unfolding starts
-starts-past x at h = rw (drop_past x at h)
+starts-past x at h = rw (drop_of_length-le x h)
 
 pub blank-begins : (x : List ℕ) (at : ℕ) → at < length x → class_of (get_or x at 0) ≡ G.blank → starts x at ≡ starts x (at + 1)
 unfolding starts
@@ -130,7 +124,7 @@ word_over x at i h e = let m = word-begun (class_of (get_or x i 0)) (get_or x i 
 
 pub word-all : (x : List ℕ) (at i : ℕ) → length x ≤ i → at ∷ beginnings_after i (word (take (i - at) (drop at x))) (drop i x) ≡ at ∷ starts x i
 unfolding starts
-word-all x at i h = rw (drop_past x i h)
+word-all x at i h = rw (drop_of_length-le x h)
 
 pub word-stop : (x : List ℕ) (i : ℕ) (w : List ℕ) → i < length x → (class_of (get_or x i 0) ≡ G.in_word → ⊥) → tokens_after (word w) (drop i x) ≡ word_token w ∷ rest x i
 unfolding rest tokens
@@ -138,27 +132,11 @@ word-stop x i w h e = rw (drop-cons x i 0 h) (word-met (class_of (get_or x i 0))
 
 pub word-last : (x : List ℕ) (i : ℕ) (w : List ℕ) → length x ≤ i → tokens_after (word w) (drop i x) ≡ word_token w ∷ rest x i
 unfolding rest tokens
-word-last x i w h = rw (drop_past x i h)
+word-last x i w h = rw (drop_of_length-le x h)
 
--- byte strings
-pub same_lengths : (a b : List ℕ) → (length a ≡ length b → ⊥) → same_bytes a b ≡ false
-same_lengths [] [] h = absurd (h refl)
-same_lengths [] (b ∷ v) h = refl
-same_lengths (a ∷ w) [] h = refl
-same_lengths (a ∷ w) (b ∷ v) h = rw (same_lengths w v (λ e. h (ap suc e))) (right-false (eqb a b))
-  where
-    right-false : (t : Bool) → (t && false) ≡ false
-    right-false true = refl
-    right-false false = refl
-
-pub bytes_differ : (a b : List ℕ) (i : ℕ) → i < length a → length a ≡ length b → (get_or a i 0 ≡ get_or b i 0 → ⊥) → same_bytes (drop i a) (drop i b) ≡ false
-bytes_differ a b i h l n = rw (drop-cons a i 0 h, drop-cons b i 0 (omega arith), ne_eqb (get_or a i 0) (get_or b i 0) n)
-
-pub bytes_agree : (a b : List ℕ) (i : ℕ) → i < length a → length a ≡ length b → get_or a i 0 ≡ get_or b i 0 → same_bytes (drop i a) (drop i b) ≡ same_bytes (drop (i + 1) a) (drop (i + 1) b)
-bytes_agree a b i h l e = rw (add-one, drop-cons a i 0 h, drop-cons b i 0 (omega arith), eq-eqb (get_or a i 0) (get_or b i 0) e)
-
-pub bytes-end : (a b : List ℕ) (i : ℕ) → length a ≤ i → length a ≡ length b → same_bytes (drop i a) (drop i b) ≡ true
-bytes-end a b i h l = rw (drop_past a i h, drop_past b i (omega arith))
+-- a word that the text ends with
+pub word-closes : (x : List ℕ) (at i : ℕ) → at < length x → length x ≡ i → rest x at ≡ tokens_after (word (take (i - at) (drop at x))) (drop i x) → starts x at ≡ at ∷ beginnings_after i (word (take (i - at) (drop at x))) (drop i x) → Worded x at (length x)
+word-closes x at i h e r s = rw e (record { from = omega arith; to = omega arith; moves = r ∙ word-last x i _ (omega arith); begins = s ∙ word-all x at i (omega arith) })
 
 pub is_name : (w : List ℕ) (t : Bool) → 0 < length w → t ≡ is_letter (get_or w 0 0) → (t && leb (length w) max_name) ≡ true → ◌≡◌ {A = List G.Token} (G.name w ∷ []) (name_or w ∷ [])
 is_name [] t h l e = absurd (omega arith)
@@ -172,15 +150,10 @@ pub neither : (w : List ℕ) (t : Bool) → 0 < length w → t ≡ is_letter (ge
 neither [] t h l e f = absurd (omega arith)
 neither (b ∷ w) t h l e f = rw (← l, e, f)
 
--- digits, one after the other
-pub digit-next : (w : List ℕ) (i : ℕ) → i < length w → is_digit (get_or w i 0) ≡ true → is_count (drop i w) ≡ is_count (drop (i + 1) w)
-digit-next w i h e = rw (add-one, drop-cons w i 0 h, e)
-
-pub no_digit : (w : List ℕ) (i : ℕ) → i < length w → is_digit (get_or w i 0) ≡ false → is_count (drop i w) ≡ false
-no_digit w i h e = rw (drop-cons w i 0 h, e)
-
-pub digits-over : (w : List ℕ) (i : ℕ) → length w ≤ i → is_count (drop i w) ≡ true
-digits-over w i h = rw (drop_past w i h)
+-- digits, as the library's all has them
+pub all-digits : (w : List ℕ) → list_all is_ascii_digit w ≡ is_count w
+all-digits [] = refl
+all-digits (b ∷ w) = ap (λ t. is_digit b && t) (all-digits w)
 
 -- a token after blanks
 pub after_blanks : (x : List ℕ) (at start s e : ℕ) (t : Token) → Skipped x at start → ScannedAs x start s e t → ScannedAs x at s e t

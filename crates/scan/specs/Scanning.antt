@@ -1,5 +1,5 @@
 -- What the scanner's functions answer.
-use Rattle.std.specs.Prelude.{ℕ, ◌<◌, ◌≤◌, ◌-◌, ◌≡◌, Bool, true, false, List, [], ◌∷◌, length, get_or, take, drop}
+use Rattle.std.specs.Prelude.{ℕ, ◌<◌, ◌≤◌, ◌-◌, ◌≡◌, Bool, true, false, List, [], ◌∷◌, length, get_or, take, drop, Option, Some, None}
 use Rattle.grammar.specs.Tokens as G
 use Rattle.grammar.specs.Tokens.{tokens, is_blank, word_token, beginnings_after}
 use Rattle.scan.specs.declared.Opening.{Opening}
@@ -8,10 +8,9 @@ use Rattle.scan.specs.declared.Mark.{Mark}
 use Rattle.scan.specs.declared.Mark.TheVariants.{Semicolon, Bars, Close, In, Then, Else, End, When}
 use Rattle.scan.specs.declared.Token.{Token}
 use Rattle.scan.specs.declared.Token.TheVariants.{Opens, Marks, Names, Foreign, Stray, Finished}
-use Rattle.scan.specs.declared.Past.{Past}
-use Rattle.scan.specs.declared.Past.TheVariants.{At, Not}
-use Rattle.scan.specs.declared.Called.{Called}
-use Rattle.scan.specs.declared.Called.TheVariants.{Named, Nameless}
+use Rattle.scan.specs.declared.Part.{Part}
+use Rattle.scan.specs.declared.Scanned.{Scanned}
+use Rattle.scan.specs.declared.Tokens.{Tokens}
 
 -- the words and signs as the theory has them
 abbrev pub opening_is : Opening → G.Opening
@@ -101,32 +100,34 @@ BeginsAs x at start end Foreign = starts x at ≡ start ∷ starts x end
 BeginsAs x at start end Stray = starts x at ≡ start ∷ starts x end
 BeginsAs x at start end Finished = (starts x at ≡ []) × (start ≡ length x)
 
--- the marks by number
-abbrev pub number_of : G.Mark → ℕ
-number_of G.semicolon = 0
-number_of G.bars = 1
-number_of G.close = 2
-number_of G.in-mark = 3
-number_of G.then = 4
-number_of G.else = 5
-number_of G.end = 6
-number_of G.when = 7
-
 -- the text has no token t next
 pub record Lacks (x : List ℕ) (at : ℕ) (t : G.Token) : Type 0 where
   pub first : (ts : List G.Token) → rest x at ≡ t ∷ ts → ⊥
 
 -- a mark, or not
-abbrev pub PastMark : List ℕ → ℕ → Mark → Past → Type 0
-PastMark x at m (At e) = Lexed x at e (G.mark (mark_is m))
-PastMark x at m Not = Lacks x at (G.mark (mark_is m))
+abbrev pub PastMark : List ℕ → ℕ → Mark → Option ℕ → Type 0
+PastMark x at m (Some e) = Lexed x at e (G.mark (mark_is m))
+PastMark x at m None = Lacks x at (G.mark (mark_is m))
 
 -- a name, or not
-abbrev pub CalledAs : List ℕ → ℕ → Called → Type 0
-CalledAs x at (Named start stop) = NameAt x at start stop
-CalledAs x at Nameless = (n : List ℕ) → Lacks x at (G.name n)
+abbrev pub CalledAs : List ℕ → ℕ → Option Part → Type 0
+CalledAs x at (Some p) = NameAt x at p.start p.stop
+CalledAs x at None = (n : List ℕ) → Lacks x at (G.name n)
 
 -- no token is left
 abbrev pub none : List G.Token → Bool
 none [] = true
 none (t ∷ ts) = false
+
+-- the next token of s is x, and those from t on come after it
+pub record TakesToken (s : Tokens) (x : Scanned) (t : Tokens) : Type 0 where
+  pub text : t.text.now ≡ s.text.now
+  pub at : t.at ≡ x.part.stop
+  pub scanned : ScannedAs s.text.now s.at x.part.start x.part.stop x.token
+  pub begins : BeginsAs s.text.now s.at x.part.start x.part.stop x.token
+  pub one : x.token ≡ Finished → ⊥
+
+-- a token, or none is left
+abbrev pub Takes : Tokens → Option Scanned → Tokens → Type 0
+Takes s (Some x) t = TakesToken s x t
+Takes s None t = (rest s.text.now s.at ≡ []) × (starts s.text.now s.at ≡ [])

@@ -1,13 +1,15 @@
 -- What each store does to the sheet.
-use mathlib.Core.Path.{◌≡◌, refl, sym, ap, ◌∙◌}
-use mathlib.Core.Bool.{Bool, true, false, ◌||◌, not, cond}
+use mathlib.Core.Path.{◌≡◌, refl, sym, ◌∙◌}
+use mathlib.Core.Bool.{Bool, true, false, cond}
 use mathlib.Core.List.{List, [], ◌∷◌, ◌++◌}
-use Prim.Native.Nat.{ℕ, zero, suc, ◌+◌, ◌*◌, ◌%◌, ◌≤◌, ◌<◌, ◌-◌}
+use Prim.Native.Nat.{ℕ, zero, suc, ◌+◌, ◌%◌, ◌≤◌, ◌<◌, ◌-◌}
 use native.Mathlib.Omega.{arith}
-use lib.Dec.{eqb, ltb}
-use lib.ListN.{length, get_or, set, length-set, length-append, get_or-append}
-use lib.Seq.{get_or-set_same, get_or-set_other, get_or_at, get_or-append-add}
-use borrow.Author.Tests.{ltb-true, ltb-false, eqb-true, eqb-false, lt-ltb, le-ltb}
+use lib.Dec.{ltb}
+use lib.ListN.{length, get_or, set, take, drop, length-set, length-append, get_or-append}
+use Rattle.std.specs.Prelude.{Some, None}
+use Rattle.std.proofs.lemmas.List.{get_or-take, get_or-drop}
+use lib.Seq.{length-take-le, get_or-set_same, get_or-set_other, get_or_at}
+use borrow.Author.Tests.{ltb-true, ltb-false, lt-ltb, le-ltb}
 use Rattle.grammar.specs.Tokens.{same_bytes}
 use Rattle.grammar.specs.Tree.{Name}
 use Rattle.grammar.specs.Names.{place, has, see}
@@ -15,7 +17,10 @@ use Rattle.grammar.specs.Progress as P
 use Rattle.grammar.specs.Progress.{Progress, node, leave, blank}
 use Rattle.grammar.specs.Limits.{max_source, max_levels}
 use Rattle.grammar.proofs.Writing.{place_end}
-use Rattle.sheet.specs.Sheet.{sheet_room, signal_count, untrapped_at, trap_count, part, Part, Entry, Listed, FoundAt, flag, Filled, Adds}
+use Rattle.scan.specs.declared.Part as S
+use Rattle.sheet.specs.declared.Kept.{Kept}
+use Rattle.sheet.specs.declared.Sheet.{Sheet}
+use Rattle.sheet.specs.Sheet.{part, Part, name_at, InText, Entry, nowhere, Listed, FoundAs, Filled, Notes, Fresh}
 
 pub place-most : (ns : List Name) (s : Name) → place ns s ≤ length ns
 place-most [] s = omega arith
@@ -32,79 +37,10 @@ empty-bounds x e h = record { order = omega arith; within = h }
 pub empty-part : (x : List ℕ) (e : ℕ) → part x e e ≡ []
 empty-part x e = let z : e - e ≡ 0 = omega arith in rw z
 
--- names whose places in the sheet are the same
-same-entry : (x w w' : List ℕ) (at : ℕ) (s : Name) → get_or w' at 0 ≡ get_or w at 0 → get_or w' (at + 1) 0 ≡ get_or w (at + 1) 0 → Entry x w at s → Entry x w' at s
-same-entry x w w' at s a b k = record { bounds = rw (a, b) k.bounds; is = rw (a, b) k.is }
-
-same-listed : (x w w' : List ℕ) (first : ℕ) (ns : List Name) → ((j : ℕ) → first ≤ j → j < first + 2 * length ns → get_or w' j 0 ≡ get_or w j 0) → Listed x w first ns → Listed x w' first ns
-same-listed x w w' first ns f l = record {
-  at = λ i h. same-entry x w w' (first + 2 * i) (get_or ns i []) (f (first + 2 * i) (omega arith) (omega arith)) (f (first + 2 * i + 1) (omega arith) (omega arith)) (l.at i h);
-}
-
--- two numbers stored next to each other
-module _ (w : List ℕ) (i a b : ℕ) (h : i + 1 < length w) where
-  abbrev pub pair : List ℕ
-  pair = set (set w i a) (i + 1) b
-
-  pub pair-other : (j : ℕ) → (j ≡ i → ⊥) → (j ≡ i + 1 → ⊥) → get_or pair j 0 ≡ get_or w j 0
-  pair-other j f g = get_or-set_other (set w i a) (i + 1) j b 0 g ∙ get_or-set_other w i j a 0 f
-
-  pub pair-first : get_or pair i 0 ≡ a
-  pair-first = get_or-set_other (set w i a) (i + 1) i b 0 (omega arith) ∙ get_or-set_same w i a 0 (omega arith)
-
-  pub pair-second : get_or pair (i + 1) 0 ≡ b
-  pair-second = get_or-set_same (set w i a) (i + 1) b 0 (rw length-set h)
-
-two-more : (out : List ℕ) (n k f : ℕ) → length out ≡ 2 * n → length (out ++ (k ∷ f ∷ [])) ≡ 2 * (n + 1)
-two-more out n k f e = omega (arith, length-append out (k ∷ f ∷ []))
-
--- a sheet whose table alone differs
-table-alone : (x w w' : List ℕ) (n n' : ℕ) (ts : List Name) (g : Progress) (k f : ℕ) → Filled x w n ts g → length w' ≡ length w → n' ≡ n + 1 → ((j : ℕ) → 2048 ≤ j → get_or w' j 0 ≡ get_or w j 0) → ((j : ℕ) → j < 2048 → j < 2 * n → get_or w' j 0 ≡ get_or w j 0) → (2 * n < 2048 → get_or w' (2 * n) 0 ≡ k) → (2 * n + 1 < 2048 → get_or w' (2 * n + 1) 0 ≡ f) → Filled x w' n' ts (node k f g)
-table-alone x w w' n n' ts g k f c l m high low first second = record {
-  room = l ∙ c.room;
-  short = c.short;
-  long = two-more g.bytes n k f c.long ∙ ap (λ (z : ℕ). 2 * z) (sym m);
-  holds = λ q j a b. held q j a b (ltb j (2 * n)) refl (eqb j (2 * n)) refl;
-  counted = λ q. high 2048 (omega arith) ∙ c.counted q;
-  many = λ q. high 2048 (omega arith) ∙ c.many q;
-  names = λ q. same-listed x w w' 2051 g.seen (λ j a b. high j (omega arith)) (c.names q);
-  lost = high 2049 (omega arith) ∙ c.lost;
-  traps = high 2050 (omega arith) ∙ c.traps;
-  few = c.few;
-  around = same-listed x w w' (sheet_room - 2 * length ts) ts (λ j a b. high j (omega (arith, c.few))) c.around;
-}
-  where
-    held : length g.seen ≤ 256 → (j : ℕ) → j < 2048 → j < length (g.bytes ++ (k ∷ f ∷ [])) → (d : Bool) → ltb j (2 * n) ≡ d → (e : Bool) → eqb j (2 * n) ≡ e → get_or w' j 0 ≡ get_or (g.bytes ++ (k ∷ f ∷ [])) j 0
-    held q j a b true y e z =
-        let i : j < 2 * n = ltb-true j (2 * n) y in
-        let o : j < length g.bytes = omega (arith, c.long) in
-        low j a i ∙ c.holds q j a o ∙ sym (get_or-append g.bytes (k ∷ f ∷ []) 0 j o)
-    held q j a b false y true z =
-        let i : j ≡ 2 * n = eqb-true j (2 * n) z in
-        rw i (first (omega arith) ∙ sym (get_or_at g.bytes k (f ∷ []) 0 (2 * n) c.long))
-    held q j a b false y false z =
-        let i : 2 * n ≤ j = ltb-false j (2 * n) y in
-        let o : j ≡ 2 * n → ⊥ = eqb-false j (2 * n) z in
-        let p : j ≡ 2 * n + 1 = omega (arith, two-more g.bytes n k f c.long) in
-        let r : get_or (g.bytes ++ (k ∷ f ∷ [])) (2 * n + 1) 0 ≡ f = rw (← c.long) (get_or-append-add g.bytes (k ∷ f ∷ []) 1 0) in
-        rw p (second (omega arith) ∙ sym r)
-
-pub put_past : (w : List ℕ) (n k f : ℕ) → 2048 ≤ 2 * n + 1 → (x : List ℕ) → Adds x w n w (n + 1) (λ ts g. node k f g)
-put_past w n k f h x ts g c =
-    table-alone x w w n (n + 1) ts g k f c refl refl (λ j a. refl) (λ j a b. refl) (λ z. absurd (omega arith)) (λ z. absurd (omega arith))
-
-pub put_within : (w : List ℕ) (n k f : ℕ) → 2 * n + 1 < 2048 → (x : List ℕ) → Adds x w n (set (set w (2 * n) k) (2 * n + 1) f) (n + 1) (λ ts g. node k f g)
-put_within w n k f h x ts g c =
-    let i : 2 * n + 1 < length w = omega (arith, c.room) in
-    table-alone x w (pair w (2 * n) k f i) n (n + 1) ts g k f c (simp length-set refl) refl
-    (λ j a. pair-other w (2 * n) k f i j (λ z. omega arith) (λ z. omega arith))
-    (λ j a b. pair-other w (2 * n) k f i j (λ z. omega arith) (λ z. omega arith))
-    (λ z. pair-first w (2 * n) k f i) (λ z. pair-second w (2 * n) k f i)
-
 -- the field matters only while the signals are numbered
-pub field-known : (x w : List ℕ) (n : ℕ) (ts : List Name) (g : Progress) (k f f' : ℕ) → (length g.seen ≤ 256 → f ≡ f') → Filled x w n ts (node k f g) → Filled x w n ts (node k f' g)
-field-known x w n ts g k f f' e c = record {
-  room = c.room;
+pub field-known : (x : List ℕ) (w : Sheet) (ts : List Name) (g : Progress) (k f f' : ℕ) → (length g.seen ≤ 256 → f ≡ f') → Filled x w ts (node k f g) → Filled x w ts (node k f' g)
+field-known x w ts g k f f' e c = record {
+  rooms = c.rooms;
   short = c.short;
   long = (length-append g.bytes (k ∷ f' ∷ []) ∙ sym (length-append g.bytes (k ∷ f ∷ []))) ∙ c.long;
   holds = λ q. rw (← e q) (c.holds q);
@@ -135,281 +71,193 @@ nth_end ns s i h E f g = go (ltb i (length ns)) refl
         let m : i ≡ length ns = omega arith in
         rw (get_or_at ns s [] [] i (sym m)) (g m)
 
-module _ (x w : List ℕ) (n start stop : ℕ) (v : Part x start stop) (ts : List Name) (g : Progress) (c : Filled x w n ts g) where
+-- names that are kept in a list are kept in one that agrees with it there
+same-listed : (x : List ℕ) (ks ks' : List Kept) (ns : List Name) → ((i : ℕ) → i < length ns → get_or ks' i nowhere ≡ get_or ks i nowhere) → Listed x ks ns → Listed x ks' ns
+same-listed x ks ks' ns f l = record { at = λ i h. rw (f i h) (l.at i h) }
+
+front-listed : (x : List ℕ) (ks : List Kept) (n : ℕ) (ns : List Name) → length ns ≤ n → Listed x ks ns → Listed x (take n ks) ns
+front-listed x ks n ns h l = same-listed x ks (take n ks) ns (λ i q. get_or-take n ks i nowhere (omega arith)) l
+
+-- a place that is kept is the same place, if a text may have it
+kept-entry : (x : List ℕ) (p : S.Part) (k : Kept) → length x ≤ max_source → k.start ≡ p.start % 65536 → k.stop ≡ p.stop % 65536 → InText x p → Entry x k (name_at x p)
+kept-entry x p k short a e v =
+    let b : k.start ≡ p.start = a ∙ omega (arith, v.order, v.within) in
+    let c : k.stop ≡ p.stop = e ∙ omega (arith, v.within) in
+    record { bounds = rw (b, c) v; is = rw (b, c) }
+
+module _ (x : List ℕ) (p : S.Part) (w : Sheet) where
   abbrev s : Name
-  s = part x start stop
+  s = name_at x p
 
-  -- no more than 256 signals, by the count
-  few-signals : get_or w 2048 0 ≤ 256 → length g.seen ≤ 256
-  few-signals h = go (ltb 256 (length g.seen)) refl
-    where
-      go : (d : Bool) → ltb 256 (length g.seen) ≡ d → length g.seen ≤ 256
-      go true e = absurd (omega (arith, c.many (ltb-true 256 (length g.seen) e)))
-      go false e = ltb-false 256 (length g.seen) e
+  module _ (ts : List Name) (g : Progress) (v : InText x p) (c : Filled x w ts g) where
+    -- no more than 256 signals, by the count
+    few-signals : w.signal_count ≤ 256 → length g.seen ≤ 256
+    few-signals h = go (ltb 256 (length g.seen)) refl
+      where
+        go : (d : Bool) → ltb 256 (length g.seen) ≡ d → length g.seen ≤ 256
+        go true e = absurd (omega (arith, c.many (ltb-true 256 (length g.seen) e)))
+        go false e = ltb-false 256 (length g.seen) e
 
-  many-signals : 256 < get_or w 2048 0 → 256 < length g.seen
-  many-signals h = go (ltb 256 (length g.seen)) refl
-    where
-      go : (d : Bool) → ltb 256 (length g.seen) ≡ d → 256 < length g.seen
-      go true e = ltb-true 256 (length g.seen) e
-      go false e = let l : length g.seen ≤ 256 = ltb-false 256 (length g.seen) e in absurd (omega (arith, c.counted l))
+    many-signals : 256 < w.signal_count → 256 < length g.seen
+    many-signals h = go (ltb 256 (length g.seen)) refl
+      where
+        go : (d : Bool) → ltb 256 (length g.seen) ≡ d → 256 < length g.seen
+        go true e = ltb-true 256 (length g.seen) e
+        go false e = let l : length g.seen ≤ 256 = ltb-false 256 (length g.seen) e in absurd (omega (arith, c.counted l))
 
-  module _ (count : ℕ) (is : count ≡ get_or w 2048 0) where
-    pub note-many : 256 < count → Filled x w n ts (P.note s g)
-    note-many h =
-        let m : 256 < length g.seen = many-signals (omega arith) in
-        let l : length g.seen ≤ length (see g.seen s) = see-long g.seen s in
-        record {
-          room = c.room;
+    module _ (low : w.signal_count ≤ 256) where
+      seen_few : length g.seen ≤ 256
+      seen_few = few-signals low
+
+      seen-count : length g.seen ≡ w.signal_count
+      seen-count = sym (c.counted seen_few)
+
+      front-count : length g.seen ≡ length (take w.signal_count w.signals)
+      front-count = seen-count ∙ sym (length-take-le w.signal_count w.signals (omega (arith, c.rooms.signals)))
+
+      front : Listed x (take w.signal_count w.signals) g.seen
+      front = front-listed x w.signals w.signal_count g.seen (omega (arith, seen-count)) (c.names seen_few)
+
+      known : {i : ℕ} → FoundAs x (take w.signal_count w.signals) p (Some i) → (i ≡ place g.seen s) × (i < length g.seen)
+      known o = (o.1 g.seen v front front-count, rw front-count o.0)
+
+      module _ (o : FoundAs x (take w.signal_count w.signals) p None) where
+        new : see g.seen s ≡ g.seen ++ (s ∷ [])
+        new = let e : has g.seen s ≡ false = le-ltb (place g.seen s) (length g.seen) (omega (arith, o g.seen v front front-count)) in rw e
+
+        longer : length (g.seen ++ (s ∷ [])) ≡ w.signal_count + 1
+        longer = omega (arith, length-append g.seen (s ∷ []), seen-count)
+
+        note-last : w.signal_count ≡ 256 → Filled x (record w { signal_count = w.signal_count + 1 }) ts (P.note s g)
+        note-last e = rw new record {
+          rooms = record { table = c.rooms.table; signals = c.rooms.signals; traps = c.rooms.traps };
           short = c.short;
           long = c.long;
-          holds = λ q. absurd (omega arith);
-          counted = λ q. absurd (omega arith);
-          many = λ q. c.many m;
-          names = λ q. absurd (omega arith);
+          holds = λ q. absurd (omega (arith, longer));
+          counted = λ q. absurd (omega (arith, longer));
+          many = λ q. omega arith;
+          names = λ q. absurd (omega (arith, longer));
           lost = c.lost;
           traps = c.traps;
           few = c.few;
           around = c.around;
         }
 
-    pub number-many : 256 < count → (k : ℕ) → length (see g.seen s) ≤ 256 → k ≡ place (see g.seen s) s
-    number-many h k l = absurd (omega (arith, many-signals (omega arith), see-long g.seen s))
+        module _ (e : w.signal_count < 256) (k : Kept) (b : k.start ≡ p.start % 65536) (f : k.stop ≡ p.stop % 65536) where
+          abbrev ks : List Kept
+          ks = set w.signals w.signal_count k
 
-    module _ (low : count ≤ 256) (r : ℕ) (o : FoundAt x w 2051 count s start stop r) where
-      seen_few : length g.seen ≤ 256
-      seen_few = few-signals (omega arith)
-
-      seen-count : length g.seen ≡ count
-      seen-count = sym (c.counted seen_few) ∙ sym is
-
-      pub placed : r ≡ place g.seen s
-      placed = o.is g.seen v (c.names seen_few) seen-count
-
-      pub note-known : r < count → Filled x w n ts (P.note s g)
-      note-known h =
-          let e : has g.seen s ≡ true = lt-ltb (place g.seen s) (length g.seen) (omega (arith, placed, seen-count)) in
-          let d : see g.seen s ≡ g.seen = rw e in
-          rw d c
-
-      module _ (h : count ≤ r) where
-        new : see g.seen s ≡ g.seen ++ (s ∷ [])
-        new = let e : has g.seen s ≡ false = le-ltb (place g.seen s) (length g.seen) (omega (arith, placed, seen-count)) in rw e
-
-        longer : length (g.seen ++ (s ∷ [])) ≡ count + 1
-        longer = omega (arith, length-append g.seen (s ∷ []), seen-count)
-
-        pub note-last : count ≡ 256 → Filled x (set w 2048 257) n ts (P.note s g)
-        note-last e =
-            let other : (j : ℕ) → (j ≡ 2048 → ⊥) → get_or (set w 2048 257) j 0 ≡ get_or w j 0 = λ j q. get_or-set_other w 2048 j 257 0 q in
-            rw new record {
-              room = simp length-set c.room;
-              short = c.short;
-              long = c.long;
-              holds = λ q. absurd (omega (arith, longer));
-              counted = λ q. absurd (omega (arith, longer));
-              many = λ q. get_or-set_same w 2048 257 0 (omega (arith, c.room));
-              names = λ q. absurd (omega (arith, longer));
-              lost = other 2049 (λ z. omega arith) ∙ c.lost;
-              traps = other 2050 (λ z. omega arith) ∙ c.traps;
-              few = c.few;
-              around = same-listed x w (set w 2048 257) (sheet_room - 2 * length ts) ts (λ j a b. other j (λ z. omega (arith, c.few))) c.around;
-            }
-
-        module _ (e : count < 256) where
-          abbrev w1 : List ℕ
-          w1 = set (set w (2051 + 2 * count) (start % 65536)) (2051 + 2 * count + 1) (stop % 65536)
-
-          abbrev w2 : List ℕ
-          w2 = set w1 2048 ((count + 1) % 65536)
-
-          fits : 2051 + 2 * count + 1 < length w
-          fits = omega (arith, c.room)
-
-          other : (j : ℕ) → (j ≡ 2048 → ⊥) → (j ≡ 2051 + 2 * count → ⊥) → (j ≡ 2051 + 2 * count + 1 → ⊥) → get_or w2 j 0 ≡ get_or w j 0
-          other j p q z = get_or-set_other w1 2048 j _ 0 p ∙ pair-other w (2051 + 2 * count) (start % 65536) (stop % 65536) fits j q z
-
-          begins : get_or w2 (2051 + 2 * count) 0 ≡ start
-          begins = get_or-set_other w1 2048 (2051 + 2 * count) _ 0 (λ z. omega arith) ∙ pair-first w (2051 + 2 * count) (start % 65536) (stop % 65536) fits ∙ omega (arith, v.order, v.within, c.short)
-
-          ends : get_or w2 (2051 + 2 * count + 1) 0 ≡ stop
-          ends = get_or-set_other w1 2048 (2051 + 2 * count + 1) _ 0 (λ z. omega arith) ∙ pair-second w (2051 + 2 * count) (start % 65536) (stop % 65536) fits ∙ omega (arith, v.within, c.short)
-
-          listed : Listed x w2 2051 (g.seen ++ (s ∷ []))
+          listed : Listed x ks (g.seen ++ (s ∷ []))
           listed = record {
-            at = λ i q. nth_end g.seen s i (omega (arith, longer, seen-count)) (λ m. Entry x w2 (2051 + 2 * i) m)
-                (λ l. same-entry x w w2 (2051 + 2 * i) (get_or g.seen i []) (other (2051 + 2 * i) (λ z. omega arith) (λ z. omega (arith, seen-count)) (λ z. omega (arith, seen-count))) (other (2051 + 2 * i + 1) (λ z. omega arith) (λ z. omega (arith, seen-count)) (λ z. omega (arith, seen-count))) ((c.names seen_few).at i l))
-                (λ l. let p : i ≡ count = l ∙ seen-count in rw p record { bounds = rw (begins, ends) v; is = rw (begins, ends) });
+            at = λ i q. nth_end g.seen s i (omega (arith, longer, seen-count)) (λ m. Entry x (get_or ks i nowhere) m)
+                (λ l. rw (get_or-set_other w.signals w.signal_count i k nowhere (λ z. omega (arith, seen-count))) ((c.names seen_few).at i l))
+                (λ l. let z : i ≡ w.signal_count = l ∙ seen-count in rw (z, get_or-set_same w.signals w.signal_count k nowhere (omega (arith, c.rooms.signals))) (kept-entry x p k c.short b f v));
           }
 
-          pub note-new : Filled x w2 n ts (P.note s g)
+          note-new : Filled x (record w { signals = ks; signal_count = w.signal_count + 1 }) ts (P.note s g)
           note-new = rw new record {
-            room = simp length-set c.room;
+            rooms = record { table = c.rooms.table; signals = length-set _ _ _ ∙ c.rooms.signals; traps = c.rooms.traps };
             short = c.short;
             long = c.long;
-            holds = λ q j a b. other j (λ z. omega arith) (λ z. omega arith) (λ z. omega arith) ∙ c.holds seen_few j a b;
-            counted = λ q. get_or-set_same w1 2048 _ 0 (simp length-set (omega (arith, c.room))) ∙ omega (arith, longer);
+            holds = λ q j. c.holds seen_few j;
+            counted = λ q. omega (arith, longer);
             many = λ q. absurd (omega (arith, longer));
             names = λ q. listed;
-            lost = other 2049 (λ z. omega arith) (λ z. omega arith) (λ z. omega arith) ∙ c.lost;
-            traps = other 2050 (λ z. omega arith) (λ z. omega arith) (λ z. omega arith) ∙ c.traps;
+            lost = c.lost;
+            traps = c.traps;
             few = c.few;
-            around = same-listed x w w2 (sheet_room - 2 * length ts) ts (λ j a b. other j (λ z. omega (arith, c.few)) (λ z. omega (arith, c.few)) (λ z. omega (arith, c.few))) c.around;
+            around = c.around;
           }
 
-          pub number-new : count % 65536 ≡ place (see g.seen s) s
-          number-new = rw new (omega (arith, place_end g.seen s (omega (arith, placed, seen-count)), seen-count))
+        number-new : w.signal_count % 65536 ≡ place (see g.seen s) s
+        number-new = rw new (omega (arith, place_end g.seen s (omega (arith, o g.seen v front front-count)), seen-count))
 
-        pub number-last : count ≡ 256 → (k : ℕ) → length (see g.seen s) ≤ 256 → k ≡ place (see g.seen s) s
-        number-last e k l = absurd (omega (arith, rw new at l, longer))
-
-      pub numbered : r % 65536 ≡ place g.seen s
-      numbered = omega (arith, placed, place-most g.seen s, seen-count)
-
-      pub number-known : r < count → r % 65536 ≡ place (see g.seen s) s
-      number-known h =
-          let e : has g.seen s ≡ true = lt-ltb (place g.seen s) (length g.seen) (omega (arith, placed, seen-count)) in
-          let d : see g.seen s ≡ g.seen = rw e in
-          rw d numbered
-
-  -- an exit's name
-  module _ (count : ℕ) (is : count ≡ get_or w 2050 0) (r : ℕ) (o : FoundAt x w (sheet_room - 2 * count) count s start stop r) where
-    trap-count : length ts ≡ count
-    trap-count = sym c.traps ∙ sym is
-
-    level : r ≡ place ts s
-    level = o.is ts v (rw (← trap-count) c.around) trap-count
-
-    pub level-is : r % 65536 ≡ place ts s
-    level-is = omega (arith, level, place-most ts s, c.few)
-
-    flag-or : (a : Bool) → flag (a || true) ≡ 1
-    flag-or true = refl
-    flag-or false = refl
-
-    or-none : (a : Bool) → a || false ≡ a
-    or-none true = refl
-    or-none false = refl
-
-    pub leave-caught : r < count → Filled x w n ts (leave ts s g)
-    leave-caught h =
-        let e : has ts s ≡ true = lt-ltb (place ts s) (length ts) (omega (arith, level, trap-count)) in
-        let d : g.lost || not (has ts s) ≡ g.lost = rw e (or-none g.lost) in
-        rw d c
-
-    pub leave-lost : count ≤ r → Filled x (set w 2049 1) n ts (leave ts s g)
-    leave-lost h =
-        let e : has ts s ≡ false = le-ltb (place ts s) (length ts) (omega (arith, level, trap-count)) in
-        let other : (j : ℕ) → (j ≡ 2049 → ⊥) → get_or (set w 2049 1) j 0 ≡ get_or w j 0 = λ j q. get_or-set_other w 2049 j 1 0 q in
-        rw e record {
-          room = simp length-set c.room;
-          short = c.short;
-          long = c.long;
-          holds = λ q j a b. other j (λ z. omega arith) ∙ c.holds q j a b;
-          counted = λ q. other 2048 (λ z. omega arith) ∙ c.counted q;
-          many = λ q. other 2048 (λ z. omega arith) ∙ c.many q;
-          names = λ q. same-listed x w (set w 2049 1) 2051 g.seen (λ j a b. other j (λ z. omega arith)) (c.names q);
-          lost = get_or-set_same w 2049 1 0 (omega (arith, c.room)) ∙ sym (flag-or g.lost);
-          traps = other 2050 (λ z. omega arith) ∙ c.traps;
-          few = c.few;
-          around = same-listed x w (set w 2049 1) (sheet_room - 2 * length ts) ts (λ j a b. other j (λ z. omega (arith, c.few))) c.around;
-        }
-
-  -- a trap's name
-  module _ (count : ℕ) (is : count ≡ get_or w 2050 0) (h : count < max_levels) where
-    abbrev t1 : List ℕ
-    t1 = set (set w (sheet_room - 2 - 2 * count) (start % 65536)) (sheet_room - 2 - 2 * count + 1) (stop % 65536)
-
-    abbrev t2 : List ℕ
-    t2 = set t1 2050 ((count + 1) % 65536)
-
-    around-count : length ts ≡ count
-    around-count = sym c.traps ∙ sym is
-
-    t_fits : sheet_room - 2 - 2 * count + 1 < length w
-    t_fits = omega (arith, c.room)
-
-    t_other : (j : ℕ) → (j ≡ 2050 → ⊥) → (j ≡ sheet_room - 2 - 2 * count → ⊥) → (j ≡ sheet_room - 2 - 2 * count + 1 → ⊥) → get_or t2 j 0 ≡ get_or w j 0
-    t_other j p q z = get_or-set_other t1 2050 j _ 0 p ∙ pair-other w (sheet_room - 2 - 2 * count) (start % 65536) (stop % 65536) t_fits j q z
-
-    t_begins : get_or t2 (sheet_room - 2 - 2 * count) 0 ≡ start
-    t_begins = get_or-set_other t1 2050 (sheet_room - 2 - 2 * count) _ 0 (λ z. omega arith) ∙ pair-first w (sheet_room - 2 - 2 * count) (start % 65536) (stop % 65536) t_fits ∙ omega (arith, v.order, v.within, c.short)
-
-    t_ends : get_or t2 (sheet_room - 2 - 2 * count + 1) 0 ≡ stop
-    t_ends = get_or-set_other t1 2050 (sheet_room - 2 - 2 * count + 1) _ 0 (λ z. omega arith) ∙ pair-second w (sheet_room - 2 - 2 * count) (start % 65536) (stop % 65536) t_fits ∙ omega (arith, v.within, c.short)
-
-    t_entry : (i : ℕ) → i < length (s ∷ ts) → Entry x t2 (sheet_room - 2 * length (s ∷ ts) + 2 * i) (get_or (s ∷ ts) i [])
-    t_entry zero q =
-        let p : sheet_room - 2 * length (s ∷ ts) + 2 * 0 ≡ sheet_room - 2 - 2 * count = omega (arith, around-count) in
-        rw p record { bounds = rw (t_begins, t_ends) v; is = rw (t_begins, t_ends) }
-    t_entry (suc i) q =
-        let p : sheet_room - 2 * length (s ∷ ts) + 2 * suc i ≡ sheet_room - 2 * length ts + 2 * i = omega (arith, around-count) in
-        rw p (same-entry x w t2 (sheet_room - 2 * length ts + 2 * i) (get_or ts i []) (t_other (sheet_room - 2 * length ts + 2 * i) (λ z. omega (arith, around-count)) (λ z. omega (arith, around-count)) (λ z. omega (arith, around-count))) (t_other (sheet_room - 2 * length ts + 2 * i + 1) (λ z. omega (arith, around-count)) (λ z. omega (arith, around-count)) (λ z. omega (arith, around-count))) (c.around.at i (omega arith)))
-
-    pub trap-entered : Filled x t2 n (s ∷ ts) g
-    trap-entered = record {
-      room = simp length-set c.room;
-      short = c.short;
-      long = c.long;
-      holds = λ q j a b. t_other j (λ z. omega arith) (λ z. omega arith) (λ z. omega arith) ∙ c.holds q j a b;
-      counted = λ q. t_other 2048 (λ z. omega arith) (λ z. omega arith) (λ z. omega arith) ∙ c.counted q;
-      many = λ q. t_other 2048 (λ z. omega arith) (λ z. omega arith) (λ z. omega arith) ∙ c.many q;
-      names = λ q. same-listed x w t2 2051 g.seen (λ j a b. t_other j (λ z. omega arith) (λ z. omega arith) (λ z. omega arith)) (c.names q);
-      lost = t_other 2049 (λ z. omega arith) (λ z. omega arith) (λ z. omega arith) ∙ c.lost;
-      traps = get_or-set_same t1 2050 _ 0 (simp length-set (omega (arith, c.room))) ∙ omega (arith, around-count);
-      few = omega (arith, around-count);
-      around = record { at = t_entry };
-    }
-
--- the nearest trap ends
-module _ (x w : List ℕ) (n : ℕ) (t : Name) (ts : List Name) (g : Progress) (c : Filled x w n (t ∷ ts) g) (count : ℕ) (is : count ≡ get_or w 2050 0) where
-  abbrev l1 : List ℕ
-  l1 = set w 2050 ((count - 1) % 65536)
-
-  l_count : count ≡ length ts + 1
-  l_count = is ∙ c.traps ∙ omega arith
-
-  pub some-trap : count ≡ 0 → ⊥
-  some-trap z = omega (arith, l_count)
-
-  l_other : (j : ℕ) → (j ≡ 2050 → ⊥) → get_or l1 j 0 ≡ get_or w j 0
-  l_other j q = get_or-set_other w 2050 j _ 0 q
-
-  l_entry : (i : ℕ) → i < length ts → Entry x l1 (sheet_room - 2 * length ts + 2 * i) (get_or ts i [])
-  l_entry i h =
-      let p : sheet_room - 2 * length ts + 2 * i ≡ sheet_room - 2 * length (t ∷ ts) + 2 * suc i = omega (arith, c.few) in
-      rw p (same-entry x w l1 (sheet_room - 2 * length (t ∷ ts) + 2 * suc i) (get_or ts i []) (l_other _ (λ z. omega (arith, c.few))) (l_other _ (λ z. omega (arith, c.few))) (c.around.at (suc i) (omega arith)))
-
-  pub trap-left : Filled x l1 n ts g
-  trap-left = record {
-    room = simp length-set c.room;
-    short = c.short;
-    long = c.long;
-    holds = λ q j a b. l_other j (λ z. omega arith) ∙ c.holds q j a b;
-    counted = λ q. l_other 2048 (λ z. omega arith) ∙ c.counted q;
-    many = λ q. l_other 2048 (λ z. omega arith) ∙ c.many q;
-    names = λ q. same-listed x w l1 2051 g.seen (λ j a b. go j a (omega (arith, c.room))) (c.names q);
-    lost = l_other 2049 (λ z. omega arith) ∙ c.lost;
-    traps = get_or-set_same w 2050 _ 0 (omega (arith, c.room)) ∙ omega (arith, l_count, c.few);
-    few = omega (arith, c.few);
-    around = record { at = l_entry };
+  pub notes-known : {i : ℕ} → w.signal_count ≤ 256 → FoundAs x (take w.signal_count w.signals) p (Some i) → Notes x p w w (i % 65536)
+  notes-known {i = i} low o = record {
+    adds = λ v ts g c. rw (same ts g v c) c;
+    number = λ ts g v c l. rw (same ts g v c) (omega (arith, (known ts g v c low o).0, (known ts g v c low o).1, seen_few ts g v c low));
   }
     where
-      go : (j : ℕ) → 2051 ≤ j → 0 ≤ j → get_or l1 j 0 ≡ get_or w j 0
-      go j a b = l_other j (λ z. omega arith)
+      same : (ts : List Name) (g : Progress) → InText x p → Filled x w ts g → see g.seen s ≡ g.seen
+      same ts g v c = let e : has g.seen s ≡ true = lt-ltb (place g.seen s) (length g.seen) (omega (arith, (known ts g v c low o).0, (known ts g v c low o).1)) in rw e
 
--- a sheet of zeros
-pub fresh : (x : List ℕ) → length x ≤ max_source → (w : List ℕ) → (length w ≡ sheet_room) × (get_or w signal_count 0 ≡ 0) × (get_or w untrapped_at 0 ≡ 0) × (get_or w trap_count 0 ≡ 0) → Filled x w 0 [] blank
+  pub notes-last : w.signal_count ≡ 256 → FoundAs x (take w.signal_count w.signals) p None → (r : ℕ) → Notes x p w (record w { signal_count = w.signal_count + 1 }) r
+  notes-last e o r = record {
+    adds = λ v ts g c. note-last ts g v c (omega arith) o e;
+    number = λ ts g v c l. absurd (omega (arith, rw (new ts g v c (omega arith) o) at l, longer ts g v c (omega arith) o));
+  }
+
+  pub notes-new : w.signal_count < 256 → FoundAs x (take w.signal_count w.signals) p None → (k : Kept) → k.start ≡ p.start % 65536 → k.stop ≡ p.stop % 65536 → Notes x p w (record w { signals = set w.signals w.signal_count k; signal_count = w.signal_count + 1 }) (w.signal_count % 65536)
+  notes-new e o k b f = record {
+    adds = λ v ts g c. note-new ts g v c (omega arith) o e k b f;
+    number = λ ts g v c l. number-new ts g v c (omega arith) o;
+  }
+
+-- a trap's name
+module _ (x : List ℕ) (p : S.Part) (w : Sheet) (h : w.trap_count < max_levels) (k : Kept) (b : k.start ≡ p.start % 65536) (f : k.stop ≡ p.stop % 65536) (ts : List Name) (g : Progress) (v : InText x p) (c : Filled x w ts g) where
+  abbrev m : ℕ
+  m = max_levels - (w.trap_count + 1)
+
+  abbrev es : List Kept
+  es = drop (max_levels - suc (length ts)) (set w.traps m k)
+
+  trap-entry : (i : ℕ) → i < length (name_at x p ∷ ts) → Entry x (get_or es i nowhere) (get_or (name_at x p ∷ ts) i [])
+  trap-entry zero q =
+      let z : max_levels - suc (length ts) + 0 ≡ m = omega (arith, c.traps) in
+      rw (get_or-drop (max_levels - suc (length ts)) (set w.traps m k) 0 nowhere, z, get_or-set_same w.traps m k nowhere (omega (arith, c.rooms.traps))) (kept-entry x p k c.short b f v)
+  trap-entry (suc i) q =
+      let z : max_levels - suc (length ts) + suc i ≡ max_levels - length ts + i = omega (arith, c.traps) in
+      rw (get_or-drop (max_levels - suc (length ts)) (set w.traps m k) (suc i) nowhere, z, get_or-set_other w.traps m (max_levels - length ts + i) k nowhere (λ z. omega (arith, c.traps)), ← get_or-drop (max_levels - length ts) w.traps i nowhere) (c.around.at i (omega arith))
+
+  pub trap-entered : Filled x (record w { traps = set w.traps m k; trap_count = w.trap_count + 1 }) (name_at x p ∷ ts) g
+  trap-entered = record {
+    rooms = record { table = c.rooms.table; signals = c.rooms.signals; traps = length-set _ _ _ ∙ c.rooms.traps };
+    short = c.short;
+    long = c.long;
+    holds = c.holds;
+    counted = c.counted;
+    many = c.many;
+    names = c.names;
+    lost = c.lost;
+    traps = omega (arith, c.traps);
+    few = omega (arith, c.traps);
+    around = record { at = trap-entry };
+  }
+
+-- the nearest trap ends
+module _ (x : List ℕ) (w : Sheet) (n : ℕ) (is : n ≡ w.trap_count - 1) (t : Name) (ts : List Name) (g : Progress) (c : Filled x w (t ∷ ts) g) where
+  left-entry : (i : ℕ) → i < length ts → Entry x (get_or (drop (max_levels - length ts) w.traps) i nowhere) (get_or ts i [])
+  left-entry i h =
+      let z : max_levels - length ts + i ≡ max_levels - suc (length ts) + suc i = omega (arith, c.few) in
+      rw (get_or-drop (max_levels - length ts) w.traps i nowhere, z, ← get_or-drop (max_levels - suc (length ts)) w.traps (suc i) nowhere) (c.around.at (suc i) (omega arith))
+
+  pub trap-left : Filled x (record w { trap_count = n }) ts g
+  trap-left = record {
+    rooms = record { table = c.rooms.table; signals = c.rooms.signals; traps = c.rooms.traps };
+    short = c.short;
+    long = c.long;
+    holds = c.holds;
+    counted = c.counted;
+    many = c.many;
+    names = c.names;
+    lost = c.lost;
+    traps = omega (arith, c.traps);
+    few = omega (arith, c.few);
+    around = record { at = left-entry };
+  }
+
+-- a sheet of nothing
+pub fresh : (x : List ℕ) → length x ≤ max_source → (w : Sheet) → Fresh w → Filled x w [] blank
 fresh x short w z = record {
-  room = z.0;
+  rooms = z.rooms;
   short = short;
-  long = refl;
+  long = omega (arith, z.nodes);
   holds = λ q j a b. absurd (omega arith);
-  counted = λ q. z.1;
+  counted = λ q. z.signals;
   many = λ q. absurd (omega arith);
   names = λ q. record { at = λ i h. absurd (omega arith) };
-  lost = z.2;
-  traps = z.3;
+  lost = z.lost;
+  traps = z.traps;
   few = omega arith;
   around = record { at = λ i h. absurd (omega arith) };
 }

@@ -1,34 +1,38 @@
--- What a sheet holds: the table, the number of signals, whether an exit had no trap, the number of traps around, two numbers a signal in order
--- of first appearance, and at the end two numbers a trap, the nearest first.
-use Rattle.std.specs.Prelude.{ℕ, suc, ◌+◌, ◌*◌, ◌<◌, ◌≤◌, ◌-◌, ◌≡◌, Bool, true, false, List, [], length, get_or, take, drop}
+-- What a sheet holds: the table, the number of signals and their names in order of first appearance, whether an exit had no trap, the number of
+-- traps around and their names, which stand at the end of their array, the nearest first.
+use Rattle.std.specs.Prelude.{ℕ, suc, ◌*◌, ◌<◌, ◌≤◌, ◌-◌, ◌≡◌, false, Option, Some, None, List, [], length, get_or, take, drop}
 use Rattle.esterel.specs.Limits.{max_nodes, signals as max_signals}
 use Rattle.grammar.specs.Limits.{max_source, max_levels}
 use Rattle.grammar.specs.Tree.{Name}
-use Rattle.grammar.specs.Names.{place}
-use Rattle.grammar.specs.Progress.{Progress}
+use Rattle.grammar.specs.Names.{place, see}
+use Rattle.grammar.specs.Progress.{Progress, note}
+use Rattle.scan.specs.declared.Part as S
+use Rattle.sheet.specs.declared.Kept.{Kept}
+use Rattle.sheet.specs.declared.Kind.{Kind}
+use Rattle.sheet.specs.declared.Kind.TheVariants.{Nothing, Pause, Emit, Exit, Signal, Present, Suspend, Loop, Sequence, Parallel, Trap}
+use Rattle.sheet.specs.declared.Sheet.{Sheet}
 
--- the places of a sheet: TABLE, SIGNAL_COUNT, UNTRAPPED, TRAP_COUNT, FIRST_SIGNAL and ROOM of src/lib.rt
+-- the numbers of a table
 abbrev pub table_room : ℕ
 table_room = 2 * max_nodes
-
-abbrev pub signal_count : ℕ
-signal_count = table_room
-
-abbrev pub untrapped_at : ℕ
-untrapped_at = table_room + 1
-
-abbrev pub trap_count : ℕ
-trap_count = table_room + 2
-
-abbrev pub first_signal : ℕ
-first_signal = table_room + 3
-
-abbrev pub sheet_room : ℕ
-sheet_room = first_signal + 2 * max_signals + 2 * max_levels
 
 -- more nodes than a text within the length has: so far they are counted
 abbrev pub max_counted : ℕ
 max_counted = 140000
+
+-- the kinds as document 01 numbers them
+abbrev pub number_of : Kind → ℕ
+number_of Nothing = 1
+number_of Pause = 2
+number_of Emit = 3
+number_of Exit = 4
+number_of Signal = 5
+number_of Present = 6
+number_of Suspend = 7
+number_of Loop = 8
+number_of Sequence = 9
+number_of Parallel = 10
+number_of Trap = 11
 
 -- a part of the text
 abbrev pub part : List ℕ → ℕ → ℕ → Name
@@ -39,38 +43,64 @@ pub record Part (x : List ℕ) (a e : ℕ) : Type 0 where
   pub order : a ≤ e
   pub within : e ≤ length x
 
--- a name is kept at a place
-pub record Entry (x w : List ℕ) (at : ℕ) (s : Name) : Type 0 where
-  pub bounds : Part x (get_or w at 0) (get_or w (at + 1) 0)
-  pub is : part x (get_or w at 0) (get_or w (at + 1) 0) ≡ s
+-- the same of a part as the code has it
+abbrev pub name_at : List ℕ → S.Part → Name
+name_at x p = part x p.start p.stop
+
+abbrev pub InText : List ℕ → S.Part → Type 0
+InText x p = Part x p.start p.stop
+
+-- a name is kept
+pub record Entry (x : List ℕ) (k : Kept) (s : Name) : Type 0 where
+  pub bounds : Part x k.start k.stop
+  pub is : part x k.start k.stop ≡ s
+
+abbrev pub nowhere : Kept
+nowhere = record { start = 0; stop = 0 }
 
 -- names are kept one after another
-pub record Listed (x w : List ℕ) (first : ℕ) (ns : List Name) : Type 0 where
-  pub at : (i : ℕ) → i < length ns → Entry x w (first + 2 * i) (get_or ns i [])
+pub record Listed (x : List ℕ) (ks : List Kept) (ns : List Name) : Type 0 where
+  pub at : (i : ℕ) → i < length ns → Entry x (get_or ks i nowhere) (get_or ns i [])
 
 -- what a search finds
-pub record FoundAt (x w : List ℕ) (first count : ℕ) (s : Name) (start stop r : ℕ) : Type 0 where
-  pub is : (ns : List Name) → Part x start stop → Listed x w first ns → length ns ≡ count → r ≡ place ns s
+abbrev pub FoundAs : List ℕ → List Kept → S.Part → Option ℕ → Type 0
+FoundAs x ks p (Some i) = (i < length ks) × ((ns : List Name) → InText x p → Listed x ks ns → length ns ≡ length ks → i ≡ place ns (name_at x p))
+FoundAs x ks p None = (ns : List Name) → InText x p → Listed x ks ns → length ns ≡ length ks → length ns ≡ place ns (name_at x p)
 
-abbrev pub flag : Bool → ℕ
-flag true = 1
-flag false = 0
+-- the lengths of a sheet's arrays
+pub record Rooms (w : Sheet) : Type 0 where
+  pub table : length w.table ≡ table_room
+  pub signals : length w.signals ≡ max_signals
+  pub traps : length w.traps ≡ max_levels
 
--- n nodes were counted, ts are the names of the traps around. With more than 256 signals the table and the names of signals do not matter:
+-- The text's nodes were counted, ts are the names of the traps around. With more than 256 signals the table and the names of signals do not matter:
 -- the text is refused 16
-pub record Filled (x w : List ℕ) (n : ℕ) (ts : List Name) (g : Progress) : Type 0 where
-  pub room : length w ≡ sheet_room
+pub record Filled (x : List ℕ) (w : Sheet) (ts : List Name) (g : Progress) : Type 0 where
+  pub rooms : Rooms w
   pub short : length x ≤ max_source
-  pub long : length g.bytes ≡ 2 * n
-  pub holds : length g.seen ≤ max_signals → (j : ℕ) → j < table_room → j < length g.bytes → get_or w j 0 ≡ get_or g.bytes j 0
-  pub counted : length g.seen ≤ max_signals → get_or w signal_count 0 ≡ length g.seen
-  pub many : max_signals < length g.seen → get_or w signal_count 0 ≡ suc max_signals
-  pub names : length g.seen ≤ max_signals → Listed x w first_signal g.seen
-  pub lost : get_or w untrapped_at 0 ≡ flag g.lost
-  pub traps : get_or w trap_count 0 ≡ length ts
+  pub long : length g.bytes ≡ 2 * w.nodes
+  pub holds : length g.seen ≤ max_signals → (j : ℕ) → j < table_room → j < length g.bytes → get_or w.table j 0 ≡ get_or g.bytes j 0
+  pub counted : length g.seen ≤ max_signals → w.signal_count ≡ length g.seen
+  pub many : max_signals < length g.seen → w.signal_count ≡ suc max_signals
+  pub names : length g.seen ≤ max_signals → Listed x w.signals g.seen
+  pub lost : w.is_untrapped ≡ g.lost
+  pub traps : w.trap_count ≡ length ts
   pub few : length ts ≤ max_levels
-  pub around : Listed x w (sheet_room - 2 * length ts) ts
+  pub around : Listed x (drop (max_levels - length ts) w.traps) ts
 
 -- from one sheet to another, whatever was there before, f is done
-abbrev pub Adds : List ℕ → List ℕ → ℕ → List ℕ → ℕ → (List Name → Progress → Progress) → Type 0
-Adds x w n w' m f = (ts : List Name) (g : Progress) → Filled x w n ts g → Filled x w' m ts (f ts g)
+abbrev pub Adds : List ℕ → Sheet → Sheet → (List Name → Progress → Progress) → Type 0
+Adds x w w' f = (ts : List Name) (g : Progress) → Filled x w ts g → Filled x w' ts (f ts g)
+
+-- a signal's name is met, and its number is r while the signals are no more than they may be
+pub record Notes (x : List ℕ) (p : S.Part) (w w' : Sheet) (r : ℕ) : Type 0 where
+  pub adds : InText x p → Adds x w w' (λ ts g. note (name_at x p) g)
+  pub number : (ts : List Name) (g : Progress) → InText x p → Filled x w ts g → length (see g.seen (name_at x p)) ≤ max_signals → r ≡ place (see g.seen (name_at x p)) (name_at x p)
+
+-- a sheet on which nothing is written
+pub record Fresh (w : Sheet) : Type 0 where
+  pub rooms : Rooms w
+  pub nodes : w.nodes ≡ 0
+  pub signals : w.signal_count ≡ 0
+  pub lost : w.is_untrapped ≡ false
+  pub traps : w.trap_count ≡ 0

@@ -1,232 +1,231 @@
 // The sheet on which a text's program is written while it is read: the table so far, the signals met, whether an exit had no
-// trap, and the traps around. A name is kept as the places of the text where it begins and ends. Fields are kept whole here, so
-// that an exit's level may be above 255; such a program is refused by check 1, 8 or 9.
+// trap, and the traps around. Fields are kept whole here, so that an exit's level may be above 255; such a program is refused by
+// check 1, 8 or 9.
 //
 // No function asks that the places on a sheet lie in the text: it tests them, which spares every reader above a promise about
 // the sheet. What it does is promised for sheets that hold what they should (`Filled`).
 #![tactic(auto)]
 
-ghost use Rattle.std.specs.Prelude.{◌≡◌, List, ◌∷◌, ℕ, ◌+◌, ◌-◌, ◌*◌, ◌<◌, ◌≤◌, length};
+ghost use Rattle.std.specs.Prelude.{◌≡◌, List, ◌∷◌, ℕ, ◌+◌, ◌%◌, ◌<◌, ◌≤◌, length};
 ghost use Rattle.esterel.specs.Limits.{signals as max_signals};
 ghost use Rattle.grammar.specs.Limits.{max_levels};
 ghost use Rattle.grammar.specs.Tokens as G;
 ghost use Rattle.grammar.specs.Tree.{Name};
 ghost use Rattle.grammar.specs.Names.{place, see};
 ghost use Rattle.grammar.specs.Progress as P;
-ghost use Rattle.sheet.specs.Sheet.{sheet_room, max_counted, part, Part, Adds, Filled, FoundAt};
+ghost use Rattle.sheet.specs.Sheet.{max_counted, number_of, name_at, InText, Adds, Filled, FoundAs, Notes, Fresh};
 
-// Where things stand on a sheet: the table's bytes, three numbers, two places for each signal in order of appearance, and from
-// the end on two for each trap around, the nearest first.
+use scan::Part;
+
 pub const TABLE: usize = 2 * esterel::MAX_NODES;
 
-pub const SIGNAL_COUNT: usize = TABLE;
+// The kinds of nodes by their numbers in document 01.
+#[derive(Clone, Copy)]
+pub enum Kind {
+    Nothing = 1,
+    Pause,
+    Emit,
+    Exit,
+    Signal,
+    Present,
+    Suspend,
+    Loop,
+    Sequence,
+    Parallel,
+    Trap,
+}
 
-pub const UNTRAPPED: usize = TABLE + 1;
+// A name, by the places of the text where it begins and ends, in four bytes: a text within the length has no place above 16,384.
+#[derive(Clone, Copy)]
+pub struct Kept {
+    start: u16,
+    stop: u16,
+}
 
-const TRAP_COUNT: usize = TABLE + 2;
+// No heap, and the readers that recurse lend one value to each other: so it is arrays, and how much of each is in use.
+#[derive(Drop)]
+pub struct Sheet {
+    // A kind and a field for each node. Nodes that the table has no room for are counted alone: a table that is too long is
+    // refused once all of the text is read.
+    pub table: [u16; TABLE],
+    pub nodes: usize,
 
-const FIRST_SIGNAL: usize = TABLE + 3;
+    // In order of first appearance. A 257th name is counted and not kept, and none after it is counted.
+    signals: [Kept; esterel::SIGNALS],
+    pub signal_count: usize,
 
-pub const ROOM: usize = FIRST_SIGNAL + 2 * esterel::SIGNALS + 2 * grammar::MAX_LEVELS;
+    // Whether an exit had no trap.
+    pub is_untrapped: bool,
 
-// The kinds of nodes, as document 01 numbers them.
-pub const NOTHING: u16 = 1;
+    // At the end of the array, the nearest trap first.
+    traps: [Kept; grammar::MAX_LEVELS],
+    trap_count: usize,
+}
 
-pub const PAUSE: u16 = 2;
+impl Kept {
+    // What is kept of a place above 65,535 does not matter: it is none of a text within the length.
+    fn of(name: Part) -> Kept
+        ensures start { result.start ≡ name.start % 65536 }
+        ensures stop { result.stop ≡ name.stop % 65536 }
+    {
+        Kept {
+            start: (name.start % 65536) as u16,
+            stop: (name.stop % 65536) as u16,
+        }
+    }
 
-pub const EMIT: u16 = 3;
-
-pub const EXIT: u16 = 4;
-
-pub const SIGNAL: u16 = 5;
-
-pub const PRESENT: u16 = 6;
-
-pub const SUSPEND: u16 = 7;
-
-pub const LOOP: u16 = 8;
-
-pub const SEQUENCE: u16 = 9;
-
-pub const PARALLEL: u16 = 10;
-
-pub const TRAP: u16 = 11;
-
-// The number of signals where there are more than a program may have.
-const TOO_MANY: u16 = 257;
-
-pub fn wide(x: u16) -> usize
-    ensures { result ≡ x }
-{
-    x as usize
+    fn part(self) -> Part
+        ensures start { result.start ≡ self.start }
+        ensures stop { result.stop ≡ self.stop }
+    {
+        Part {
+            start: usize::from(self.start),
+            stop: usize::from(self.stop),
+        }
+    }
 }
 
 // Whether two parts of the text are the same.
-fn is_same_part(
-    text: &[u8],
-    start: usize,
-    stop: usize,
-    other_start: usize,
-    other_stop: usize,
-) -> bool
-    ensures { Part text.now start stop → Part text.now other_start other_stop → result ≡ G.same_bytes (part text.now start stop) (part text.now other_start other_stop) }
+fn is_same_part(text: &[u8], a: Part, b: Part) -> bool
+    ensures { InText text.now a → InText text.now b → result ≡ G.same_bytes (name_at text.now a) (name_at text.now b) }
 {
-    if stop < start {
+    let (Some(first), Some(second)) = (text.get(a.start..a.stop), text.get(b.start..b.stop)) else {
         return false;
-    }
-    if text.len() < stop {
-        return false;
-    }
-    if other_stop < other_start {
-        return false;
-    }
-    if text.len() < other_stop {
-        return false;
-    }
-    scan::is_same(&text[start..stop], &text[other_start..other_stop])
+    };
+    first == second
 }
 
-// The place of a name among those kept from `first` on, or their count.
-fn find(
-    text: &[u8],
-    sheet: &[u16; ROOM],
-    first: usize,
-    count: usize,
-    start: usize,
-    stop: usize,
-) -> usize
-    requires { first + 2 * count ≤ sheet_room }
-    ensures { (result ≤ count) × FoundAt text.now sheet.now first count (part text.now start stop) start stop result }
+// The place of a name among others.
+fn find(text: &[u8], others: &[Kept], name: Part) -> Option<usize>
+    ensures { FoundAs text.now others.now name result }
 {
-    let mut i = 0;
-    while i < count {
-        let kept_start = wide(sheet[first + 2 * i]);
-        let kept_stop = wide(sheet[first + 2 * i + 1]);
-        if is_same_part(text, kept_start, kept_stop, start, stop) {
-            return i;
+    for (i, other) in others.iter().enumerate() {
+        if is_same_part(text, other.part(), name) {
+            return Some(i);
         }
-        i += 1;
     }
-    count
+    None
 }
 
-// A node is counted, and written if the table has room for it: a table that is too long is refused once all of the text is read.
-pub fn put(sheet: &mut [u16; ROOM], nodes: usize, kind: u16, field: u16) -> usize
-    requires { nodes ≤ max_counted }
-    ensures { (result ≡ nodes + 1) × ((x : List ℕ) → Adds x sheet.old nodes sheet.new result (λ ts g. P.node kind field g)) }
-{
-    let at = 2 * nodes;
-    if TABLE <= at + 1 {
-        return nodes + 1;
+impl Sheet {
+    pub fn new() -> Sheet
+        ensures { Fresh result }
+    {
+        let nowhere = Kept { start: 0, stop: 0 };
+        Sheet {
+            table: [0; TABLE],
+            nodes: 0,
+            signals: [nowhere; esterel::SIGNALS],
+            signal_count: 0,
+            is_untrapped: false,
+            traps: [nowhere; grammar::MAX_LEVELS],
+            trap_count: 0,
+        }
     }
-    sheet[at] = kind;
-    sheet[at + 1] = field;
-    nodes + 1
-}
 
-// A signal's name is met; its number. The 257th name is counted and not kept, and then no number matters.
-pub fn note(text: &[u8], sheet: &mut [u16; ROOM], start: usize, stop: usize) -> u16
-    ensures { ((n : ℕ) → Part text.now start stop → Adds text.now sheet.old n sheet.new n (λ ts g. P.note (part text.now start stop) g)) × ((n : ℕ) (ts : List Name) (g : P.Progress) → Part text.now start stop → Filled text.now sheet.old n ts g → length (see g.seen (part text.now start stop)) ≤ max_signals → result ≡ place (see g.seen (part text.now start stop)) (part text.now start stop)) }
-{
-    let count = wide(sheet[SIGNAL_COUNT]);
-    if esterel::SIGNALS < count {
-        return 0;
+    pub fn put(&mut self, kind: Kind, field: u16)
+        requires { self.old.nodes ≤ max_counted }
+        ensures nodes { self.new.nodes ≡ self.old.nodes + 1 }
+        ensures adds { (x : List ℕ) → Adds x self.old self.new (λ ts g. P.node (number_of kind) field g) }
+    {
+        let at = 2 * self.nodes;
+        self.nodes += 1;
+        if at + 1 < TABLE {
+            self.table[at] = kind as u16;
+            self.table[at + 1] = field;
+        }
     }
-    let found = find(text, sheet, FIRST_SIGNAL, count, start, stop);
-    if found < count {
-        return (found % 65536) as u16;
-    }
-    if count == esterel::SIGNALS {
-        sheet[SIGNAL_COUNT] = TOO_MANY;
-        return 0;
-    }
-    let at = FIRST_SIGNAL + 2 * count;
-    sheet[at] = (start % 65536) as u16;
-    sheet[at + 1] = (stop % 65536) as u16;
-    sheet[SIGNAL_COUNT] = ((count + 1) % 65536) as u16;
-    (count % 65536) as u16
-}
 
-// The number of a signal that was met.
-fn number_of(text: &[u8], sheet: &[u16; ROOM], start: usize, stop: usize) -> u16
-    ensures { (n : ℕ) (ts : List Name) (g : P.Progress) → Part text.now start stop → Filled text.now sheet.now n ts g → length g.seen ≤ max_signals → result ≡ place g.seen (part text.now start stop) }
-{
-    let count = wide(sheet[SIGNAL_COUNT]);
-    if esterel::SIGNALS < count {
-        return 0;
+    // A signal's name is met; its number. No number matters where the signals are too many.
+    pub fn note(&mut self, text: &[u8], name: Part) -> u16
+        ensures nodes { self.new.nodes ≡ self.old.nodes }
+        ensures notes { Notes text.now name self.old self.new result }
+    {
+        let count = self.signal_count;
+        if esterel::SIGNALS < count {
+            return 0;
+        }
+        if let Some(found) = find(text, &self.signals[..count], name) {
+            return (found % 65536) as u16;
+        }
+        self.signal_count = count + 1;
+        if count < esterel::SIGNALS {
+            self.signals[count] = Kept::of(name);
+        }
+        (count % 65536) as u16
     }
-    let found = find(text, sheet, FIRST_SIGNAL, count, start, stop);
-    (found % 65536) as u16
-}
 
-// The node of a statement whose signal was met before.
-pub fn put_named(
-    text: &[u8],
-    sheet: &mut [u16; ROOM],
-    nodes: usize,
-    kind: u16,
-    start: usize,
-    stop: usize,
-) -> usize
-    requires { nodes ≤ max_counted }
-    ensures { (result ≡ nodes + 1) × (Part text.now start stop → Adds text.now sheet.old nodes sheet.new result (λ ts g. P.named kind (part text.now start stop) g)) }
-{
-    let field = number_of(text, sheet, start, stop);
-    put(sheet, nodes, kind, field)
-}
-
-// The level of an exit. One without a trap is marked.
-pub fn level_of(text: &[u8], sheet: &mut [u16; ROOM], start: usize, stop: usize) -> u16
-    ensures { (n : ℕ) (ts : List Name) (g : P.Progress) → Part text.now start stop → Filled text.now sheet.old n ts g → (result ≡ place ts (part text.now start stop)) × Filled text.now sheet.new n ts (P.leave ts (part text.now start stop) g) }
-{
-    let traps = wide(sheet[TRAP_COUNT]);
-    if grammar::MAX_LEVELS < traps {
-        return 0;
+    // The number of a signal that was met.
+    fn number_of(&self, text: &[u8], name: Part) -> u16
+        ensures { (ts : List Name) (g : P.Progress) → InText text.now name → Filled text.now self.now ts g → length g.seen ≤ max_signals → result ≡ place g.seen (name_at text.now name) }
+    {
+        let count = self.signal_count;
+        if esterel::SIGNALS < count {
+            return 0;
+        }
+        let found = find(text, &self.signals[..count], name).unwrap_or(count);
+        (found % 65536) as u16
     }
-    let level = find(text, sheet, ROOM - 2 * traps, traps, start, stop);
-    if level < traps {
-        return (level % 65536) as u16;
-    }
-    sheet[UNTRAPPED] = 1;
-    (level % 65536) as u16
-}
 
-// The node of an exit.
-pub fn put_exit(
-    text: &[u8],
-    sheet: &mut [u16; ROOM],
-    nodes: usize,
-    start: usize,
-    stop: usize,
-) -> usize
-    requires { nodes ≤ max_counted }
-    ensures { (result ≡ nodes + 1) × (Part text.now start stop → Adds text.now sheet.old nodes sheet.new result (λ ts g. P.node 4 (place ts (part text.now start stop)) (P.leave ts (part text.now start stop) g))) }
-{
-    let level = level_of(text, sheet, start, stop);
-    put(sheet, nodes, EXIT, level)
-}
-
-// A trap's name comes around what is read next.
-pub fn enter_trap(sheet: &mut [u16; ROOM], start: usize, stop: usize)
-    ensures { (x : List ℕ) (n : ℕ) (ts : List Name) (g : P.Progress) → Part x start stop → length ts < max_levels → Filled x sheet.old n ts g → Filled x sheet.new n (part x start stop ∷ ts) g }
-{
-    let traps = wide(sheet[TRAP_COUNT]);
-    if grammar::MAX_LEVELS <= traps {
-        return;
+    // The node of a statement whose signal was met before.
+    pub fn put_named(&mut self, text: &[u8], kind: Kind, name: Part)
+        requires { self.old.nodes ≤ max_counted }
+        ensures nodes { self.new.nodes ≡ self.old.nodes + 1 }
+        ensures adds { InText text.now name → Adds text.now self.old self.new (λ ts g. P.named (number_of kind) (name_at text.now name) g) }
+    {
+        let field = self.number_of(text, name);
+        self.put(kind, field);
     }
-    let at = ROOM - 2 - 2 * traps;
-    sheet[at] = (start % 65536) as u16;
-    sheet[at + 1] = (stop % 65536) as u16;
-    sheet[TRAP_COUNT] = ((traps + 1) % 65536) as u16;
-}
 
-// The nearest trap around ends.
-pub fn leave_trap(sheet: &mut [u16; ROOM])
-    ensures { (x : List ℕ) (n : ℕ) (t : Name) (ts : List Name) (g : P.Progress) → Filled x sheet.old n (t ∷ ts) g → Filled x sheet.new n ts g }
-{
-    let traps = wide(sheet[TRAP_COUNT]);
-    if traps == 0 {
-        return;
+    // A signal's name is met, and then the node of a statement that has it.
+    pub fn put_met(&mut self, text: &[u8], kind: Kind, name: Part)
+        requires { self.old.nodes ≤ max_counted }
+        ensures nodes { self.new.nodes ≡ self.old.nodes + 1 }
+        ensures adds { InText text.now name → Adds text.now self.old self.new (λ ts g. P.named (number_of kind) (name_at text.now name) (P.note (name_at text.now name) g)) }
+    {
+        let number = self.note(text, name);
+        self.put(kind, number);
     }
-    sheet[TRAP_COUNT] = ((traps - 1) % 65536) as u16;
+
+    // The level of an exit. One without a trap is marked.
+    pub fn level_of(&mut self, text: &[u8], name: Part) -> u16
+        ensures nodes { self.new.nodes ≡ self.old.nodes }
+        ensures level { (ts : List Name) (g : P.Progress) → InText text.now name → Filled text.now self.old ts g → (result ≡ place ts (name_at text.now name)) × Filled text.now self.new ts (P.leave ts (name_at text.now name) g) }
+    {
+        let first = grammar::MAX_LEVELS.saturating_sub(self.trap_count);
+        if let Some(level) = find(text, &self.traps[first..], name) {
+            return (level % 65536) as u16;
+        }
+        self.is_untrapped = true;
+        (self.trap_count % 65536) as u16
+    }
+
+    // The node of an exit.
+    pub fn put_exit(&mut self, text: &[u8], name: Part)
+        requires { self.old.nodes ≤ max_counted }
+        ensures nodes { self.new.nodes ≡ self.old.nodes + 1 }
+        ensures adds { InText text.now name → Adds text.now self.old self.new (λ ts g. P.node 4 (place ts (name_at text.now name)) (P.leave ts (name_at text.now name) g)) }
+    {
+        let level = self.level_of(text, name);
+        self.put(Kind::Exit, level);
+    }
+
+    // A trap's name comes around what is read next.
+    pub fn enter_trap(&mut self, name: Part)
+        ensures nodes { self.new.nodes ≡ self.old.nodes }
+        ensures around { (x : List ℕ) (ts : List Name) (g : P.Progress) → InText x name → length ts < max_levels → Filled x self.old ts g → Filled x self.new (name_at x name ∷ ts) g }
+    {
+        if self.trap_count < grammar::MAX_LEVELS {
+            self.trap_count += 1;
+            self.traps[grammar::MAX_LEVELS - self.trap_count] = Kept::of(name);
+        }
+    }
+
+    // The nearest trap around ends.
+    pub fn leave_trap(&mut self)
+        ensures nodes { self.new.nodes ≡ self.old.nodes }
+        ensures around { (x : List ℕ) (t : Name) (ts : List Name) (g : P.Progress) → Filled x self.old (t ∷ ts) g → Filled x self.new ts g }
+    {
+        self.trap_count = self.trap_count.saturating_sub(1);
+    }
 }

@@ -1,5 +1,5 @@
 -- One byte more, and the fields of the line.
-use mathlib.Core.Path.{◌≡◌, refl, sym, ap, ◌∙◌}
+use mathlib.Core.Path.{◌≡◌, refl, sym, ap}
 use mathlib.Core.List.{List, [], ◌∷◌, ◌++◌}
 use mathlib.Core.Bool.{Bool, true, false, cond}
 use Prim.Native.Nat.{ℕ, suc, ◌+◌, ◌≤◌, ◌<◌}
@@ -7,16 +7,15 @@ use Prim.Native.Char.{code}
 use lib.Dec.{eqb, ltb}
 use native.Mathlib.Numerals.{add-one}
 use native.Mathlib.Omega.{arith}
-use lib.ListN.{length, get_or, take, drop, length-append}
+use lib.ListN.{length, get_or, take, length-append}
 use lib.Seq.{take-suc}
 use borrow.Author.Tests.{lt-ltb}
-use Rattle.table.proofs.Buffers.{sets-front}
 use Rattle.grammar.specs.Ascii.{ascii}
 use Rattle.listing.specs.Text.{decimal, fields}
-use Rattle.listing.specs.Rendering.{WholeText}
-use Rattle.listing.specs.Written.{Written}
+use Rattle.listing.specs.declared.writer.Writer.{Writer}
 use Rattle.listing.proofs.Digits.{few-digits}
-use Rattle.listing.proofs.Writing.{Rest, all_left}
+use Rattle.listing.proofs.Writing.{left-all}
+use Rattle.listing.proofs.Fields.{FieldsLeft}
 use Rattle.spot.specs.Spots.{line_feeds, last_line, line_after, column_after, spot_text}
 
 -- the bytes xs with a line feed more
@@ -94,19 +93,10 @@ module _ (line column : ℕ) where
   abbrev pub spot_fields : List (List ℕ)
   spot_fields = ascii "line" ∷ decimal line ∷ ascii "column" ∷ decimal column ∷ []
 
-  pub spot-left : (old : List ℕ) → Rest old 0 (spot_text line column) old 0 (fields spot_fields)
+  pub spot-left : (w : Writer) → FieldsLeft w (spot_text line column) w spot_fields
   unfolding spot_text
-  spot-left old = all_left old 0 (fields spot_fields)
+  spot-left w = record { left = left-all w (fields spot_fields) }
 
   pub spot-short : length (spot_text line column) ≤ 142
   unfolding spot_text
   spot-short = simp length-append (omega (arith, few-digits 10 line, few-digits 10 column))
-
-  pub spot-written : {old new : List ℕ} {r : ℕ} → 160 ≤ length old → Written old 0 (spot_text line column) new r → WholeText (spot_text line column) old new r
-  spot-written {old = old} h w =
-      let c = w.is ∙ sets-front (spot_text line column) old (omega (arith, spot-short)) in
-      record {
-        end = omega (arith, w.end);
-        within = omega (arith, w.end, ap (λ (l : List ℕ). length l) c, length-append (spot_text line column) (drop (length (spot_text line column)) old));
-        content = c;
-      }

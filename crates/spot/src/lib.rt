@@ -6,6 +6,8 @@ ghost use Rattle.grammar.specs.Limits.{max_source};
 ghost use Rattle.listing.specs.Rendering.{WholeText};
 ghost use Rattle.spot.specs.Spots.{line_after, column_after, SpotOf, spot_text};
 
+use listing::Writer;
+
 #[derive(Clone, Copy)]
 pub struct Spot {
     pub line: usize,
@@ -15,26 +17,24 @@ pub struct Spot {
 // Enough bytes for the line that tells any spot.
 pub const LINE: usize = 160;
 
-// The line after a byte.
-fn line_after(line: usize, byte: u8) -> usize
-    requires { line ≤ max_source }
-    ensures { result ≡ line_after line byte }
-{
-    if byte == b'\n' {
-        return line + 1;
+impl Spot {
+    // The spot after a byte.
+    fn after(self, byte: u8) -> Spot
+        requires { (self.line ≤ max_source) × (self.column ≤ max_source) }
+        ensures { (result.line ≡ line_after self.line byte) × (result.column ≡ column_after self.column byte) }
+    {
+        if byte == b'\n' {
+            Spot {
+                line: self.line + 1,
+                column: 1,
+            }
+        } else {
+            Spot {
+                line: self.line,
+                column: self.column + 1,
+            }
+        }
     }
-    line
-}
-
-// The column after a byte.
-fn column_after(column: usize, byte: u8) -> usize
-    requires { column ≤ max_source }
-    ensures { result ≡ column_after column byte }
-{
-    if byte == b'\n' {
-        return 1;
-    }
-    column + 1
 }
 
 // The line and column of a byte, or of the end of the text.
@@ -42,25 +42,22 @@ pub fn find_spot(text: &[u8], place: usize) -> Spot
     requires { (place ≤ length text.now) × (place ≤ max_source) }
     ensures { SpotOf text.now place result.line result.column }
 {
-    let mut line: usize = 1;
-    let mut column: usize = 1;
-    let mut i: usize = 0;
-    while i < place {
-        let byte = text[i];
-        line = line_after(line, byte);
-        column = column_after(column, byte);
-        i += 1;
+    let mut spot = Spot { line: 1, column: 1 };
+    for byte in &text[..place] {
+        spot = spot.after(*byte);
     }
-    Spot { line, column }
+    spot
 }
 
-// The line that tells them.
-pub fn write_spot(line: usize, column: usize, text: &mut [u8]) -> usize
+// The line that tells a spot; its length.
+pub fn write_spot(spot: Spot, text: &mut [u8]) -> usize
     requires { 160 ≤ length text.old }
-    ensures { WholeText (spot_text line column) text.old text.new result }
+    ensures { WholeText (spot_text spot.line spot.column) text.old text.new result }
 {
-    let mut i = listing::write_bytes(text, 0, b"line ");
-    i = listing::write_field(text, i, line as u64, 10, b' ');
-    i = listing::write_bytes(text, i, b"column ");
-    listing::write_field(text, i, column as u64, 10, b'\n')
+    let mut to = Writer::new(text);
+    to.bytes(b"line ");
+    to.field(spot.line as u64, 10, b' ');
+    to.bytes(b"column ");
+    to.field(spot.column as u64, 10, b'\n');
+    to.written()
 }

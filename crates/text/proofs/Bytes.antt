@@ -5,7 +5,8 @@ use Prim.Native.Nat.{ℕ, zero, suc, ◌+◌, ◌%◌, ◌≤◌, ◌<◌}
 use native.Mathlib.Numerals.{add-one}
 use native.Mathlib.Omega.{arith}
 use lib.ListN.{length, get_or, set, take, drop}
-use Rattle.table.proofs.Buffers.{front, front-suc, length_front}
+use lib.Seq.{take_all}
+use Rattle.table.proofs.Buffers.{front, front-suc}
 use Rattle.grammar.specs.Clipping.{low_bytes}
 
 pub length-low : (w : List ℕ) → length (low_bytes w) ≡ length w
@@ -22,22 +23,20 @@ take-low zero w = refl
 take-low (suc n) [] = refl
 take-low (suc n) (b ∷ w) = ap (λ (l : List ℕ). b % 256 ∷ l) (take-low n w)
 
-pub record Filling (w old now : List ℕ) (n i : ℕ) : Type 0 where
-  pub bound : i ≤ n
+pub record Filling (w old now : List ℕ) (i : ℕ) : Type 0 where
   pub is : now ≡ front (low_bytes w) old i
 
-module _ {w old now : List ℕ} {n i : ℕ} (has : n ≤ length w) (room : n ≤ length old) (o : Filling w old now n i) where
-  pub filling-length : length now ≡ length old
-  filling-length = ap (λ (l : List ℕ). length l) o.is ∙ length_front (low_bytes w) old i (omega (arith, o.bound, length-low w)) (omega (arith, o.bound))
-
-  pub filling-next : (v : ℕ) → i < n → v ≡ get_or w i 0 % 256 → Filling w old (set now i v) n (i + 1)
+module _ {w old now : List ℕ} {i : ℕ} (room : length w ≤ length old) (o : Filling w old now i) where
+  pub filling-next : (v : ℕ) → i < length w → v ≡ get_or w i 0 % 256 → Filling w old (set now i v) (i + 1)
   filling-next v h e = record {
-    bound = omega arith;
     is = ap (λ (l : List ℕ). set l i v) o.is ∙ front-suc (low_bytes w) old i v (omega (arith, length-low w)) (omega arith) (e ∙ sym (low-at w i)) ∙ ap (λ (k : ℕ). front (low_bytes w) old k) (sym (add-one i));
   }
 
-  pub filling-end : n ≤ i → now ≡ take n (low_bytes w) ++ drop n old
-  filling-end h = let all : i ≡ n = omega (arith, o.bound) in o.is ∙ ap (λ (k : ℕ). front (low_bytes w) old k) all
+  pub filling-end : length w ≤ i → i ≤ length w → now ≡ low_bytes w ++ drop (length w) old
+  filling-end h g =
+      let all : i ≡ length w = omega arith in
+      let l : take (length w) (low_bytes w) ≡ low_bytes w = take_all (length w) (low_bytes w) (omega (arith, length-low w)) in
+      o.is ∙ ap (λ (k : ℕ). front (low_bytes w) old k) all ∙ ap (λ (b : List ℕ). b ++ drop (length w) old) l
 
 -- a list whose entries are those of another
 pub take-is : (n : ℕ) (w bs : List ℕ) → length bs ≡ n → n ≤ length w → ((j : ℕ) → j < n → get_or w j 0 ≡ get_or bs j 0) → take n w ≡ bs

@@ -8,7 +8,7 @@ use lib.Seq.{length-take-le, take_all}
 use Rattle.esterel.specs.Table.{Verdict}
 use Rattle.grammar.specs.Limits.{max_source}
 use Rattle.grammar.specs.Meaning.{VerdictOf, overlong, faulty, derived}
-use Rattle.text.specs.declared.Reading.{Reading}
+use Rattle.text.specs.Reading.{Answer}
 use Rattle.text.specs.Reading.{ReadAs, short, judged}
 
 module _ (k : ℕ) (input : List ℕ) (more : max_source < k) where
@@ -24,6 +24,6 @@ module _ (k : ℕ) (input : List ℕ) (more : max_source < k) where
       go (yes h) = cut-verdict h v n at j
       go (no h) = rw (take_all k input (omega arith)) at j
 
-  pub read_of_front : (old new : List ℕ) (r : Reading) → ReadAs (take k input) old new r → ReadAs input old new r
+  pub read_of_front : (old new : List ℕ) (r : Answer) → ReadAs (take k input) old new r → ReadAs input old new r
   read_of_front old new r (short h a) = short h a
   read_of_front old new r (judged v n at h j a) = judged v n at h (verdict_of_front v n at j) a

@@ -9,9 +9,10 @@ use lib.ListN.{length, get_or, drop, length-append, drop_of_length-le}
 use lib.Seq.{drop-cons}
 use Rattle.starts.specs.Ticks.{Bits}
 use Rattle.listing.specs.Text.{decimal, fields}
-use Rattle.listing.specs.Written.{Written}
+use Rattle.listing.specs.Writer.{HasRoom, Puts}
+use Rattle.listing.specs.declared.writer.Writer.{Writer}
 use Rattle.listing.proofs.Digits.{digits-few}
-use Rattle.listing.proofs.Writing.{Rest, all_left, next-left, last-left, none_left}
+use Rattle.listing.proofs.Writing.{Left, left-all, left-next, left-last, left-fits, left-none}
 use Rattle.tickline.specs.Line.{tick_text, max_line}
 use Rattle.tickline.specs.Written.{answers_text}
 
@@ -42,58 +43,60 @@ tick_short node answers n b h =
 -- ---- write_answers
 
 -- the answers before i are written
-pub record Writing (old : List ℕ) (at : ℕ) (answers now : List ℕ) (pos i : ℕ) : Type 0 where
+pub record Writing (first : Writer) (answers : List ℕ) (now : Writer) (i : ℕ) : Type 0 where
   pub bound : i ≤ length answers
-  pub left : Rest old at (answers_text answers) now pos (answers_text (drop i answers))
+  pub left : Left first (answers_text answers) now (answers_text (drop i answers))
 
-pub writing_none : (old : List ℕ) (at : ℕ) (answers : List ℕ) → Writing old at answers old at 0
-writing_none old at answers = record { bound = omega arith; left = all_left old at (answers_text answers) }
+pub writing_none : (w : Writer) (answers : List ℕ) → Writing w answers w 0
+writing_none w answers = record { bound = omega arith; left = left-all w (answers_text answers) }
 
-module _ {old : List ℕ} {at : ℕ} {answers now : List ℕ} {pos i : ℕ} (room : at + length (answers_text answers) ≤ length old) (o : Writing old at answers now pos i) (h : i < length answers) where
-  abbrev a : ℕ
-  a = get_or answers i 0
+module _ {first : Writer} {answers : List ℕ} {now : Writer} {i : ℕ} (o : Writing first answers now i) where
+  module _ (h : i < length answers) where
+    abbrev a : ℕ
+    a = get_or answers i 0
 
-  front : Rest old at (answers_text answers) now pos ((32 ∷ []) ++ (decimal a ++ answers_text (drop (i + 1) answers)))
-  front = rw (add-one i) (subst (λ l. Rest old at (answers_text answers) now pos (answers_text l)) (drop-cons answers i 0 h) o.left)
+    front : Left first (answers_text answers) now ((32 ∷ []) ++ (decimal a ++ answers_text (drop (i + 1) answers)))
+    front = rw (add-one i) (subst (λ l. Left first (answers_text answers) now (answers_text l)) (drop-cons answers i 0 h) o.left)
 
-  pub blank-fits : pos < length now
-  blank-fits = omega (arith, front.end, front.long)
+    module _ (room : HasRoom first (answers_text answers)) where
+      pub blank-fits : HasRoom now (32 ∷ [])
+      blank-fits = omega (arith, left-fits room front)
 
-  module _ {mid : List ℕ} {j : ℕ} (w : Written now pos (32 ∷ []) mid j) where
-    digit-left : Rest old at (answers_text answers) mid j (decimal a ++ answers_text (drop (i + 1) answers))
-    digit-left = next-left (32 ∷ []) (decimal a ++ answers_text (drop (i + 1) answers)) front w
+      pub digit-fits : {mid : Writer} → Puts now (32 ∷ []) mid → HasRoom mid (decimal a)
+      digit-fits {mid} w =
+          omega (arith, left-fits room (left-next (32 ∷ []) (decimal a ++ answers_text (drop (i + 1) answers)) front w), length-append (decimal a) (answers_text (drop (i + 1) answers)))
 
-    pub digit-fits : j + length (decimal a) ≤ length mid
-    digit-fits = omega (arith, digit-left.end, digit-left.long, length-append (decimal a) (answers_text (drop (i + 1) answers)))
+    pub writing_next : {mid new : Writer} → Puts now (32 ∷ []) mid → Puts mid (decimal a) new → Writing first answers new (i + 1)
+    writing_next w v =
+        record {
+          bound = omega arith;
+          left = left-next (decimal a) (answers_text (drop (i + 1) answers)) (left-next (32 ∷ []) (decimal a ++ answers_text (drop (i + 1) answers)) front w) v;
+        }
 
-    pub writing_next : {new : List ℕ} {k : ℕ} → Written mid j (decimal a) new k → Writing old at answers new k (i + 1)
-    writing_next v = record { bound = omega arith; left = next-left (decimal a) (answers_text (drop (i + 1) answers)) digit-left v }
-
-pub writing_end : {old : List ℕ} {at : ℕ} {answers now : List ℕ} {pos i : ℕ} → Writing old at answers now pos i → length answers ≤ i → Written old at (answers_text answers) now pos
-writing_end {answers = answers} o h = none_left (rw (drop_of_length-le answers h) at o.left)
+  pub writing_end : length answers ≤ i → Puts first (answers_text answers) now
+  writing_end h = left-none (rw (drop_of_length-le answers h) at o.left)
 
 -- ---- write_tick
 
-module _ (old : List ℕ) (node : ℕ) (answers : List ℕ) (room : length (tick_text node answers) ≤ length old) where
-  node-left : Rest old 0 (tick_text node answers) old 0 (decimal node ++ (answers_text answers ++ (10 ∷ [])))
-  node-left = subst (Rest old 0 (tick_text node answers) old 0) (tick_is node answers) (all_left old 0 (tick_text node answers))
+module _ (first : Writer) (node : ℕ) (answers : List ℕ) where
+  node-left : Left first (tick_text node answers) first (decimal node ++ (answers_text answers ++ (10 ∷ [])))
+  node-left = subst (Left first (tick_text node answers) first) (tick_is node answers) (left-all first (tick_text node answers))
 
-  pub node-fits : 0 + length (decimal node) ≤ length old
-  node-fits = omega (arith, node-left.end, length-append (decimal node) (answers_text answers ++ (10 ∷ [])))
+  answers-left : {one : Writer} → Puts first (decimal node) one → Left first (tick_text node answers) one (answers_text answers ++ (10 ∷ []))
+  answers-left w = left-next (decimal node) (answers_text answers ++ (10 ∷ [])) node-left w
 
-  module _ {one : List ℕ} {i : ℕ} (w : Written old 0 (decimal node) one i) where
-    answers-left : Rest old 0 (tick_text node answers) one i (answers_text answers ++ (10 ∷ []))
-    answers-left = next-left (decimal node) (answers_text answers ++ (10 ∷ [])) node-left w
+  feed_left : {one two : Writer} → Puts first (decimal node) one → Puts one (answers_text answers) two → Left first (tick_text node answers) two (10 ∷ [])
+  feed_left w v = left-next (answers_text answers) (10 ∷ []) (answers-left w) v
 
-    pub answers-fit : i + length (answers_text answers) ≤ length one
-    answers-fit = omega (arith, answers-left.end, answers-left.long, length-append (answers_text answers) (10 ∷ []))
+  pub tick_written : {one two last : Writer} → Puts first (decimal node) one → Puts one (answers_text answers) two → Puts two (10 ∷ []) last → Puts first (tick_text node answers) last
+  tick_written w v x = left-last (feed_left w v) x
 
-    module _ {two : List ℕ} {j : ℕ} (v : Written one i (answers_text answers) two j) where
-      feed_left : Rest old 0 (tick_text node answers) two j (10 ∷ [])
-      feed_left = next-left (answers_text answers) (10 ∷ []) answers-left v
+  module _ (room : HasRoom first (tick_text node answers)) where
+    pub node-fits : HasRoom first (decimal node)
+    node-fits = omega (arith, left-fits room node-left, length-append (decimal node) (answers_text answers ++ (10 ∷ [])))
 
-      pub feed_fits : j < length two
-      feed_fits = omega (arith, feed_left.end, feed_left.long)
+    pub answers-fit : {one : Writer} → Puts first (decimal node) one → HasRoom one (answers_text answers)
+    answers-fit w = omega (arith, left-fits room (answers-left w), length-append (answers_text answers) (10 ∷ []))
 
-      pub tick_written : {new : List ℕ} {k : ℕ} → Written two j (10 ∷ []) new k → Written old 0 (tick_text node answers) new k
-      tick_written x = last-left feed_left x
+    pub feed_fits : {one two : Writer} → Puts first (decimal node) one → Puts one (answers_text answers) two → HasRoom two (10 ∷ [])
+    feed_fits w v = left-fits room (feed_left w v)

@@ -1,3 +1,2 @@
-pub mod Small
 pub mod Needs
 pub mod Walks

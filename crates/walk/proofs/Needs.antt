@@ -9,35 +9,19 @@ use native.Mathlib.Decide.{dec_lt}
 use native.Mathlib.Omega.{arith}
 use lib.ListN.{length, get_or, set, length-set}
 use lib.Seq.{get_or-set_same, get_or-set_other}
-use Rattle.table.specs.declared.Kind.{Kind}
 use Rattle.starts.specs.declared.Weight.{Weight}
 use Rattle.starts.specs.declared.Weight.TheVariants.{Answers, Entries}
 use Rattle.starts.specs.Summary.{up_to, together, prefer, weights}
-use Rattle.starts.specs.Walk.{no_worse, need_first}
+use Rattle.starts.specs.Walk.{need_first}
 use Rattle.starts.proofs.Agree.{up_to_agree}
 use Rattle.rows.specs.Rows.{value_of, values_of, Picks, Joins, LowRow, best_sum, Found}
-use Rattle.rows.specs.Filled.{RowAt}
-use Rattle.rows.proofs.Values.{pick_low}
 use Rattle.rows.proofs.Sweeps.{below, below-up_to, either-none, set_next}
 use Rattle.rows.proofs.Said.{row_low}
-use Rattle.walk.specs.Needs.{under_at, UpRow, first_need, First, Absent}
-
--- ---- need_under
-
-pub record Moving (kind : Kind) (code : ℕ) (need of : List ℕ) (j : ℕ) : Type 0 where
-  pub low : j ≤ 64
-  pub long : length of ≡ 64
-  pub done : (i : ℕ) → i < j → get_or of i 0 ≡ under_at kind code need i
-
-pub moves : {kind : Kind} {code : ℕ} {need of : List ℕ} {j r : ℕ} → Moving kind code need of j → j < 64 → r ≡ under_at kind code need j → Moving kind code need (set of j r) (j + 1)
-moves {kind} {code} {need} {of} {j} {r} o h e =
-    rw add-one
-    record { low = omega arith; long = length-set of j r ∙ o.long; done = set_next (λ i v. v ≡ under_at kind code need i) of j r (omega (arith, o.long)) o.done e }
+use Rattle.walk.specs.Needs.{UpRow, first_need, First}
 
 -- ---- up_to
 
 pub record Rising (w : Weight) (row of : List ℕ) (up k : ℕ) : Type 0 where
-  pub low : k ≤ 64
   pub long : length of ≡ 64
   pub is : value_of up ≡ below w (values_of row) k
   pub small : (m : ℕ) → LowRow m row → up ≤ m
@@ -48,7 +32,6 @@ pub rises : {w : Weight} {row of : List ℕ} {up k r : ℕ} → Rising w row of 
 rises {w} {row} {of} {up} {k} {r} o h p =
     rw add-one
     record {
-      low = omega arith;
       long = length-set of k r ∙ o.long;
       is = here;
       small = less;
@@ -60,7 +43,7 @@ rises {w} {row} {of} {up} {k} {r} o h p =
     here = p.is ∙ ap ((weights w).choice (values_of row k)) o.is
 
     less : (m : ℕ) → LowRow m row → r ≤ m
-    less m l = pick_low p (l.at k) (o.small m l)
+    less m l = omega (arith, p.low, l.at k, o.small m l)
 
 pub risen : {w : Weight} {row of : List ℕ} {up k : ℕ} → Rising w row of up k → 64 ≤ k → UpRow w row of
 risen o h =
@@ -163,7 +146,6 @@ module _ (w : Weight) (row need : List ℕ) where
       sym (up_from w (beside i) d i) ∙ ap (up_to (weights w) (beside i)) e
 
 pub record Sinking (w : Weight) (row need of : List ℕ) (above i : ℕ) : Type 0 where
-  pub low : i ≤ 64
   pub long : length of ≡ 64
   pub is : value_of above ≡ from w (sums w row need) i (64 - i)
   pub small : (m n : ℕ) → LowRow (suc m) row → LowRow (suc n) need → above ≤ suc (m + n)
@@ -181,21 +163,20 @@ set_before P of i r lt done here j h l = go (dec_lt i j)
         let g = get_or-set_same of i r 0 lt in
         rw (z, g) here
 
-pub sinks : {w : Weight} {row need of ups : List ℕ} {above i j v a r x : ℕ} → UpRow w row ups → Sinking w row need of above i → i ≡ suc j → Joins (get_or ups j 0) (get_or need j 0) v → Picks w v above r → Joins (get_or row j 0) (get_or need j 0) a → Picks w a above x → Sinking w row need (set of j r) x j
-sinks {w} {row} {need} {of} {ups} {above} {i} {j} {v} {a} {r} {x} u o e jv pr jw px =
+pub sinks : {w : Weight} {row need of ups : List ℕ} {above i j v a r x : ℕ} → UpRow w row ups → Sinking w row need of above i → i ≡ suc j → i ≤ 64 → Joins (get_or ups j 0) (get_or need j 0) v → Picks w v above r → Joins (get_or row j 0) (get_or need j 0) a → Picks w a above x → Sinking w row need (set of j r) x j
+sinks {w} {row} {need} {of} {ups} {above} {i} {j} {v} {a} {r} {x} u o e lt jv pr jw px =
     record {
-      low = omega (arith, o.low);
       long = length-set of j r ∙ o.long;
       is = px.is ∙ ap₂ (weights w).choice jw.is above-is ∙ ap (from w (sums w row need) j) (sym count);
       small = λ m n l k. omega (arith, px.low, jw.low, l.at j, k.at j, o.small m n l k);
-      done = set_before (λ i v. value_of v ≡ first_need w false row need i) of j r (omega (arith, o.long, o.low)) (λ l h. o.done l (omega arith)) here;
+      done = set_before (λ i v. value_of v ≡ first_need w false row need i) of j r (omega (arith, o.long)) (λ l h. o.done l (omega arith)) here;
       smalls = λ m n l k.
-          set_before (λ i v. v ≤ suc (m + n)) of j r (omega (arith, o.long, o.low)) (λ l' h. o.smalls m n l k l' (omega arith))
+          set_before (λ i v. v ≤ suc (m + n)) of j r (omega (arith, o.long)) (λ l' h. o.smalls m n l k l' (omega arith))
           (omega (arith, pr.low, jv.low, (u.low (suc m) l).at j, k.at j, o.small m n l k));
     }
   where
     count : 64 - j ≡ suc (64 - i)
-    count = omega (arith, o.low)
+    count = omega arith
 
     above-is : value_of above ≡ from w (sums w row need) (suc j) (64 - i)
     above-is = o.is ∙ ap (λ y. from w (sums w row need) y (64 - i)) e
@@ -203,8 +184,8 @@ sinks {w} {row} {need} {of} {ups} {above} {i} {j} {v} {a} {r} {x} u o e jv pr jw
     here : value_of r ≡ first_need w false row need j
     here =
         pr.is ∙
-        ap₂ (weights w).choice (jv.is ∙ ap (λ y. together ◌+◌ y (values_of need j)) (u.holds.at j (omega (arith, o.low)))) above-is ∙
-        parallel-is w row need j (64 - i) (omega (arith, o.low))
+        ap₂ (weights w).choice (jv.is ∙ ap (λ y. together ◌+◌ y (values_of need j)) (u.holds.at j (omega arith))) above-is ∙
+        parallel-is w row need j (64 - i) (omega arith)
 
 pub sunk : {w : Weight} {row need of : List ℕ} {above i : ℕ} → Sinking w row need of above i → i ≤ 0 → First w false row need of
 sunk o h =
@@ -213,11 +194,7 @@ sunk o h =
       low = λ m n l k. row_low (suc (m + n)) o.long (λ j i. o.smalls m n l k j (omega arith) i);
     }
 
--- ---- need_first and goes_absent
+-- ---- need_first
 
 pub first_of : {w : Weight} {b c : Bool} {row need r : List ℕ} → b ≡ c → First w c row need r → First w b row need r
 first_of {w = w} {row = row} {need = need} {r = r} e o = subst (λ x. First w x row need r) (sym e) o
-
-pub absent-is : {w : Weight} {rows need a b : List ℕ} {first last x y : ℕ} {r : Bool} → RowAt rows first a → RowAt rows last b → Found w a need x → Found w b need y → r ≡ no_worse w (value_of y) (value_of x) → Absent w rows first last need r
-absent-is {w = w} {a = a} {b = b} oa ob fa fb e =
-    record { then = a; other = b; of_first = oa; of_last = ob; is = e ∙ ap₂ (no_worse w) fb.gets.is fa.gets.is }

@@ -1,11 +1,11 @@
 -- The walk at a node: what each call of `walk_at` requires, and what each of its returns gives.
 use mathlib.Core.Path.{◌≡◌, refl, sym, ap, ap₂, subst, ◌∙◌}
-use mathlib.Core.Bool.{Bool, true, false, cond, ◌&&◌, not}
+use mathlib.Core.Bool.{Bool, true, false, cond, ◌&&◌}
 use mathlib.Core.List.{List, [], ◌++◌}
 use Prim.Native.Nat.{ℕ, zero, suc, ◌+◌, ◌-◌, ◌*◌, ◌≤◌, ◌<◌, max}
 use native.Mathlib.Numerals.{add-one}
 use native.Mathlib.Omega.{arith}
-use borrow.Author.Tests.{ne_eqb, eqb-true, eqb-false, not-true, not-false}
+use borrow.Author.Tests.{ne_eqb}
 use lib.Dec.{eqb}
 use lib.ListN.{length, get_or, set, length-set, length-append}
 use lib.Seq.{sets, length-sets}
@@ -23,7 +23,7 @@ use Rattle.starts.proofs.Agree.{Agree, walk_agree, walk-low}
 use Rattle.starts.proofs.Short.{walk-short}
 use Rattle.starts.proofs.Theorems.{codes-below}
 use Rattle.rows.specs.Rows.{value_of, values_of, max_number, best_sum, LowRow}
-use Rattle.rows.specs.Filled.{RowAt}
+use Rattle.rows.specs.Filled.{numbers_at}
 use Rattle.table.specs.Program.{program_of}
 use Rattle.table.specs.Columns.{stmt_at}
 use Rattle.table.proofs.Buffers.{sets-append}
@@ -31,7 +31,8 @@ use Rattle.table.proofs.Bytes.{leaf-is, field_byte}
 use Rattle.table.proofs.Views.{Over, Both, in_place, kind-is, leaf_of_lem, one_of, two_of_lem}
 use Rattle.rows.proofs.Said.{row_low, said-is, said-low, said-few}
 use Rattle.walk.specs.declared.Walked.{Walked}
-use Rattle.walk.specs.Needs.{under_at, Under, first_need, First, RowLow, Absent}
+use Rattle.walk.specs.declared.Ground.{Ground}
+use Rattle.walk.specs.Needs.{under_at, goes_absent, Under, first_need, First}
 use Rattle.walk.specs.Walks.{Leaves, Walking, Walks}
 
 -- a walk that is known otherwise
@@ -102,35 +103,34 @@ presents-test (present s) p q e = refl
 presents-test sequence p q e = let z : ◌≡◌ {A = ℕ} 0 1 = cc in absurd (omega arith)
 presents-test parallel p q e = let z : ◌≡◌ {A = ℕ} 0 1 = cc in absurd (omega arith)
 
-pub inside : {weight : Weight} {t sizes rows need answers : List ℕ} {i at : ℕ} → Walking weight t sizes rows need answers i at → i < size (program_of t)
+pub inside : {g : Ground} {need answers : List ℕ} {i at : ℕ} → Walking g need answers i at → i < size (program_of g.table.now)
 inside o = omega (arith, o.within, o.known)
 
-module _ {weight : Weight} {t sizes rows need answers : List ℕ} {i at : ℕ} (o : Walking weight t sizes rows need answers i at) {k : Kind} {n : ℕ} (ek : k ≡ kind_of (get_or t (2 * i) 0)) (en : n ≡ arity_of k) where
-  kind-at : {w : Stmt} → stmt_at t i ≡ w → k ≡ kind_of (kind w)
+module _ {g : Ground} {need answers : List ℕ} {i at : ℕ} (o : Walking g need answers i at) {k : Kind} {n : ℕ} (ek : k ≡ kind_of (get_or g.table.now (2 * i) 0)) (en : n ≡ arity_of k) where
+  kind-at : {w : Stmt} → stmt_at g.table.now i ≡ w → k ≡ kind_of (kind w)
   kind-at e = sym (kind-is o.formed.measured (inside o) ek en e)
 
-  below_at : {w : Stmt} → stmt_at t i ≡ w → Below 63 w
+  below_at : {w : Stmt} → stmt_at g.table.now i ≡ w → Below 63 w
   below_at e = subst (Below 63) e (codes-below o.formed.well_formed i)
 
-  few-at : {w : Stmt} → stmt_at t i ≡ w → o.most + size w ≤ max_nodes
+  few-at : {w : Stmt} → stmt_at g.table.now i ≡ w → o.most + size w ≤ max_nodes
   few-at e = subst (λ w. o.most + size w ≤ max_nodes) e o.few
 
-  room_at : {w : Stmt} → stmt_at t i ≡ w → at + presents w ≤ length answers
+  room_at : {w : Stmt} → stmt_at g.table.now i ≡ w → at + presents w ≤ length answers
   room_at e = subst (λ w. at + presents w ≤ length answers) e o.room
 
   pub need_low : LowRow max_number need
   need_low = record { at = λ j. omega (arith, o.low.at j, o.few) }
 
   -- a call at a child
-  child_call : {need' answers' : List ℕ} {j at' : ℕ} {p : Stmt} → stmt_at t j ≡ p → j < i → length need' ≡ 64 → (m : ℕ) → LowRow (suc m) need' → m + size p ≤ max_nodes → at' + presents p ≤ length answers' → Walking weight t sizes rows need' answers' j at'
-  child_call {answers' = answers'} {at' = at'} e lt len m l f r =
+  child_call : {need' answers' : List ℕ} {j at' : ℕ} {p : Stmt} → stmt_at g.table.now j ≡ p → j < i → (m : ℕ) → LowRow (suc m) need' → m + size p ≤ max_nodes → at' + presents p ≤ length answers' → Walking g need' answers' j at'
+  child_call {answers' = answers'} {at' = at'} e lt m l f r =
       record {
         formed = o.formed;
         top = o.top;
         within = omega (arith, o.within);
         known = o.known;
         filled = o.filled;
-        long = len;
         most = m;
         low = l;
         few = subst (λ w. m + size w ≤ max_nodes) (sym e) f;
@@ -138,93 +138,93 @@ module _ {weight : Weight} {t sizes rows need answers : List ℕ} {i at : ℕ} (
       }
 
   -- ---- no child
-  leaf-code : (l : Leaf) (f : Need) → leaf_code l ≡ code_of (walk weight 63 (leaf l) f)
+  leaf-code : (l : Leaf) (f : Need) → leaf_code l ≡ code_of (walk g.weight 63 (leaf l) f)
   leaf-code nothing f = refl
   leaf-code pause f = refl
   leaf-code (emit s) f = refl
   leaf-code (exit level) f = refl
 
-  leaf-none : (l : Leaf) (f : Need) → answers_of (walk weight 63 (leaf l) f) ≡ []
+  leaf-none : (l : Leaf) (f : Need) → answers_of (walk g.weight 63 (leaf l) f) ≡ []
   leaf-none nothing f = refl
   leaf-none pause f = refl
   leaf-none (emit s) f = refl
   leaf-none (exit level) f = refl
 
-  pub leaf-returns : {f c : ℕ} {r : Walked} → n ≡ 0 → f ≡ get_or t (2 * i + 1) 0 → c ≡ leaf_code (leaf_of k f) → r.code ≡ c → r.at ≡ at → Walks weight (stmt_at t i) need answers answers at r
+  pub leaf-returns : {f c : ℕ} {r : Walked} → n ≡ 0 → f ≡ get_or g.table.now (2 * i + 1) 0 → c ≡ leaf_code (leaf_of k f) → r.code ≡ c → r.at ≡ at → Walks g.weight (stmt_at g.table.now i) need answers answers at r
   leaf-returns z ef ec er ea =
       let (l, e) = leaf_of_lem o.formed.measured (inside o) ek en z in
       let none = leaf-none l (values_of need) in
       at-stmt e
-      (walks_as (walk weight 63 (leaf l) (values_of need)) refl
-      (er ∙ ec ∙ ap leaf_code (ap₂ leaf_of (kind-at e) (ef ∙ field_byte t o.formed.measured.readable i (inside o) ∙ ap field e) ∙ leaf-is l) ∙ leaf-code l (values_of need))
+      (walks_as (walk g.weight 63 (leaf l) (values_of need)) refl
+      (er ∙ ec ∙ ap leaf_code (ap₂ leaf_of (kind-at e) (ef ∙ field_byte g.table.now o.formed.measured.readable i (inside o) ∙ ap field e) ∙ leaf-is l) ∙ leaf-code l (values_of need))
       (let y : at ≡ at + 0 = omega arith in ea ∙ y ∙ ap (λ x. at + length x) (sym none))
       (ap (λ x. sets answers at x) (sym none)))
 
   -- ---- one child
-  before-one : {u : Unary} {p : Stmt} → Over t i (get_or sizes (i - 1) 0) u p → i - 1 < i
+  before-one : {u : Unary} {p : Stmt} → Over g.table.now i (get_or g.sizes.now (i - 1) 0) u p → i - 1 < i
   before-one v = omega (arith, v.ends, v.some)
 
   module _ (z : n ≡ 1) {under : List ℕ} (d : Under k 0 need under) where
-    pub one_call : Walking weight t sizes rows under answers (i - 1) at
+    pub one_call : Walking g under answers (i - 1) at
     one_call =
         let (u, p, v) = one_of o.formed.measured (inside o) ek en refl z in
-        child_call v.child (before-one v) d.long o.most
+        child_call v.child (before-one v) o.most
         (row_low (suc o.most) d.long (λ j l. subst (λ x. x ≤ suc o.most) (sym (d.at j l)) (under_low k 0 need (suc o.most) o.low j)))
         (omega (arith, few-at v.is)) (room_at v.is)
 
-    agrees_one : (u : Unary) (p : Stmt) → stmt_at t i ≡ one u p → Agree 63 (values_of under) (inner_need weight need u (values_of need))
-    agrees_one u p e j h = ap value_of (d.at j (omega arith) ∙ ap (λ x. under_at x 0 need j) (kind-at e)) ∙ under_one weight need u p j
+    agrees_one : (u : Unary) (p : Stmt) → stmt_at g.table.now i ≡ one u p → Agree 63 (values_of under) (inner_need g.weight need u (values_of need))
+    agrees_one u p e j h = ap value_of (d.at j (omega arith) ∙ ap (λ x. under_at x 0 need j) (kind-at e)) ∙ under_one g.weight need u p j
 
-    module _ {answers' : List ℕ} {inner : Walked} (w : Walks weight (stmt_at t (i - 1)) under answers answers' at inner) where
+    module _ {answers' : List ℕ} {inner : Walked} (w : Walks g.weight (stmt_at g.table.now (i - 1)) under answers answers' at inner) where
       -- the walk of the child, with what is needed after it
-      inner-is : (u : Unary) (p : Stmt) → Over t i (get_or sizes (i - 1) 0) u p → Walks weight p under answers answers' at inner × (walk weight 63 p (values_of under) ≡ walk weight 63 p (inner_need weight need u (values_of need)))
-      inner-is u p v = (at-stmt (sym v.child) w, walk_agree weight 63 p (below_at v.is).1 (values_of under) (inner_need weight need u (values_of need)) (agrees_one u p v.is))
+      inner-is : (u : Unary) (p : Stmt) → Over g.table.now i (get_or g.sizes.now (i - 1) 0) u p → Walks g.weight p under answers answers' at inner × (walk g.weight 63 p (values_of under) ≡ walk g.weight 63 p (inner_need g.weight need u (values_of need)))
+      inner-is u p v = (at-stmt (sym v.child) w, walk_agree g.weight 63 p (below_at v.is).1 (values_of under) (inner_need g.weight need u (values_of need)) (agrees_one u p v.is))
 
-      pub one-returns : {r : Walked} → Leaves k inner r → Walks weight (stmt_at t i) need answers answers' at r
+      pub one-returns : {r : Walked} → Leaves k inner r → Walks g.weight (stmt_at g.table.now i) need answers answers' at r
       unfolding kind_of
       one-returns {r} l =
           let (u, p, v) = one_of o.formed.measured (inside o) ek en refl z in
           let (w', same) = inner-is u p v in
           go u p v w' same (l.code ∙ ap (λ c. cond (is_trap c) (catch_code inner.code) inner.code) (kind-at v.is))
         where
-          go : (u : Unary) (p : Stmt) → Over t i (get_or sizes (i - 1) 0) u p → Walks weight p under answers answers' at inner → walk weight 63 p (values_of under) ≡ walk weight 63 p (inner_need weight need u (values_of need)) → r.code ≡ cond (is_trap (kind_of (kind (one u p)))) (catch_code inner.code) inner.code → Walks weight (stmt_at t i) need answers answers' at r
-          go (signal s) p v w' same e = at-stmt v.is (walks_as (walk weight 63 p (values_of under)) (sym same) (e ∙ w'.code) (l.at ∙ w'.after) w'.written)
-          go (suspend s) p v w' same e = at-stmt v.is (walks_as (walk weight 63 p (values_of under)) (sym same) (e ∙ w'.code) (l.at ∙ w'.after) w'.written)
-          go loop p v w' same e = at-stmt v.is (walks_as (walk weight 63 p (values_of under)) (sym same) (e ∙ w'.code) (l.at ∙ w'.after) w'.written)
+          go : (u : Unary) (p : Stmt) → Over g.table.now i (get_or g.sizes.now (i - 1) 0) u p → Walks g.weight p under answers answers' at inner → walk g.weight 63 p (values_of under) ≡ walk g.weight 63 p (inner_need g.weight need u (values_of need)) → r.code ≡ cond (is_trap (kind_of (kind (one u p)))) (catch_code inner.code) inner.code → Walks g.weight (stmt_at g.table.now i) need answers answers' at r
+          go (signal s) p v w' same e = at-stmt v.is (walks_as (walk g.weight 63 p (values_of under)) (sym same) (e ∙ w'.code) (l.at ∙ w'.after) w'.written)
+          go (suspend s) p v w' same e = at-stmt v.is (walks_as (walk g.weight 63 p (values_of under)) (sym same) (e ∙ w'.code) (l.at ∙ w'.after) w'.written)
+          go loop p v w' same e = at-stmt v.is (walks_as (walk g.weight 63 p (values_of under)) (sym same) (e ∙ w'.code) (l.at ∙ w'.after) w'.written)
           go trap p v w' same e =
               at-stmt v.is
-              (walks_as (recode catch_code (walk weight 63 p (values_of under))) (ap (recode catch_code) (sym same))
+              (walks_as (recode catch_code (walk g.weight 63 p (values_of under))) (ap (recode catch_code) (sym same))
               (e ∙ ap catch_code w'.code) (l.at ∙ w'.after) w'.written)
 
   -- ---- two children; s is the size of the second
-  module _ (z : n ≡ 0 → ⊥) (y : n ≡ 1 → ⊥) {s : ℕ} (es : s ≡ get_or sizes (i - 1) 0) where
-    pub last-room : 64 * (i - 1) + 64 ≤ length rows
+  module _ (z : n ≡ 0 → ⊥) (y : n ≡ 1 → ⊥) {s : ℕ} (es : s ≡ get_or g.sizes.now (i - 1) 0) where
+    pub last-room : i - 1 < length g.rows.now
     last-room = omega (arith, in_place o.formed.measured (inside o), o.filled.room)
 
-    pub first-room : 64 * (i - 1 - s) + 64 ≤ length rows
+    pub first-room : i - 1 - s < length g.rows.now
     first-room = omega (arith, in_place o.formed.measured (inside o), o.filled.room)
 
-    module _ {b : Binary} {p q : Stmt} (v : Both t i s b p q) where
+    module _ {b : Binary} {p q : Stmt} (v : Both g.table.now i s b p q) where
       before_last : i - 1 < i
       before_last = omega (arith, v.ends, v.some_right)
 
       before-first : i - 1 - s < i
       before-first = omega (arith, v.ends, v.some_right)
 
-    pub last-low : RowLow rows (i - 1)
-    last-low = let (b, p, q, v) = two_of_lem o.formed.measured (inside o) ek en es z y in record { at = λ row a. said-low o.formed o.filled (i - 1) (omega (arith, before_last v, o.within)) a (omega (arith, (inside o))) }
+    pub last-low : LowRow max_number (numbers_at g.rows.now (i - 1))
+    last-low = let (b, p, q, v) = two_of_lem o.formed.measured (inside o) ek en es z y in said-low o.formed o.filled (i - 1) (omega (arith, before_last v, o.within)) (omega (arith, (inside o)))
 
-    pub first-low : RowLow rows (i - 1 - s)
-    first-low = let (b, p, q, v) = two_of_lem o.formed.measured (inside o) ek en es z y in record { at = λ row a. said-low o.formed o.filled (i - 1 - s) (omega (arith, before-first v, o.within)) a (omega (arith, (inside o))) }
+    pub first-low : LowRow max_number (numbers_at g.rows.now (i - 1 - s))
+    first-low = let (b, p, q, v) = two_of_lem o.formed.measured (inside o) ek en es z y in said-low o.formed o.filled (i - 1 - s) (omega (arith, before-first v, o.within)) (omega (arith, (inside o)))
 
-    last-is : {row : List ℕ} (b : Binary) (p q : Stmt) → Both t i s b p q → RowAt rows (i - 1) row → values_of row ≡ best weight q
-    last-is b p q v a = said-is o.formed o.filled (i - 1) (omega (arith, before_last v, o.within)) a v.right
+    last-is : (b : Binary) (p q : Stmt) → Both g.table.now i s b p q → values_of (numbers_at g.rows.now (i - 1)) ≡ best g.weight q
+    last-is b p q v = said-is o.formed o.filled (i - 1) (omega (arith, before_last v, o.within)) v.right
 
-    first-is : {row : List ℕ} (b : Binary) (p q : Stmt) → Both t i s b p q → RowAt rows (i - 1 - s) row → values_of row ≡ best weight p
-    first-is b p q v a = said-is o.formed o.filled (i - 1 - s) (omega (arith, before-first v, o.within)) a v.left
+    first-is : (b : Binary) (p q : Stmt) → Both g.table.now i s b p q → values_of (numbers_at g.rows.now (i - 1 - s)) ≡ best g.weight p
+    first-is b p q v = said-is o.formed o.filled (i - 1 - s) (omega (arith, before-first v, o.within)) v.left
 
     module _ {ip : Bool} (ei : ip ≡ is_present k) where
-      present-is : (b : Binary) (p q : Stmt) → Both t i s b p q → {x : Bool} → ip ≡ x → is_present (kind_of (kind (two b p q))) ≡ x
+      present-is : (b : Binary) (p q : Stmt) → Both g.table.now i s b p q → {x : Bool} → ip ≡ x → is_present (kind_of (kind (two b p q))) ≡ x
       present-is b p q v f = sym (ei ∙ ap is_present (kind-at v.is)) ∙ f
 
       -- ---- a test
@@ -232,87 +232,90 @@ module _ {weight : Weight} {t sizes rows need answers : List ℕ} {i at : ℕ} (
         pub answer-room : at < length answers
         answer-room = let (b, p, q, v) = two_of_lem o.formed.measured (inside o) ek en es z y in omega (arith, room_at v.is, presents-test b p q (present-is b p q v f))
 
-        pub last_call : (a : ℕ) → Walking weight t sizes rows need (set answers at a) (i - 1) (at + 1)
+        pub last_call : (a : ℕ) → Walking g need (set answers at a) (i - 1) (at + 1)
         last_call a =
             let (b, p, q, v) = two_of_lem o.formed.measured (inside o) ek en es z y in
-            child_call v.right (before_last v) o.long o.most o.low
+            child_call v.right (before_last v) o.most o.low
             (omega (arith, few-at v.is))
             (omega (arith, room_at v.is, presents-test b p q (present-is b p q v f), length-set answers at a))
 
-        pub first_call : (a : ℕ) → Walking weight t sizes rows need (set answers at a) (i - 1 - s) (at + 1)
+        pub first_call : (a : ℕ) → Walking g need (set answers at a) (i - 1 - s) (at + 1)
         first_call a =
             let (b, p, q, v) = two_of_lem o.formed.measured (inside o) ek en es z y in
-            child_call v.left (before-first v) o.long o.most o.low
+            child_call v.left (before-first v) o.most o.low
             (omega (arith, few-at v.is))
             (omega (arith, room_at v.is, presents-test b p q (present-is b p q v f), length-set answers at a))
 
         -- the answer a, then the walk of the branch x
-        answered : {answers' : List ℕ} {r : Walked} (p x : Stmt) (a : ℕ) → walk weight 63 p (values_of need) ≡ answer a (walk weight 63 x (values_of need)) → Walks weight x need (set answers at a) answers' (at + 1) r → Walks weight p need answers answers' at r
+        answered : {answers' : List ℕ} {r : Walked} (p x : Stmt) (a : ℕ) → walk g.weight 63 p (values_of need) ≡ answer a (walk g.weight 63 x (values_of need)) → Walks g.weight x need (set answers at a) answers' (at + 1) r → Walks g.weight p need answers answers' at r
         answered p x a e w =
-            let u = answers_of (walk weight 63 x (values_of need)) in
-            walks_as (answer a (walk weight 63 x (values_of need))) e w.code
+            let u = answers_of (walk g.weight 63 x (values_of need)) in
+            walks_as (answer a (walk g.weight 63 x (values_of need))) e w.code
             (let c : at + 1 + length u ≡ at + suc (length u) = omega arith in w.after ∙ c)
             (w.written ∙ ap (λ j. sets (set answers at a) j u) (add-one at))
 
-        module _ {ab : Bool} (g : Absent weight rows (i - 1 - s) (i - 1) need ab) where
-          chosen : (b : Binary) (p q : Stmt) → Both t i s b p q → {x : Bool} → ab ≡ x → no_worse weight (cost weight 63 q (values_of need)) (cost weight 63 p (values_of need)) ≡ x
-          chosen b p q v e = sym (g.is ∙ ap₂ (no_worse weight) (cost-is weight g.other need q (last-is b p q v g.of_last)) (cost-is weight g.then need p (first-is b p q v g.of_first))) ∙ e
+        module _ {ab : Bool} (absent : ab ≡ goes_absent g.weight (numbers_at g.rows.now (i - 1 - s)) (numbers_at g.rows.now (i - 1)) need) where
+          chosen : (b : Binary) (p q : Stmt) → Both g.table.now i s b p q → {x : Bool} → ab ≡ x → no_worse g.weight (cost g.weight 63 q (values_of need)) (cost g.weight 63 p (values_of need)) ≡ x
+          chosen b p q v e =
+              sym (absent ∙ ap₂ (no_worse g.weight) (cost-is g.weight (numbers_at g.rows.now (i - 1)) need q (last-is b p q v)) (cost-is g.weight (numbers_at g.rows.now (i - 1 - s)) need p (first-is b p q v))) ∙ e
 
           -- what the walk of the test is
-          told : (g' : ℕ) (p q : Stmt) → Both t i s (present g') p q → {x : Bool} → ab ≡ x → walk weight 63 (two (present g') p q) (values_of need) ≡ cond x (answer 0 (walk weight 63 q (values_of need))) (answer 1 (walk weight 63 p (values_of need)))
-          told g' p q v e = ap (λ c. cond c (answer 0 (walk weight 63 q (values_of need))) (answer 1 (walk weight 63 p (values_of need)))) (chosen (present g') p q v e)
+          told : (s' : ℕ) (p q : Stmt) → Both g.table.now i s (present s') p q → {x : Bool} → ab ≡ x → walk g.weight 63 (two (present s') p q) (values_of need) ≡ cond x (answer 0 (walk g.weight 63 q (values_of need))) (answer 1 (walk g.weight 63 p (values_of need)))
+          told s' p q v e = ap (λ c. cond c (answer 0 (walk g.weight 63 q (values_of need))) (answer 1 (walk g.weight 63 p (values_of need)))) (chosen (present s') p q v e)
 
           -- absent and the else branch, or present and the then branch
-          pub test-returns : {answers' : List ℕ} {r : Walked} (x : Bool) → ab ≡ x → Walks weight (stmt_at t (cond x (i - 1) (i - 1 - s))) need (set answers at (cond x 0 1)) answers' (at + 1) r → Walks weight (stmt_at t i) need answers answers' at r
+          pub test-returns : {answers' : List ℕ} {r : Walked} {j v : ℕ} (x : Bool) → ab ≡ x → j ≡ cond x (i - 1) (i - 1 - s) → v ≡ cond x 0 1 → Walks g.weight (stmt_at g.table.now j) need (set answers at v) answers' (at + 1) r → Walks g.weight (stmt_at g.table.now i) need answers answers' at r
           unfolding kind_of
-          test-returns {answers'} {r} x e w = let (b, p, q, v) = two_of_lem o.formed.measured (inside o) ek en es z y in go b p q v (present-is b p q v f)
+          test-returns {answers'} {r} x e ej ev w' =
+              let w = rw (ej, ev) at w' in
+              let (b, p, q, v) = two_of_lem o.formed.measured (inside o) ek en es z y in go b p q v (present-is b p q v f) w
             where
-              taken : (g' : ℕ) (p q : Stmt) → Both t i s (present g') p q → (c : Bool) → ab ≡ c → Walks weight (stmt_at t (cond c (i - 1) (i - 1 - s))) need (set answers at (cond c 0 1)) answers' (at + 1) r → Walks weight (two (present g') p q) need answers answers' at r
-              taken g' p q v true e w = answered (two (present g') p q) q 0 (told g' p q v e) (at-stmt (sym v.right) w)
-              taken g' p q v false e w = answered (two (present g') p q) p 1 (told g' p q v e) (at-stmt (sym v.left) w)
+              taken : (s' : ℕ) (p q : Stmt) → Both g.table.now i s (present s') p q → (c : Bool) → ab ≡ c → Walks g.weight (stmt_at g.table.now (cond c (i - 1) (i - 1 - s))) need (set answers at (cond c 0 1)) answers' (at + 1) r → Walks g.weight (two (present s') p q) need answers answers' at r
+              taken s' p q v true e w = answered (two (present s') p q) q 0 (told s' p q v e) (at-stmt (sym v.right) w)
+              taken s' p q v false e w = answered (two (present s') p q) p 1 (told s' p q v e) (at-stmt (sym v.left) w)
 
-              go : (b : Binary) (p q : Stmt) → Both t i s b p q → is_present (kind_of (kind (two b p q))) ≡ true → Walks weight (stmt_at t i) need answers answers' at r
-              go (present g') p q v y = at-stmt v.is (taken g' p q v x e w)
-              go sequence p q v y = let c : ◌≡◌ {A = ℕ} 0 1 = cc in absurd (omega arith)
-              go parallel p q v y = let c : ◌≡◌ {A = ℕ} 0 1 = cc in absurd (omega arith)
+              go : (b : Binary) (p q : Stmt) → Both g.table.now i s b p q → is_present (kind_of (kind (two b p q))) ≡ true → Walks g.weight (stmt_at g.table.now (cond x (i - 1) (i - 1 - s))) need (set answers at (cond x 0 1)) answers' (at + 1) r → Walks g.weight (stmt_at g.table.now i) need answers answers' at r
+              go (present s') p q v y w = at-stmt v.is (taken s' p q v x e w)
+              go sequence p q v y w = let c : ◌≡◌ {A = ℕ} 0 1 = cc in absurd (omega arith)
+              go parallel p q v y w = let c : ◌≡◌ {A = ℕ} 0 1 = cc in absurd (omega arith)
 
       -- ---- a sequence or a parallel
-      module _ (f : ip ≡ false) {or : Bool} (eo : or ≡ is_sequence k) {row before : List ℕ} (a : RowAt rows (i - 1) row) (d : First weight or row need before) where
-        pub left_call : Walking weight t sizes rows before answers (i - 1 - s) at
+      module _ (f : ip ≡ false) {or : Bool} (eo : or ≡ is_sequence k) {before : List ℕ} (d : First g.weight or (numbers_at g.rows.now (i - 1)) need before) where
+        pub left_call : Walking g before answers (i - 1 - s) at
         left_call =
             let (b, p, q, v) = two_of_lem o.formed.measured (inside o) ek en es z y in
-            let row-few : LowRow (suc (size q)) row = subst (λ w. LowRow (suc (size w)) row) v.right (said-few o.formed o.filled (i - 1) (omega (arith, before_last v, o.within)) a) in
-            child_call v.left (before-first v) d.holds.long (size q + o.most)
+            let row-few : LowRow (suc (size q)) (numbers_at g.rows.now (i - 1)) = subst (λ w. LowRow (suc (size w)) (numbers_at g.rows.now (i - 1))) v.right (said-few o.formed o.filled (i - 1) (omega (arith, before_last v, o.within))) in
+            child_call v.left (before-first v) (size q + o.most)
             (d.low (size q) o.most row-few o.low)
             (omega (arith, few-at v.is))
             (omega (arith, room_at v.is, presents-two b p q (present-is b p q v f)))
 
         -- what the left needs, by the definitions
         abbrev left_need : Binary → Stmt → Need
-        left_need (present g) q = values_of need
-        left_need sequence q = need_first (cost weight 63 q (values_of need)) (values_of need)
-        left_need parallel q = λ j. cost weight 63 q (λ l. values_of need (max j l))
+        left_need (present s') q = values_of need
+        left_need sequence q = need_first (cost g.weight 63 q (values_of need)) (values_of need)
+        left_need parallel q = λ j. cost g.weight 63 q (λ l. values_of need (max j l))
 
-        agrees_left : (b : Binary) (p q : Stmt) → Both t i s b p q → Agree 63 (values_of before) (left_need b q)
+        agrees_left : (b : Binary) (p q : Stmt) → Both g.table.now i s b p q → Agree 63 (values_of before) (left_need b q)
         unfolding kind_of
         agrees_left b p q v j h = d.holds.at j (omega arith) ∙ go b v (sym (eo ∙ ap is_sequence (kind-at v.is))) (present-is b p q v f)
           where
-            go : (b : Binary) → Both t i s b p q → is_sequence (kind_of (kind (two b p q))) ≡ or → is_present (kind_of (kind (two b p q))) ≡ false → first_need weight or row need j ≡ left_need b q j
-            go (present g) v' e x = let c : ◌≡◌ {A = ℕ} 0 1 = cc in absurd (omega arith)
-            go sequence v' e x = ap (λ c. first_need weight c row need j) (sym e) ∙ sequence-is weight row need q (last-is sequence p q v' a) j
-            go parallel v' e x = ap (λ c. first_need weight c row need j) (sym e) ∙ beside-is weight row need q (last-is parallel p q v' a) j
+            go : (b : Binary) → Both g.table.now i s b p q → is_sequence (kind_of (kind (two b p q))) ≡ or → is_present (kind_of (kind (two b p q))) ≡ false → first_need g.weight or (numbers_at g.rows.now (i - 1)) need j ≡ left_need b q j
+            go (present s') v' e x = let c : ◌≡◌ {A = ℕ} 0 1 = cc in absurd (omega arith)
+            go sequence v' e x = ap (λ c. first_need g.weight c (numbers_at g.rows.now (i - 1)) need j) (sym e) ∙ sequence-is g.weight (numbers_at g.rows.now (i - 1)) need q (last-is sequence p q v') j
+            go parallel v' e x = ap (λ c. first_need g.weight c (numbers_at g.rows.now (i - 1)) need j) (sym e) ∙ beside-is g.weight (numbers_at g.rows.now (i - 1)) need q (last-is parallel p q v') j
 
-        module _ {mid : List ℕ} {left : Walked} (w : Walks weight (stmt_at t (i - 1 - s)) before answers mid at left) where
-          left_walks : (b : Binary) (p q : Stmt) → Both t i s b p q → Walks weight p before answers mid at left
+        module _ {mid : List ℕ} {left : Walked} (w : Walks g.weight (stmt_at g.table.now (i - 1 - s)) before answers mid at left) where
+          left_walks : (b : Binary) (p q : Stmt) → Both g.table.now i s b p q → Walks g.weight p before answers mid at left
           left_walks b p q v = at-stmt (sym v.left) w
 
-          left-same : (b : Binary) (p q : Stmt) → Both t i s b p q → walk weight 63 p (values_of before) ≡ walk weight 63 p (left_need b q)
-          left-same b p q v = walk_agree weight 63 p (below_at v.is).1 (values_of before) (left_need b q) (agrees_left b p q v)
+          left-same : (b : Binary) (p q : Stmt) → Both g.table.now i s b p q → walk g.weight 63 p (values_of before) ≡ walk g.weight 63 p (left_need b q)
+          left-same b p q v = walk_agree g.weight 63 p (below_at v.is).1 (values_of before) (left_need b q) (agrees_left b p q v)
 
           pub left-low : left.code < 64
           left-low =
               let (b, p, q, v) = two_of_lem o.formed.measured (inside o) ek en es z y in
-              omega (arith, (left_walks b p q v).code, walk-low weight 63 p (below_at v.is).1 (values_of before))
+              omega (arith, (left_walks b p q v).code, walk-low g.weight 63 p (below_at v.is).1 (values_of before))
 
           and_left : (x y : WalkedTo) (c : ℕ) → c ≡ code_of x → (c ≡ 0 → ⊥) → and_walk x y ≡ x
           and_left (walked u zero) y c e h = absurd (h e)
@@ -322,81 +325,72 @@ module _ {weight : Weight} {t sizes rows need answers : List ℕ} {i at : ℕ} (
           and_both (walked u zero) y e = refl
           and_both (walked u (suc l)) y e = absurd (omega arith)
 
-          beside-both : (x : WalkedTo) (g : ℕ → WalkedTo) (c : ℕ) → c ≡ code_of x → beside_walk x g ≡ walked (answers_of x ++ answers_of (g c)) (max c (code_of (g c)))
-          beside-both (walked u l) g c e = rw e
+          beside-both : (x : WalkedTo) (f : ℕ → WalkedTo) (c : ℕ) → c ≡ code_of x → beside_walk x f ≡ walked (answers_of x ++ answers_of (f c)) (max c (code_of (f c)))
+          beside-both (walked u l) f c e = rw e
 
-          pub left-returns : or ≡ true → (left.code ≡ 0 → ⊥) → Walks weight (stmt_at t i) need answers mid at left
+          pub left-returns : or ≡ true → (left.code ≡ 0 → ⊥) → Walks g.weight (stmt_at g.table.now i) need answers mid at left
           unfolding kind_of
           left-returns x h = let (b, p, q, v) = two_of_lem o.formed.measured (inside o) ek en es z y in go b p q v (sym (eo ∙ ap is_sequence (kind-at v.is)) ∙ x)
             where
-              go : (b : Binary) (p q : Stmt) → Both t i s b p q → is_sequence (kind_of (kind (two b p q))) ≡ true → Walks weight (stmt_at t i) need answers mid at left
-              go (present g) p q v e = let c : ◌≡◌ {A = ℕ} 0 1 = cc in absurd (omega arith)
+              go : (b : Binary) (p q : Stmt) → Both g.table.now i s b p q → is_sequence (kind_of (kind (two b p q))) ≡ true → Walks g.weight (stmt_at g.table.now i) need answers mid at left
+              go (present s') p q v e = let c : ◌≡◌ {A = ℕ} 0 1 = cc in absurd (omega arith)
               go parallel p q v e = let c : ◌≡◌ {A = ℕ} 0 1 = cc in absurd (omega arith)
               go sequence p q v e =
                   let l = left_walks sequence p q v in
                   at-stmt v.is
-                  (walks_as (walk weight 63 p (values_of before))
-                  (ap (λ c. and_walk c (walk weight 63 q (values_of need))) (sym (left-same sequence p q v)) ∙ and_left (walk weight 63 p (values_of before)) (walk weight 63 q (values_of need)) left.code l.code h)
+                  (walks_as (walk g.weight 63 p (values_of before))
+                  (ap (λ c. and_walk c (walk g.weight 63 q (values_of need))) (sym (left-same sequence p q v)) ∙ and_left (walk g.weight 63 p (values_of before)) (walk g.weight 63 q (values_of need)) left.code l.code h)
                   l.code l.after l.written)
 
           module _ {under : List ℕ} (e : Under k left.code need under) where
-            pub right_call : Walking weight t sizes rows under mid (i - 1) left.at
+            pub right_call : Walking g under mid (i - 1) left.at
             right_call =
                 let (b, p, q, v) = two_of_lem o.formed.measured (inside o) ek en es z y in
                 let l = left_walks b p q v in
-                let same : length mid ≡ length answers = ap length l.written ∙ length-sets answers at (answers_of (walk weight 63 p (values_of before))) in
-                child_call v.right (before_last v) e.long o.most
+                let same : length mid ≡ length answers = ap length l.written ∙ length-sets answers at (answers_of (walk g.weight 63 p (values_of before))) in
+                child_call v.right (before_last v) o.most
                 (row_low (suc o.most) e.long (λ j h. subst (λ x. x ≤ suc o.most) (sym (e.at j h)) (under_low k left.code need (suc o.most) o.low j)))
                 (omega (arith, few-at v.is))
-                (omega (arith, room_at v.is, presents-two b p q (present-is b p q v f), l.after, walk-short weight 63 p (values_of before), same))
+                (omega (arith, room_at v.is, presents-two b p q (present-is b p q v f), l.after, walk-short g.weight 63 p (values_of before), same))
 
-            right-same : (b : Binary) (p q : Stmt) → Both t i s b p q → walk weight 63 q (values_of under) ≡ walk weight 63 q (λ j. values_of need (max left.code j))
+            right-same : (b : Binary) (p q : Stmt) → Both g.table.now i s b p q → walk g.weight 63 q (values_of under) ≡ walk g.weight 63 q (λ j. values_of need (max left.code j))
             right-same b p q v =
-                walk_agree weight 63 q (below_at v.is).2 (values_of under) (λ j. values_of need (max left.code j))
-                (λ j h. ap value_of (e.at j (omega arith) ∙ ap (λ x. under_at x left.code need j) (kind-at v.is)) ∙ under-two weight need b p q left.code j)
+                walk_agree g.weight 63 q (below_at v.is).2 (values_of under) (λ j. values_of need (max left.code j))
+                (λ j h. ap value_of (e.at j (omega arith) ∙ ap (λ x. under_at x left.code need j) (kind-at v.is)) ∙ under-two g.weight need b p q left.code j)
 
-            module _ {answers' : List ℕ} {right r : Walked} {c : ℕ} (w' : Walks weight (stmt_at t (i - 1)) under mid answers' left.at right) (ec : c ≡ max left.code right.code) (er : r.code ≡ c) (ea : r.at ≡ right.at) where
+            module _ {answers' : List ℕ} {right r : Walked} {c : ℕ} (w' : Walks g.weight (stmt_at g.table.now (i - 1)) under mid answers' left.at right) (ec : c ≡ max left.code right.code) (er : r.code ≡ c) (ea : r.at ≡ right.at) where
               -- both walks, where the code is the larger
-              joined : (b : Binary) (p q : Stmt) → Both t i s b p q → walk weight 63 (two b p q) (values_of need) ≡ walked (answers_of (walk weight 63 p (values_of before)) ++ answers_of (walk weight 63 q (values_of under))) (max left.code (code_of (walk weight 63 q (values_of under)))) → Walks weight (stmt_at t i) need answers answers' at r
+              joined : (b : Binary) (p q : Stmt) → Both g.table.now i s b p q → walk g.weight 63 (two b p q) (values_of need) ≡ walked (answers_of (walk g.weight 63 p (values_of before)) ++ answers_of (walk g.weight 63 q (values_of under))) (max left.code (code_of (walk g.weight 63 q (values_of under)))) → Walks g.weight (stmt_at g.table.now i) need answers answers' at r
               joined b p q v is =
                   let l = left_walks b p q v in
-                  let m : Walks weight q under mid answers' left.at right = at-stmt (sym v.right) w' in
-                  let x = answers_of (walk weight 63 p (values_of before)) in
-                  let y' = answers_of (walk weight 63 q (values_of under)) in
+                  let m : Walks g.weight q under mid answers' left.at right = at-stmt (sym v.right) w' in
+                  let x = answers_of (walk g.weight 63 p (values_of before)) in
+                  let y' = answers_of (walk g.weight 63 q (values_of under)) in
                   let len = length-append x y' in
                   at-stmt v.is
-                  (walks_as (walked (x ++ y') (max left.code (code_of (walk weight 63 q (values_of under))))) is
+                  (walks_as (walked (x ++ y') (max left.code (code_of (walk g.weight 63 q (values_of under))))) is
                   (er ∙ ec ∙ ap (max left.code) m.code)
                   (omega (arith, ea, m.after, l.after, len))
                   (m.written ∙ ap₂ (λ a' j. sets a' j y') l.written l.after ∙ sym (sets-append answers at x y')))
 
-              pub both-returns : (or ≡ true → left.code ≡ 0) → Walks weight (stmt_at t i) need answers answers' at r
+              pub both-returns : (or ≡ true → left.code ≡ 0) → Walks g.weight (stmt_at g.table.now i) need answers answers' at r
               unfolding kind_of
               both-returns h = let (b, p, q, v) = two_of_lem o.formed.measured (inside o) ek en es z y in go b p q v (sym (eo ∙ ap is_sequence (kind-at v.is))) (present-is b p q v f)
                 where
-                  go : (b : Binary) (p q : Stmt) → Both t i s b p q → is_sequence (kind_of (kind (two b p q))) ≡ or → is_present (kind_of (kind (two b p q))) ≡ false → Walks weight (stmt_at t i) need answers answers' at r
-                  go (present g) p q v e' x = let c' : ◌≡◌ {A = ℕ} 0 1 = cc in absurd (omega arith)
+                  go : (b : Binary) (p q : Stmt) → Both g.table.now i s b p q → is_sequence (kind_of (kind (two b p q))) ≡ or → is_present (kind_of (kind (two b p q))) ≡ false → Walks g.weight (stmt_at g.table.now i) need answers answers' at r
+                  go (present s') p q v e' x = let c' : ◌≡◌ {A = ℕ} 0 1 = cc in absurd (omega arith)
                   go sequence p q v e' x =
                       let zero-code : left.code ≡ 0 = h (sym e') in
                       let l = left_walks sequence p q v in
-                      let same : walk weight 63 q (values_of need) ≡ walk weight 63 q (values_of under) = walk_agree weight 63 q (below_at v.is).2 (values_of need) (λ j. values_of need (max left.code j)) (λ j h'. ap (values_of need) (omega arith)) ∙ sym (right-same sequence p q v) in
-                      let code : code_of (walk weight 63 q (values_of under)) ≡ max left.code (code_of (walk weight 63 q (values_of under))) = omega arith in
+                      let same : walk g.weight 63 q (values_of need) ≡ walk g.weight 63 q (values_of under) = walk_agree g.weight 63 q (below_at v.is).2 (values_of need) (λ j. values_of need (max left.code j)) (λ j h'. ap (values_of need) (omega arith)) ∙ sym (right-same sequence p q v) in
+                      let code : code_of (walk g.weight 63 q (values_of under)) ≡ max left.code (code_of (walk g.weight 63 q (values_of under))) = omega arith in
                       joined sequence p q v
                       (ap₂ and_walk (sym (left-same sequence p q v)) same ∙
-                      and_both (walk weight 63 p (values_of before)) (walk weight 63 q (values_of under)) (sym l.code ∙ zero-code) ∙
-                      ap (walked (answers_of (walk weight 63 p (values_of before)) ++ answers_of (walk weight 63 q (values_of under)))) code)
+                      and_both (walk g.weight 63 p (values_of before)) (walk g.weight 63 q (values_of under)) (sym l.code ∙ zero-code) ∙
+                      ap (walked (answers_of (walk g.weight 63 p (values_of before)) ++ answers_of (walk g.weight 63 q (values_of under)))) code)
                   go parallel p q v e' x =
                       let l = left_walks parallel p q v in
                       joined parallel p q v
-                      (ap (λ x'. beside_walk x' (λ j. walk weight 63 q (λ m. values_of need (max j m)))) (sym (left-same parallel p q v)) ∙
-                      beside-both (walk weight 63 p (values_of before)) (λ j. walk weight 63 q (λ m. values_of need (max j m))) left.code l.code ∙
-                      ap (λ x'. walked (answers_of (walk weight 63 p (values_of before)) ++ answers_of x') (max left.code (code_of x'))) (sym (right-same parallel p q v)))
-
--- whether the first of a sequence is all
-pub stays : (or : Bool) (c : ℕ) → or && not (eqb c 0) ≡ true → (or ≡ true) × (c ≡ 0 → ⊥)
-stays true c e = (refl, eqb-false c 0 (not-true (eqb c 0) e))
-stays false c e = let z : ◌≡◌ {A = ℕ} 0 1 = cc in absurd (omega arith)
-
-pub goes_on_lem : (or : Bool) (c : ℕ) → or && not (eqb c 0) ≡ false → or ≡ true → c ≡ 0
-goes_on_lem true c e z = eqb-true c 0 (not-false (eqb c 0) e)
-goes_on_lem false c e z = let y : ◌≡◌ {A = ℕ} 0 1 = cc in absurd (omega arith)
+                      (ap (λ x'. beside_walk x' (λ j. walk g.weight 63 q (λ m. values_of need (max j m)))) (sym (left-same parallel p q v)) ∙
+                      beside-both (walk g.weight 63 p (values_of before)) (λ j. walk g.weight 63 q (λ m. values_of need (max j m))) left.code l.code ∙
+                      ap (λ x'. walked (answers_of (walk g.weight 63 p (values_of before)) ++ answers_of x') (max left.code (code_of x'))) (sym (right-same parallel p q v)))

@@ -7,8 +7,7 @@ use Rattle.table.specs.declared.Kind.{Kind}
 use Rattle.starts.specs.declared.Weight.{Weight}
 use Rattle.starts.specs.Summary.{up_to, weights}
 use Rattle.starts.specs.Walk.{best_total, no_worse, need_first}
-use Rattle.rows.specs.Rows.{values_of, max_number, best_sum, LowRow, Holds}
-use Rattle.rows.specs.Filled.{RowAt}
+use Rattle.rows.specs.Rows.{values_of, best_sum, LowRow, Holds}
 
 -- after the only child, or after the second of two whose first gave a code
 abbrev pub under_at : Kind → (code : ℕ) (need : List ℕ) → ℕ → ℕ
@@ -32,14 +31,7 @@ pub record First (w : Weight) (ordered : Bool) (row need r : List ℕ) : Type 0 
   pub holds : Holds (first_need w ordered row need) r
   pub low : (m n : ℕ) → LowRow (suc m) row → LowRow (suc n) need → LowRow (suc (m + n)) r
 
--- no number of node j's row is above the largest
-pub record RowLow (rows : List ℕ) (j : ℕ) : Type 0 where
-  pub at : (row : List ℕ) → RowAt rows j row → LowRow max_number row
-
--- a test, with the rows of the then branch and of the else branch: whether the second, with what is needed after it, is no worse
-pub record Absent (w : Weight) (rows : List ℕ) (first last : ℕ) (need : List ℕ) (r : Bool) : Type 0 where
-  pub then : List ℕ
-  pub other : List ℕ
-  pub of_first : RowAt rows first then
-  pub of_last : RowAt rows last other
-  pub is : r ≡ no_worse w (best_sum w other need) (best_sum w then need)
+-- a test, where `first` and `last` are the rows of the then branch and of the else branch: whether the second, with what is needed after
+-- it, is no worse
+abbrev pub goes_absent : Weight → (first last need : List ℕ) → Bool
+goes_absent w first last need = no_worse w (best_sum w last need) (best_sum w first need)

@@ -14,6 +14,7 @@ use Rattle.starts.specs.Walk.{walk, answers_of, code_of}
 use Rattle.rows.specs.Rows.{values_of, LowRow}
 use Rattle.rows.specs.Filled.{Formed, RowsTo}
 use Rattle.walk.specs.declared.Walked.{Walked}
+use Rattle.walk.specs.declared.Ground.{Ground}
 
 -- a node with one child is left: a trap changes the code
 pub record Leaves (k : Kind) (inner r : Walked) : Type 0 where
@@ -21,17 +22,16 @@ pub record Leaves (k : Kind) (inner r : Walked) : Type 0 where
   pub at : r.at ≡ inner.at
 
 -- what a walk at a node needs: the rows of the nodes below `top`, what is needed after each code, at most `most`, and room for the answers
-pub record Walking (w : Weight) (t sizes rows need answers : List ℕ) (node at : ℕ) : Type 0 where
-  pub formed : Formed t sizes
+pub record Walking (g : Ground) (need answers : List ℕ) (node at : ℕ) : Type 0 where
+  pub formed : Formed g.table.now g.sizes.now
   pub top : ℕ
   pub within : node < top
-  pub known : top ≤ size (program_of t)
-  pub filled : RowsTo w t top rows
-  pub long : length need ≡ 64
+  pub known : top ≤ size (program_of g.table.now)
+  pub filled : RowsTo g.weight g.table.now top g.rows.now
   pub most : ℕ
   pub low : LowRow (suc most) need
-  pub few : most + size (stmt_at t node) ≤ max_nodes
-  pub room : at + presents (stmt_at t node) ≤ length answers
+  pub few : most + size (stmt_at g.table.now node) ≤ max_nodes
+  pub room : at + presents (stmt_at g.table.now node) ≤ length answers
 
 -- the code and the answers of the walk of p, written from `at` on
 pub record Walks (w : Weight) (p : Stmt) (need answers answers' : List ℕ) (at : ℕ) (r : Walked) : Type 0 where

@@ -1,18 +1,24 @@
 -- One lemma for each return of `goal`, `show` and `find_tick`.
 use mathlib.Core.Path.{◌≡◌, refl, sym, ap, ap₂, subst, ◌∙◌}
-use mathlib.Core.Bool.{cond}
+use mathlib.Core.Bool.{Bool, true, false, cond}
 use mathlib.Core.Option.{some}
 use mathlib.Core.Option.{none as nowhere}
 use mathlib.Core.List.{List}
 use Prim.Native.Nat.{ℕ, zero, suc, ◌+◌, ◌-◌, ◌/◌, ◌≤◌, ◌<◌}
 use native.Mathlib.Omega.{arith}
-use borrow.Author.Tests.{ne_eqb, leb-true}
-use lib.Dec.{leb}
+use denote.Enum.Bare.{sameb}
+use borrow.Author.Tests.{ne_eqb, eqb-true, eqb-false, leb-true}
+use lib.Dec.{eqb, leb}
 use lib.ListN.{length, get_or, set, replicate, get_or-replicate}
 use lib.Seq.{sets, get_or-set_other}
 use Rattle.esterel.specs.Limits.{max_nodes}
 use Rattle.esterel.specs.Statement.{loop, Stmt, one, size}
 use Rattle.esterel.specs.Codes.{empty}
+use Rattle.std.proofs.Common.{rules}
+use Rattle.esterel.specs.declared.Check.{Check}
+use Rattle.esterel.specs.declared.Check.TheVariants.{EndsAtOnce}
+use Rattle.esterel.specs.contracts.Check.{the_type}
+use Rattle.esterel.specs.Refusal.{number_of, Reply, yields, rejects}
 use Rattle.esterel.specs.Table.{refused}
 use Rattle.esterel.specs.Theorems.{WellFormed}
 use Rattle.esterel.proofs.Accepted.{length-places}
@@ -23,14 +29,11 @@ use Rattle.esterel.proofs.Subtrees.{only_child_lem}
 use Rattle.esterel.proofs.Theorems.{loop_check}
 use Rattle.table.specs.Program.{program_in, program_of, Readable}
 use Rattle.table.specs.Columns.{onto, stmt_at, sizes_of}
-use Rattle.table.specs.declared.Check.TheVariants.{Passed}
-use Rattle.table.specs.declared.Check.TheVariants.{Refused as RefusedCheck}
 use Rattle.table.proofs.Buffers.{sets-front}
 use Rattle.table.proofs.Surveying.{few-nodes}
 use Rattle.table.proofs.Sizing.{measured}
 use Rattle.analysis.specs.Analysis.{TableChecked}
-use Rattle.analysis.specs.declared.Acceptance.{Acceptance}
-use Rattle.analysis.proofs.Analyses.{table-refused, table-passed, nodes-are}
+use Rattle.analysis.proofs.Analyses.{table-refused, ready, table-passed, depth-is, nodes-are}
 use Rattle.analysis.proofs.Theorems.{refused_late}
 use Rattle.starts.specs.declared.Weight.TheVariants.{Answers}
 use Rattle.starts.specs.Ticks.{tick_answers, presents}
@@ -43,9 +46,9 @@ use Rattle.rows.specs.Rows.{value_of, values_of}
 use Rattle.rows.specs.Filled.{Formed, RowsTo}
 use Rattle.rows.proofs.Said.{row_low}
 use Rattle.walk.specs.declared.Walked.{Walked}
+use Rattle.walk.specs.declared.Ground.{Ground}
 use Rattle.walk.specs.Walks.{Walking, Walks}
-use Rattle.witness.specs.declared.Tick.{Tick}
-use Rattle.witness.specs.declared.Tick.TheVariants.{Ends, Accepted, Refused}
+use Rattle.witness.specs.declared.Tick.TheVariants.{Ends, Accepted}
 use Rattle.witness.specs.Shows.{Goal, Faulty, Showing}
 use Rattle.witness.specs.Ticks.{verdict_for, Tells}
 
@@ -123,53 +126,67 @@ module _ {t : List ℕ} {node : ℕ} (o : Faulty t node) where
     pub formed : Formed t sizes
     formed = record { well_formed = well_formed_lem; measured = measured old readable (omega (arith, few)) s }
 
-    module _ {rows need : List ℕ} (done : RowsTo Answers t node rows) (g : Goal need) {answers : List ℕ} (room : tick_answers ≤ length answers) where
-      pub body_call : Walking Answers t sizes rows need answers (node - 1) 0
-      body_call =
-          let (body, b) = body_of in
-          record {
-            formed = formed;
-            top = node;
-            within = omega (arith, b.some);
-            known = b.known;
-            filled = done;
-            long = g.holds.long;
-            most = 0;
-            low = g.low;
-            few = subst (λ w. 0 + size w ≤ max_nodes) (sym b.child) (omega (arith, b.few-nodes));
-            room = subst (λ w. 0 + presents w ≤ length answers) (sym b.child) (omega (arith, b.few-answers));
-          }
+-- the walk over that ground begins at the body
+module _ {g : Ground} (w : g.weight ≡ Answers) {node : ℕ} (o : Faulty g.table.now node) (old : List ℕ) (long : max_nodes ≤ length g.sizes.now) (s : g.sizes.now ≡ onto (sizes_of (program_of g.table.now)) old) (done : RowsTo Answers g.table.now node g.rows.now) where
+  pub body_call : {need answers : List ℕ} → Goal need → tick_answers ≤ length answers → Walking g need answers (node - 1) 0
+  body_call {need} {answers} will room =
+      let (body, b) = body_of o in
+      record {
+        formed = formed o old long s;
+        top = node;
+        within = omega (arith, b.some);
+        known = b.known;
+        filled = subst (λ x. RowsTo x g.table.now node g.rows.now) (sym w) done;
+        most = 0;
+        low = will.low;
+        few = subst (λ p. 0 + size p ≤ max_nodes) (sym b.child) (omega (arith, b.few-nodes));
+        room = subst (λ p. 0 + presents p ≤ length answers) (sym b.child) (omega (arith, b.few-answers));
+      }
 
-      pub showing : {answers' : List ℕ} {w : Walked} {x : ℕ} → Walks Answers (stmt_at t (node - 1)) need answers answers' 0 w → x ≡ w.at → Showing t node answers answers' x
-      showing {answers'} {w} {x} v ex =
-          let (body, b) = body_of in
-          let same : walk Answers 63 (stmt_at t (node - 1)) (values_of need) ≡ walk Answers 63 body (goal 0) = ap (λ p. walk Answers 63 p (values_of need)) b.child ∙ walk_agree Answers 63 body b.below (values_of need) (goal 0) (λ k h. g.holds.at k (omega arith)) in
-          let list = answers_of (walk Answers 63 body (goal 0)) in
-          record {
-            list = list;
-            shown = record { program = program_of t; reads = well_formed_lem.reads; body = body; is_loop = b.is; shown = b.right.shown (node - size body) };
-            long = let z : 0 + length list ≡ length list = omega arith in ex ∙ v.after ∙ ap (λ y. 0 + length (answers_of y)) same ∙ z;
-            written = v.written ∙ ap (λ y. sets answers 0 (answers_of y)) same ∙ sets-front list answers (omega (arith, walk-short Answers 63 body (goal 0), b.few-answers));
-          }
+module _ {t : List ℕ} {node : ℕ} (o : Faulty t node) {need answers : List ℕ} (will : Goal need) (room : tick_answers ≤ length answers) where
+  pub showing : {answers' : List ℕ} {w : Walked} → Walks Answers (stmt_at t (node - 1)) need answers answers' 0 w → Showing t node answers answers' w.at
+  showing {answers'} {w} v =
+      let (body, b) = body_of o in
+      let same : walk Answers 63 (stmt_at t (node - 1)) (values_of need) ≡ walk Answers 63 body (goal 0) = ap (λ p. walk Answers 63 p (values_of need)) b.child ∙ walk_agree Answers 63 body b.below (values_of need) (goal 0) (λ k h. will.holds.at k (omega arith)) in
+      let list = answers_of (walk Answers 63 body (goal 0)) in
+      record {
+        list = list;
+        shown = record { program = program_of t; reads = (well_formed_lem o).reads; body = body; is_loop = b.is; shown = b.right.shown (node - size body) };
+        long = let z : 0 + length list ≡ length list = omega arith in v.after ∙ ap (λ y. 0 + length (answers_of y)) same ∙ z;
+        written = v.written ∙ ap (λ y. sets answers 0 (answers_of y)) same ∙ sets-front list answers (omega (arith, walk-short Answers 63 body (goal 0), b.few-answers));
+      }
 
 -- ---- find_tick
 
-module _ (old : List ℕ) {t : List ℕ} {a : Acceptance} (o : TableChecked (leb tick_answers (length old)) t a) where
-  pub accepted_tells : {n loops : ℕ} → a.check ≡ Passed → n ≡ length t / 2 → loops ≡ a.loops → Tells t old old (Accepted n loops)
-  accepted_tells y en el = Tells.accepts (program_of t) (table-passed o y).1 (ap₂ Accepted (en ∙ nodes-are (o.ready y)) (el ∙ o.loops y)) refl
+-- the comparison of checks that is derived is that of their numbers
+late-is : (c : Check) → sameb the_type c EndsAtOnce ≡ eqb (number_of c) 11
+late-is c = search rules
 
-  module _ {number node : ℕ} (y : a.check ≡ RefusedCheck number node) where
-    pub refused_tells : {r : Tick} → (number ≡ 11 → ⊥) → r ≡ Refused number node → Tells t old old r
-    refused_tells d er = Tells.refuses number node (table-refused o number node y) d er refl
+pub late : {r : Bool} (c : Check) → r ≡ sameb the_type c EndsAtOnce → r ≡ true → number_of c ≡ 11
+late c e z = eqb-true (number_of c) 11 (sym (late-is c) ∙ sym e ∙ z)
 
-    module _ (x : number ≡ 11) where
-      refuses-is : verdict_for t old ≡ refused 11 node
-      refuses-is = table-refused o number node y ∙ ap (λ m. refused m node) x
+pub early : {r : Bool} (c : Check) → r ≡ sameb the_type c EndsAtOnce → r ≡ false → number_of c ≡ 11 → ⊥
+early c e z = eqb-false (number_of c) 11 (sym (late-is c) ∙ sym e ∙ z)
 
-      pub faulty : Faulty t node × (tick_answers ≤ length old)
-      faulty =
-          let (room, v) = refused_late (leb tick_answers (length old)) t 11 node refuses-is (omega arith) in
-          (record { refuses = v }, leb-true tick_answers (length old) room)
+-- what the checks answered
+abbrev Answered : (old t : List ℕ) → Reply ℕ → Type 0
+Answered old t r = TableChecked (leb tick_answers (length old)) t r
 
-      pub shown_tells : {new : List ℕ} {n : ℕ} → Showing t node old new n → Tells t old new (Ends node n)
-      shown_tells s = Tells.shows node s.list refuses-is s.shown (ap (Ends node) s.long) s.written
+module _ (old : List ℕ) {t : List ℕ} where
+  pub accepted_tells : {d n : ℕ} → Answered old t (yields d) → n ≡ length t / 2 → Tells t old old (yields (Accepted n d))
+  accepted_tells o en = Tells.accepts (program_of t) (table-passed o).1 (ap₂ (λ n d. yields (Accepted n d)) (en ∙ nodes-are (ready o)) (depth-is o)) refl
+
+  pub refused_tells : {number node : ℕ} → Answered old t (rejects number node) → (number ≡ 11 → ⊥) → Tells t old old (rejects number node)
+  refused_tells o d = Tells.refuses _ _ (table-refused o) d refl refl
+
+  module _ {number node : ℕ} (o : Answered old t (rejects number node)) (e : number ≡ 11) where
+    refuses-is : verdict_for t old ≡ refused 11 node
+    refuses-is = table-refused o ∙ ap (λ n. refused n node) e
+
+    pub faulty : Faulty t node × (tick_answers ≤ length old)
+    faulty =
+        let (room, v) = refused_late (leb tick_answers (length old)) t 11 node refuses-is (omega arith) in
+        (record { refuses = v }, leb-true tick_answers (length old) room)
+
+    pub shown_tells : {new : List ℕ} {n : ℕ} → Showing t node old new n → Tells t old new (yields (Ends node n))
+    shown_tells s = Tells.shows node s.list refuses-is s.shown (ap (λ n. yields (Ends node n)) s.long) s.written

@@ -3,28 +3,29 @@
 #![tactic(auto)]
 
 ghost use Rattle.std.specs.Prelude.{◌≡◌, ◌≤◌, length};
+ghost use Rattle.esterel.specs.Refusal.{reply};
 ghost use Rattle.starts.specs.Ticks.{tick_answers};
 ghost use Rattle.witness.specs.Shows.{Goal, Faulty, Showing};
 ghost use Rattle.witness.specs.Ticks.{Tells};
 
+use esterel::{Check, Refusal};
 use rows::Row;
 use starts::Weight;
-use table::Check;
+use walk::Ground;
 
 // What is told of a table: the loop whose body ends at once and the length of the list; or the nodes and the loop depth of an
-// accepted one; or the number and the node of the refusal.
-#[derive(Clone, Copy)]
+// accepted one.
+#[derive(Clone, Copy, PartialEq, Eq)]
 pub enum Tick {
     Ends { node: usize, length: usize },
     Accepted { nodes: usize, loops: usize },
-    Refused { number: u8, node: usize },
 }
 
 // Only code 0 will do, and nothing is needed after it.
 fn goal() -> Row
     ensures { Goal result.of }
 {
-    let mut of = [0u16; 64];
+    let mut of = [0; 64];
     of[0] = 1;
     Row { of }
 }
@@ -34,38 +35,33 @@ fn show(table: &[u8], node: usize, answers: &mut [u8]) -> usize
     requires { Faulty table.now node × (tick_answers ≤ length answers.old) }
     ensures { Showing table.now node answers.old answers.new result }
 {
-    let mut sizes = [0u16; esterel::MAX_NODES];
+    let weight = Weight::Answers;
+    let mut sizes = [0; esterel::MAX_NODES];
     table::fill_sizes(table, &mut sizes);
-    let mut all = [0u16; rows::ALL];
-    rows::fill_rows(Weight::Answers, table, &sizes, node, &mut all);
-    let walked = walk::walk_at(
-        Weight::Answers,
+    let mut rows = [rows::NO_START; esterel::MAX_NODES];
+    rows::fill_rows(weight, table, &sizes, node, &mut rows);
+    let ground = Ground {
+        weight,
         table,
-        &sizes,
-        &all,
-        node - 1,
-        goal(),
-        answers,
-        0,
-    );
-    walked.at
+        sizes: &sizes,
+        rows: &rows,
+    };
+    ground.walk_at(node - 1, &goal(), answers, 0).at
 }
 
 // Checks 1, 2, 3 and 4 to 11; after a refusal by 11, the list.
-pub fn find_tick(table: &[u8], answers: &mut [u8]) -> Tick
-    ensures { Tells table.now answers.old answers.new result }
+pub fn find_tick(table: &[u8], answers: &mut [u8]) -> Result<Tick, Refusal>
+    ensures { Tells table.now answers.old answers.new (reply result) }
 {
-    let accepted = analysis::check_table(table, starts::TICK_ANSWERS <= answers.len());
-    let check = accepted.check;
-    let Check::Refused { number, node } = check else {
-        return Tick::Accepted {
+    match analysis::check_table(table, starts::TICK_ANSWERS <= answers.len()) {
+        Ok(loops) => Ok(Tick::Accepted {
             nodes: table.len() / 2,
-            loops: accepted.loops,
-        };
-    };
-    if number != 11 {
-        return Tick::Refused { number, node };
+            loops,
+        }),
+        Err(Refusal { check, node }) if check == Check::EndsAtOnce => {
+            let length = show(table, node, answers);
+            Ok(Tick::Ends { node, length })
+        }
+        Err(refusal) => Err(refusal),
     }
-    let length = show(table, node, answers);
-    Tick::Ends { node, length }
 }

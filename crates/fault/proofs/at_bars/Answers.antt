@@ -1,13 +1,7 @@
--- By the innermost statement.
-use Rattle.std.proofs.Common.{arith}
-use Rattle.fault.proofs.Steps.{some_open, bars_open, bars-stuck}
+-- The innermost is a bracket.
+use Rattle.std.proofs.Common.{sym, ◌∙◌}
+use Rattle.fault.proofs.Steps.{bars_open}
 use Rattle.fault.proofs.at_bars.Goals as goal
 
-pub returns-then-top-gt-BRANCH : goal.returns-then-top-gt-BRANCH
-returns-then-top-gt-BRANCH c = λ p k s e. bars-stuck p k (omega (arith, c.top.ensures.1 k s e, c.if-top-gt-BRANCH.true)) c.stuck.ensures
-
-pub overflow_sub-height : goal.overflow_sub-height
-overflow_sub-height c = some_open _ _ c.top.ensures.0 (omega (arith, c.if-top-gt-BRANCH.false))
-
-pub returns : goal.returns
-returns c = λ p k s e. bars_open p c.requires k (omega (arith, c.top.ensures.1 k s e, c.if-top-gt-BRANCH.false)) s e c.push.ensures
+pub returns-in-First : goal.returns-in-First
+returns-in-First c = λ p k s. let (e, b) = c.pop.ensures.top k s in bars_open p k c.in-First.is (sym c.in_ok-pop.was ∙ e) b c.push.ensures

@@ -1,9 +1,9 @@
--- `end`, or another.
-use Rattle.fault.proofs.Names.{end-closes, other-mark}
+-- An end.
+use Rattle.std.proofs.Common.{rules, sym, ◌∙◌}
+use denote.Enum.Bare.{same_true}
+use Rattle.scan.specs.contracts.Mark.{the_type}
+use Rattle.fault.proofs.Names.{end-closes}
 use Rattle.fault.proofs.close_level.Goals as goal
 
-pub returns-in-End : goal.returns-in-End
-returns-in-End c = rw c.in-End.is (λ x ls h l. end-closes x (c.leave_trap.ensures x) ls h l)
-
-pub returns-in_default : goal.returns-in_default
-returns-in_default c = λ x ls h l. rw (other-mark c.args.mark c.in_default.not-End ls) l
+pub returns-then-eq : goal.returns-then-eq
+returns-then-eq c = λ x. end-closes c.args.mark (same_true the_type (search rules) _ _ (sym c.eq.ensures ∙ c.if-eq.true)) (c.leave_trap.ensures.around x)

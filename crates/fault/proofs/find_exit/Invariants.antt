@@ -1,10 +1,6 @@
--- The tokens up to `at` are passed, if there is room for their levels.
-use Rattle.std.proofs.Common.{length, ◌-◌}
+-- The tokens up to the next one are passed, if there is room for their levels.
 use Rattle.fault.specs.Walking.{want_is, Looking}
 use Rattle.fault.proofs.find_exit.Given as goal
 
-abbrev pub invariant-loop-levels : goal.invariant-loop-levels
-invariant-loop-levels l = Looking l.text l.levels (want_is l.wanted) l.at
-
-abbrev pub decreases-loop-levels : goal.decreases-loop-levels
-decreases-loop-levels l = length l.text - l.at
+abbrev pub invariant-loop-scanned : goal.invariant-loop-scanned
+invariant-loop-scanned l = Looking l.text l.levels (want_is l.wanted) l.scanned-iterator

@@ -1,10 +1,6 @@
--- The text up to `at` leads to a state that is kept.
-use Rattle.std.proofs.Common.{length, ◌-◌}
+-- The text up to the next token leads to a state that is kept.
 use Rattle.fault.specs.Walking.{OnWay}
 use Rattle.fault.proofs.find_fault.Given as goal
 
-abbrev pub invariant-loop-stack : goal.invariant-loop-stack
-invariant-loop-stack l = OnWay l.text l.stack l.mode l.height l.at
-
-abbrev pub decreases-loop-stack : goal.decreases-loop-stack
-decreases-loop-stack l = length l.text - l.at
+abbrev pub invariant-loop-scanned : goal.invariant-loop-scanned
+invariant-loop-scanned l = OnWay l.text l.stack l.mode l.scanned-iterator

@@ -1,32 +1,20 @@
 -- Each token is passed, or it is the name.
-use Rattle.std.proofs.Common.{refl, arith}
 use Rattle.sheet.proofs.Sheets.{fresh}
-use Rattle.fault.proofs.Reaching.{token-at}
-use Rattle.fault.proofs.Names.{count-first, count-ends, count-crowded, count-goes}
+use Rattle.fault.proofs.Reaching.{going-first, can-go, token-taken}
+use Rattle.fault.proofs.Searches.{count-first, count-ends, count-crowded, count-goes}
 use Rattle.fault.proofs.find_signal.Goals as goal
 
-pub loop-names-init : goal.loop-names-init
-loop-names-init c = count-first c.args.text.now _ (fresh c.args.text.now c.requires _ (refl, refl, refl, refl))
+pub loop-scanned-init : goal.loop-scanned-init
+loop-scanned-init c = count-first _ (fresh c.args.text.now c.requires _ c.new-names.ensures) (going-first c.into_iter-scanned-iterator.ensures.into_iter_gives c.new-scanned-items.ensures)
 
-pub next_token-scanned-requires : goal.next_token-scanned-requires
-next_token-scanned-requires c = c.loop-names.invariant.within
-
-pub returns-in-Finished : goal.returns-in-Finished
-returns-in-Finished c =
-    let e = rw c.in-Finished.is at c.next_token-scanned.ensures in
-    count-ends c.args.text.now _ _ _ _ c.loop-names.invariant e.0 e.1
+pub next-requires : goal.next-requires
+next-requires c = can-go c.loop-scanned.invariant.going
 
 pub returns-then-is_crowded : goal.returns-then-is_crowded
-returns-then-is_crowded c =
-    let t = token-at c.args.text.now c.loop-names.at c.next_token-scanned.result.start c.next_token-scanned.result.end c.next_token-scanned.result.token c.in_default.not-Finished c.next_token-scanned.ensures.0 c.next_token-scanned.ensures.1 in
-    count-crowded c.loop-names.invariant t _ c.if-is_crowded.true c.is_crowded.ensures
+returns-then-is_crowded c = count-crowded c.loop-scanned.invariant (token-taken _ c.loop-scanned.invariant.going c.in-Some.ensures.steps) c.is_crowded.new.names _ c.if-is_crowded.true c.is_crowded.ensures
 
-pub loop-names-smaller : goal.loop-names-smaller
-loop-names-smaller c =
-    let t = token-at c.args.text.now c.loop-names.at c.next_token-scanned.result.start c.next_token-scanned.result.end c.next_token-scanned.result.token c.in_default.not-Finished c.next_token-scanned.ensures.0 c.next_token-scanned.ensures.1 in
-    omega (arith, t.from, t.to)
+pub loop-scanned-preserved : goal.loop-scanned-preserved
+loop-scanned-preserved c = count-goes c.loop-scanned.invariant (token-taken _ c.loop-scanned.invariant.going c.in-Some.ensures.steps) _ c.if-is_crowded.false c.is_crowded.ensures _ c.is_before_signal-is_signal.ensures
 
-pub loop-names-preserved : goal.loop-names-preserved
-loop-names-preserved c =
-    let t = token-at c.args.text.now c.loop-names.at c.next_token-scanned.result.start c.next_token-scanned.result.end c.next_token-scanned.result.token c.in_default.not-Finished c.next_token-scanned.ensures.0 c.next_token-scanned.ensures.1 in
-    count-goes c.loop-names.invariant t _ c.if-is_crowded.false c.is_crowded.ensures _ c.is_before_signal-is_signal.ensures
+pub returns : goal.returns
+returns c = count-ends c.next.new.self c.loop-scanned.invariant c.in-None.ensures.steps

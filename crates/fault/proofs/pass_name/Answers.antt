@@ -1,17 +1,10 @@
--- By what the name belongs to.
-use Rattle.std.proofs.Common.{sym, ◌∙◌}
-use Rattle.std.proofs.lemmas.Bool.{not-true, not-false}
-use Rattle.fault.proofs.Names.{other_name, trap-name, exit-name, lost-name}
+-- A trap's name is a level.
+use Rattle.std.proofs.Common.{◌≡◌, Some, refl, ap, ◌∙◌}
+use Rattle.fault.specs.declared.Wanted.TheVariants.{TrapName}
 use Rattle.fault.proofs.pass_name.Goals as goal
 
-pub returns-in-NoName : goal.returns-in-NoName
-returns-in-NoName c = rw c.in-NoName.is (λ ls v h l. other_name c.args.text.now _ ls _ l)
-
-pub returns-in-TrapName : goal.returns-in-TrapName
-returns-in-TrapName c = rw c.in-TrapName.is (λ ls v h l. trap-name c.args.text.now _ ls _ (c.enter_trap.ensures c.args.text.now _ ls _ v h l))
-
-pub returns-then-is_lost : goal.returns-then-is_lost
-returns-then-is_lost c = rw c.in-ExitName.is (λ ls v h l. lost-name c.args.text.now _ ls _ (not-true _ (sym (c.is_lost.ensures ls v l).0 ∙ c.if-is_lost.true)))
-
-pub returns-else-is_lost : goal.returns-else-is_lost
-returns-else-is_lost c = rw c.in-ExitName.is (λ ls v h l. exit-name c.args.text.now _ ls _ (not-false _ (sym (c.is_lost.ensures ls v l).0 ∙ c.if-is_lost.false)) ((c.is_lost.ensures ls v l).1 c.if-is_lost.false))
+pub returns-in-Some-TrapName : goal.returns-in-Some-TrapName
+returns-in-Some-TrapName c =
+    let f : c.in-Some-TrapName.field-0 ≡ TrapName = rw c.in-Some-TrapName.is at c.in-Some-TrapName.field-0-is in
+    let e : c.args.wanted ≡ Some TrapName = c.in-Some-TrapName.is ∙ ap Some f in
+    rw e (λ ls v h l. record { levels = _; kept = c.enter_trap.ensures.around _ ls _ v h l; on = λ us. refl; room = λ us k. k.1 })

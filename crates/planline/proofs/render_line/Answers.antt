@@ -1,16 +1,18 @@
--- A lemma for each return.
+-- A lemma for what each arm needs, and for what it leaves.
 use Rattle.std.proofs.Common.{arith}
 use Rattle.planline.proofs.Rendering.{number_fits, refusal-fits, number-line, refused-line}
 use Rattle.planline.proofs.render_line.Goals as goal
+use Rattle.planline.proofs.render_line.Goals.{in-Ok, in-Err}
 
-pub write_field-requires : goal.write_field-requires
-write_field-requires c = (omega arith, omega arith, number_fits c.most_entries-planned.ensures c.in-Entries.is (omega arith))
+pub field-requires : goal.field-requires
+field-requires c = (omega arith, omega arith, number_fits c.in-Ok.ensures (omega arith) c.new-to.ensures)
 
-pub write_refusal-requires : goal.write_refusal-requires
-write_refusal-requires c = refusal-fits c.most_entries-planned.ensures c.in-Refused.is (omega arith)
+pub refusal-requires : goal.refusal-requires
+refusal-requires c = refusal-fits c.in-Err.ensures (omega arith) c.new-to.ensures
 
-pub returns-in-Entries : goal.returns-in-Entries
-returns-in-Entries c = number-line c.most_entries-planned.ensures c.in-Entries.is (omega arith) c.write_field.ensures
-
-pub returns-in-Refused : goal.returns-in-Refused
-returns-in-Refused c = refused-line c.most_entries-planned.ensures c.in-Refused.is (omega arith) c.write_refusal.ensures
+pub returns : goal.returns
+returns c =
+    elim c.match-most_entries.branch [
+      | in-Ok w ↦ number-line w.in-Ok.ensures (omega arith) c.new-to.ensures w.field.ensures w.to-is c.written.ensures
+      | in-Err w ↦ refused-line w.in-Err.ensures (omega arith) c.new-to.ensures w.refusal.ensures w.to-is c.written.ensures
+    ]

@@ -1,7 +1,6 @@
 -- A leaf's own row, or the row from those of the children.
 use Rattle.std.proofs.Common.{sym, ◌∙◌}
 use Rattle.planning.specs.Rows.{NextRow}
-use Rattle.planning.proofs.Pending.{loaded_low}
 use Rattle.planning.proofs.next_row.Goals as goal
 
 pub leaf_row-requires : goal.leaf_row-requires
@@ -9,10 +8,3 @@ leaf_row-requires c = (c.requires.few, c.requires.known (sym c.arity.ensures ∙
 
 pub returns-then-arity-eq0 : goal.returns-then-arity-eq0
 returns-then-arity-eq0 c = NextRow.of_leaf (sym c.arity.ensures ∙ c.if-arity-eq0.true) c.leaf_row.ensures
-
-pub row_of-requires : goal.row_of-requires
-row_of-requires c = (loaded_low c.requires.low c.load-first.ensures, loaded_low c.requires.low c.load-second.ensures, c.load-first.ensures.long)
-
-pub returns : goal.returns
-returns c =
-    NextRow.of_children (λ z. c.if-arity-eq0.false (c.arity.ensures ∙ z)) _ _ c.load-first.ensures c.load-second.ensures c.row_of.ensures

@@ -3,7 +3,7 @@ use Rattle.planning.proofs.Plans.{picked}
 use Rattle.planning.proofs.top.Goals as goal
 
 pub overflow_sub-result : goal.overflow_sub-result
-overflow_sub-result c = omega (arith, picked c.args.row.of c.pick-most.ensures, c.requires.some)
+overflow_sub-result c = omega (arith, picked c.args.row.now.of c.pick-most.ensures, c.requires.some)
 
 pub returns : goal.returns
-returns c = omega (arith, picked c.args.row.of c.pick-most.ensures)
+returns c = omega (arith, picked c.args.row.now.of c.pick-most.ensures)

@@ -1,66 +1,69 @@
 -- The law for each return is in proofs/Readers.antt.
-use Rattle.reader.proofs.Readers.{too_deep_lem, body_unread, statement-ends, bracket_form, then-form, going_first, going_on, sequence-read, sequence_unread, bars-missing, branch-first, branch_unread, branch_unclosed, branch_closes, branch-again, else_unread, else_unclosed, else_ends}
+use Rattle.grammar.specs.Machine.{expect}
+use Rattle.sheet.specs.Sheet.{name_at}
+use Rattle.reader.specs.Reading.{Entered}
+use Rattle.reader.proofs.Readers.{whole-read, too_deep_lem, body_unread, statement-ends, going_first, going_on, sequence-read, sequence_unread, bars-missing, branch-first, branch_unread, branch-last, branch-again, else_unread, else_unclosed, else_ends}
 use Rattle.reader.proofs.+read_bracket_read_else_read_sequence_read_statement.Goals as goal
 
-pub read_bracket-returns-in_default : goal.read_bracket-returns-in_default
-read_bracket-returns-in_default t c = bars-missing c.args.text.now c.args.at c.args.depth c.args.sheet.now c.args.nodes c.requires c.in_default.ensures
+pub read_bracket-returns-in_err-start : goal.read_bracket-returns-in_err-start
+read_bracket-returns-in_err-start t c = rw c.from_residual.ensures (bars-missing c.args.text.now c.args.at c.args.depth _ c.args.sheet.now c.requires c.in_err-start.ensures)
 
 pub read_bracket-loop-last-init : goal.read_bracket-loop-last-init
-read_bracket-loop-last-init t c = branch-first c.args.text.now c.args.at c.args.depth c.args.sheet.now c.args.nodes c.in-At.ensures
+read_bracket-loop-last-init t c = branch-first c.args.text.now c.args.at c.args.depth c.args.sheet.now c.in_ok-start.ensures
 
-pub read_bracket-returns-in_default-branch : goal.read_bracket-returns-in_default-branch
-read_bracket-returns-in_default-branch t c = branch_unread c.loop-last.invariant c.in_default-branch.ensures
+pub read_bracket-returns-in_err-last : goal.read_bracket-returns-in_err-last
+read_bracket-returns-in_err-last t c = rw c.from_residual-in_err-last.ensures (branch_unread c.loop-last.invariant c.read_sequence.new.sheet c.in_err-last.ensures)
 
-pub read_bracket-returns-in_default-past_mark-2 : goal.read_bracket-returns-in_default-past_mark-2
-read_bracket-returns-in_default-past_mark-2 t c = branch_unclosed c.loop-last.invariant c.in-Read.ensures c.in_default-past_mark.ensures c.in_default-past_mark-2.ensures
-
-pub read_bracket-returns-in_default-past_mark : goal.read_bracket-returns-in_default-past_mark
-read_bracket-returns-in_default-past_mark t c = branch_closes c.loop-last.invariant c.in-Read.ensures _ _ c.put-total.ensures.0 (c.put-total.ensures.1 c.args.text.now) c.in-At-past_mark-2.ensures
+pub read_bracket-returns-in_default : goal.read_bracket-returns-in_default
+read_bracket-returns-in_default t c = branch-last c.loop-last.invariant c.in_ok-last.ensures _ c.put.ensures.nodes (c.put.ensures.adds c.args.text.now) c.in_default.ensures _ c.past_mark-in_default.ensures
 
 pub read_bracket-loop-last-preserved : goal.read_bracket-loop-last-preserved
-read_bracket-loop-last-preserved t c = branch-again c.loop-last.invariant c.in-Read.ensures _ _ c.put-total.ensures.0 (c.put-total.ensures.1 c.args.text.now) c.in-At-past_mark.ensures
+read_bracket-loop-last-preserved t c = branch-again c.loop-last.invariant c.in_ok-last.ensures _ c.put.ensures.nodes (c.put.ensures.adds c.args.text.now) c.in-Some.ensures
 
 pub read_else-returns-in_default : goal.read_else-returns-in_default
-read_else-returns-in_default t c = c.close_then.ensures c.args.depth
+read_else-returns-in_default t c = c.close_then.ensures c.args.depth c.requires.named
 
-pub read_else-returns-in_default-branch : goal.read_else-returns-in_default-branch
-read_else-returns-in_default-branch t c = else_unread c.args.text.now c.args.at c.args.depth c.args.sheet.now c.args.nodes c.args.start c.args.stop c.in-At.ensures c.in_default-branch.ensures
+pub read_else-returns-in_err-last : goal.read_else-returns-in_err-last
+read_else-returns-in_err-last t c = rw c.from_residual.ensures (else_unread c.args.text.now c.args.at c.args.depth c.args.sheet.now (name_at c.args.text.now c.args.name) c.in-Some.ensures c.read_sequence.new.sheet c.in_err-last.ensures)
 
-pub read_else-returns-in_default-past_mark : goal.read_else-returns-in_default-past_mark
-read_else-returns-in_default-past_mark t c = else_unclosed c.args.text.now c.args.at c.args.depth c.args.sheet.now c.args.nodes c.args.start c.args.stop c.in-At.ensures c.in-Read.ensures c.in_default-past_mark.ensures
+pub read_else-returns-in_err-end : goal.read_else-returns-in_err-end
+read_else-returns-in_err-end t c = rw c.from_residual-in_err-end.ensures (else_unclosed c.args.text.now c.args.at c.args.depth c.args.sheet.now (name_at c.args.text.now c.args.name) c.in-Some.ensures c.in_ok-last.ensures c.in_err-end.ensures)
 
 pub read_else-returns : goal.read_else-returns
-read_else-returns t c = else_ends c.args.text.now c.args.at c.args.depth c.args.sheet.now c.args.nodes c.args.start c.args.stop c.in-At.ensures c.in-Read.ensures _ _ c.put_named-nodes.ensures.0 (c.put_named-nodes.ensures.1 c.requires.1) c.in-At-past_mark.ensures
+read_else-returns t c = else_ends c.args.text.now c.args.at c.args.depth c.args.sheet.now (name_at c.args.text.now c.args.name) c.in-Some.ensures c.in_ok-last.ensures _ c.put_named.ensures.nodes (c.put_named.ensures.adds c.requires.named) c.in_ok-end.ensures
 
 pub read_sequence-loop-start-init : goal.read_sequence-loop-start-init
-read_sequence-loop-start-init t c = going_first c.args.text.now _ c.args.depth _ _ c.in-Read.ensures.to
+read_sequence-loop-start-init t c = going_first c.args.text.now _ c.args.depth _ c.in_ok-end.ensures.to
 
-pub read_sequence-returns-in_default-past_mark : goal.read_sequence-returns-in_default-past_mark
-read_sequence-returns-in_default-past_mark t c = sequence-read c.loop-start.invariant c.in-Read.ensures c.in_default-past_mark.ensures
-
-pub read_sequence-returns-in_default-found : goal.read_sequence-returns-in_default-found
-read_sequence-returns-in_default-found t c = sequence_unread c.loop-start.invariant c.in-Read.ensures c.in-At.ensures c.in_default-found.ensures
+pub read_sequence-returns-in_err-end-2 : goal.read_sequence-returns-in_err-end-2
+read_sequence-returns-in_err-end-2 t c = rw c.from_residual-in_err-end-2.ensures (sequence_unread c.loop-start.invariant c.in_ok-end.ensures c.in-Some.ensures c.in_err-end-2.ensures)
 
 pub read_sequence-loop-start-preserved : goal.read_sequence-loop-start-preserved
-read_sequence-loop-start-preserved t c = going_on c.loop-start.invariant c.in-At.ensures c.in-Read-found.ensures _ _ c.put-total.ensures.0 (c.put-total.ensures.1 c.args.text.now)
+read_sequence-loop-start-preserved t c = going_on c.loop-start.invariant c.in-Some.ensures c.in_ok-end-2.ensures _ c.put.ensures.nodes (c.put.ensures.adds c.args.text.now)
+
+pub read_sequence-returns : goal.read_sequence-returns
+read_sequence-returns t c = sequence-read c.loop-start.invariant c.in_ok-end.ensures c.in_default.ensures
+
+pub read_statement-returns-in-Whole : goal.read_statement-returns-in-Whole
+read_statement-returns-in-Whole t c = whole-read (rw c.in-Whole.is at c.in_ok-leaf.ensures) c.args.depth _ _ c.put_leaf.ensures.nodes c.put_leaf.ensures.adds
 
 pub read_statement-returns-then-depth-eq0 : goal.read_statement-returns-then-depth-eq0
-read_statement-returns-then-depth-eq0 t c = too_deep_lem c.in-Inside.ensures c.args.depth c.if-depth-eq0.true
+read_statement-returns-then-depth-eq0 t c = too_deep_lem (rw c.in-Inside.is at c.in_ok-leaf.ensures) c.args.depth c.if-depth-eq0.true
 
-pub read_statement-returns-in_default-body : goal.read_statement-returns-in_default-body
-read_statement-returns-in_default-body t c = body_unread c.in-Inside.ensures c.args.depth c.if-depth-eq0.false c.in_default-body.ensures
+pub read_statement-returns-in_err-last : goal.read_statement-returns-in_err-last
+read_statement-returns-in_err-last t c = rw c.from_residual-in_err-last.ensures (body_unread (rw c.in-Inside.is at c.in_ok-leaf.ensures) c.args.depth c.if-depth-eq0.false c.in_err-last.ensures)
 
 pub read_statement-returns-in-Bracket : goal.read_statement-returns-in-Bracket
 read_statement-returns-in-Bracket t c =
-    let d = c.in-Inside.ensures in
-    statement-ends d c.args.depth c.args.sheet.now c.args.nodes c.enter-begun.ensures.1 (λ ts g h f. c.enter-begun.ensures.2 d.frame d.fits d.bounds ts g h f) c.in-Read.ensures _ c.read_bracket.result c.if-depth-eq0.false (bracket_form c.args.text.now _ _ _ _ _ d.fits c.read_bracket.result c.in-Bracket.is c.read_bracket.ensures)
+    let d : Entered expect c.args.text.now c.args.at c.in-Inside.frame c.in-Inside.end = rw c.in-Inside.is at c.in_ok-leaf.ensures in
+    statement-ends d c.args.depth c.args.sheet.now c.enter.ensures.nodes (c.enter.ensures.enters d.bounds) c.in_ok-last.ensures _ c.read_bracket.result c.if-depth-eq0.false (rw c.in-Bracket.is c.read_bracket.ensures)
 
 pub read_statement-returns-in-Then : goal.read_statement-returns-in-Then
 read_statement-returns-in-Then t c =
-    let d = c.in-Inside.ensures in
-    statement-ends d c.args.depth c.args.sheet.now c.args.nodes c.enter-begun.ensures.1 (λ ts g h f. c.enter-begun.ensures.2 d.frame d.fits d.bounds ts g h f) c.in-Read.ensures _ c.read_else.result c.if-depth-eq0.false (then-form c.args.text.now _ _ _ _ _ d.fits c.read_else.result c.in-Then.is c.read_else.ensures)
+    let d : Entered expect c.args.text.now c.args.at c.in-Inside.frame c.in-Inside.end = rw c.in-Inside.is at c.in_ok-leaf.ensures in
+    statement-ends d c.args.depth c.args.sheet.now c.enter.ensures.nodes (c.enter.ensures.enters d.bounds) c.in_ok-last.ensures _ c.read_else.result c.if-depth-eq0.false (rw c.in-Then.is c.read_else.ensures)
 
-pub read_statement-returns-in_default-form : goal.read_statement-returns-in_default-form
-read_statement-returns-in_default-form t c =
-    let d = c.in-Inside.ensures in
-    statement-ends d c.args.depth c.args.sheet.now c.args.nodes c.enter-begun.ensures.1 (λ ts g h f. c.enter-begun.ensures.2 d.frame d.fits d.bounds ts g h f) c.in-Read.ensures _ c.close.result c.if-depth-eq0.false (c.close.ensures _ d.frame d.fits d.bounds)
+pub read_statement-returns-in_default : goal.read_statement-returns-in_default
+read_statement-returns-in_default t c =
+    let d : Entered expect c.args.text.now c.args.at c.in-Inside.frame c.in-Inside.end = rw c.in-Inside.is at c.in_ok-leaf.ensures in
+    statement-ends d c.args.depth c.args.sheet.now c.enter.ensures.nodes (c.enter.ensures.enters d.bounds) c.in_ok-last.ensures _ c.close.result c.if-depth-eq0.false (c.close.ensures _ d.bounds)

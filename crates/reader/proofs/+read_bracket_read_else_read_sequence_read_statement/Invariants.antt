@@ -16,13 +16,13 @@ abbrev pub decreases-read_statement : goal.decreases-read_statement
 decreases-read_statement l = 2 * (length l.text.now - l.at)
 
 abbrev pub invariant-read_bracket-loop-last : goal.invariant-read_bracket-loop-last
-invariant-read_bracket-loop-last l = Branching l.text l.at l.depth l.initial.sheet l.nodes l.sheet l.start l.total
+invariant-read_bracket-loop-last l = Branching l.text l.at l.depth l.initial.sheet l.sheet l.start
 
 abbrev pub decreases-read_bracket-loop-last : goal.decreases-read_bracket-loop-last
 decreases-read_bracket-loop-last l = length l.text - l.start
 
 abbrev pub invariant-read_sequence-loop-start : goal.invariant-read_sequence-loop-start
-invariant-read_sequence-loop-start l = Going l.text l.one l.depth l.initial.sheet l.single l.sheet l.end l.total
+invariant-read_sequence-loop-start l = Going l.text l.initial.end l.depth l.initial.sheet l.sheet l.end
 
 abbrev pub decreases-read_sequence-loop-start : goal.decreases-read_sequence-loop-start
 decreases-read_sequence-loop-start l = length l.text - l.end

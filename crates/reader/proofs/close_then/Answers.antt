@@ -1,9 +1,10 @@
--- `end`, then nothing for the missing branch and the node.
+-- `end`, then the nodes.
+use Rattle.sheet.specs.Sheet.{name_at}
 use Rattle.reader.proofs.Readers.{then_unclosed, then-closes}
 use Rattle.reader.proofs.close_then.Goals as goal
 
-pub returns-in_default : goal.returns-in_default
-returns-in_default c = λ depth. then_unclosed c.args.text.now c.args.at depth c.args.sheet.now c.args.nodes c.args.start c.args.stop c.requires.0 c.requires.1 c.in_default.ensures
+pub returns-in_err-end : goal.returns-in_err-end
+returns-in_err-end c = λ depth v. rw c.from_residual.ensures (then_unclosed c.args.text.now c.args.at depth c.args.sheet.now (name_at c.args.text.now c.args.name) c.requires.ready c.requires.no_else c.in_err-end.ensures)
 
 pub returns : goal.returns
-returns c = λ depth. then-closes c.args.text.now c.args.at depth c.args.sheet.now c.args.nodes c.args.start c.args.stop _ _ c.in-At.ensures c.put-missing.ensures.0 (c.put-missing.ensures.1 c.args.text.now) c.put_named-nodes.ensures.0 (c.put_named-nodes.ensures.1 c.requires.2)
+returns c = λ depth v. then-closes c.args.text.now c.args.at depth c.args.sheet.now (name_at c.args.text.now c.args.name) _ c.in_ok-end.ensures c.put.ensures.nodes (c.put.ensures.adds c.args.text.now) c.put_named.ensures.nodes (c.put_named.ensures.adds v)

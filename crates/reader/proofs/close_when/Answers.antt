@@ -1,12 +1,12 @@
--- `when` and a name, then the node.
+-- `when` and a name, then the nodes.
 use Rattle.reader.proofs.Endings.{when_missing, when_unnamed, when_named}
 use Rattle.reader.proofs.close_when.Goals as goal
 
-pub returns-in_default : goal.returns-in_default
-returns-in_default c = λ depth. when_missing c.args.text.now c.args.at c.requires.stops c.args.sheet.now c.args.nodes depth c.in_default.ensures
+pub returns-in_err-named : goal.returns-in_err-named
+returns-in_err-named c = λ depth. rw c.from_residual.ensures (when_missing c.args.text.now c.args.at c.requires.stops c.args.sheet.now depth c.in_err-named.ensures)
 
-pub returns-in_default-next_name : goal.returns-in_default-next_name
-returns-in_default-next_name c = λ depth. when_unnamed c.args.text.now c.args.at c.requires.stops c.args.sheet.now c.args.nodes depth c.in-At.ensures c.in_default-next_name.ensures
+pub returns-in_err-name : goal.returns-in_err-name
+returns-in_err-name c = λ depth. rw c.from_residual-in_err-name.ensures (when_unnamed c.args.text.now c.args.at c.requires.stops c.args.sheet.now depth c.in_ok-named.ensures c.in_err-name.ensures)
 
 pub returns : goal.returns
-returns c = λ depth. when_named c.args.text.now c.args.at c.requires.stops c.args.sheet.now c.args.nodes depth c.in-At.ensures c.in-Named.ensures _ c.note-number.ensures _ c.put-nodes.ensures.0 (c.put-nodes.ensures.1 c.args.text.now)
+returns c = λ depth. when_named c.args.text.now c.args.at c.requires.stops c.args.sheet.now depth c.in_ok-named.ensures c.in_ok-name.ensures _ c.put_met.ensures.nodes c.put_met.ensures.adds

@@ -1,7 +1,5 @@
--- By the form.
-use Rattle.std.proofs.Common.{arith}
-use Rattle.reader.proofs.Dialect.{guard_strong}
+-- A strong abort suspends.
 use Rattle.reader.proofs.put_guard.Goals as goal
 
-pub returns : goal.returns
-returns c = (omega arith, omega arith, guard_strong c.args.text.now c.args.start c.args.stop (omega arith) c.note-number.ensures (c.put.ensures.1 c.args.text.now))
+pub returns-in-Strong-clause-adds : goal.returns-in-Strong-clause-adds
+returns-in-Strong-clause-adds c = rw c.in-Strong.is (λ v. c.put_met.ensures.adds v)

@@ -1,7 +1,5 @@
 -- A pause and a loop.
-use Rattle.std.proofs.Common.{arith}
-use Rattle.reader.proofs.Dialect.{halt_put}
 use Rattle.reader.proofs.put_halt.Goals as goal
 
-pub returns : goal.returns
-returns c = (omega arith, λ x. halt_put x (c.put-body.ensures.1 x) (c.put.ensures.1 x))
+pub returns-clause-adds : goal.returns-clause-adds
+returns-clause-adds c = λ x ts g f. c.put-2.ensures.adds x ts _ (c.put.ensures.adds x ts g f)

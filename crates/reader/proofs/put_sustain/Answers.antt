@@ -1,7 +1,5 @@
 -- The nodes one after the other.
-use Rattle.std.proofs.Common.{arith}
-use Rattle.reader.proofs.Dialect.{sustain_put}
 use Rattle.reader.proofs.put_sustain.Goals as goal
 
-pub returns : goal.returns
-returns c = (omega arith, sustain_put c.args.text.now c.args.start c.args.stop c.note-number.ensures (c.put-first.ensures.1 c.args.text.now) (c.put-second.ensures.1 c.args.text.now) (c.put-body.ensures.1 c.args.text.now) (c.put.ensures.1 c.args.text.now))
+pub returns-clause-adds : goal.returns-clause-adds
+returns-clause-adds c = λ v ts g f. c.put-3.ensures.adds c.args.text.now ts _ (c.put-2.ensures.adds c.args.text.now ts _ (c.put.ensures.adds c.args.text.now ts _ (c.put_met.ensures.adds v ts g f)))

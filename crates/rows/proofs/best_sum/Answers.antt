@@ -1,15 +1,15 @@
-use Rattle.std.proofs.Common.{refl, arith}
+use Rattle.std.proofs.Common.{rules, arith}
+use Rattle.std.proofs.lemmas.List.{length_push}
+use Rattle.std.proofs.lemmas.Slice.Zip.{zip_turn, zip_end}
 use Rattle.rows.proofs.Sweeps.{finds, found}
 use Rattle.rows.proofs.best_sum.Goals as goal
 
-pub loop-k-init : goal.loop-k-init
-loop-k-init c = record { low = omega arith; is = refl; small = λ m n la lb. omega arith }
-
-pub join-requires : goal.join-requires
-join-requires c = (omega (arith, c.requires.0.at c.loop-k.k), omega (arith, c.requires.1.at c.loop-k.k))
-
-pub loop-k-preserved : goal.loop-k-preserved
-loop-k-preserved c = finds c.loop-k.invariant (omega arith) c.join.ensures c.pick-found.ensures
+pub loop-number-preserved : goal.loop-number-preserved
+loop-number-preserved c =
+    let h = zip_turn c.args.row.now.of c.args.need.now.of c.loop-number.yielded _ _ c.next.new.self _ (search rules) (search rules) c.loop-number.yielded_by _ c.in-Some.is c.next.ensures.steps in
+    rw length_push (finds c.loop-number.invariant (h.2 0) (h.3 0) c.join.ensures c.pick-found.ensures)
 
 pub returns : goal.returns
-returns c = found c.requires.0 c.requires.1 c.loop-k.invariant (omega arith)
+returns c =
+    let h = zip_end c.args.row.now.of c.args.need.now.of c.loop-number.yielded _ _ c.next.new.self _ (search rules) (search rules) c.loop-number.yielded_by c.in-None.is c.next.ensures.steps in
+    found c.requires.0 c.requires.1 c.loop-number.invariant (omega (arith, h))

@@ -1,10 +1,7 @@
 -- The preferred below the code.
-use Rattle.std.proofs.Common.{◌-◌}
+use Rattle.std.proofs.Common.{length}
 use Rattle.rows.proofs.Sweeps.{Finding}
 use Rattle.rows.proofs.best_sum.Given as goal
 
-abbrev pub invariant-loop-k : goal.invariant-loop-k
-invariant-loop-k l = Finding l.weight l.of l.after l.found l.k
-
-abbrev pub decreases-loop-k : goal.decreases-loop-k
-decreases-loop-k l = 64 - l.k
+abbrev pub invariant-loop-number : goal.invariant-loop-number
+invariant-loop-number l = Finding l.weight l.row.of l.need.of l.found (length l.yielded)

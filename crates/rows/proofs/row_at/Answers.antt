@@ -1,8 +1,9 @@
 -- A node's children are in the table before it, and their rows are done.
-use Rattle.std.proofs.Common.{◌-◌, arith}
+use Rattle.std.proofs.Common.{◌-◌, ◌≤◌, arith}
 use Rattle.table.proofs.Views.{in_table, in_place, has_last, first_le}
 use Rattle.rows.proofs.Said.{said-low, leaf-low, no_child, one-child, two-child}
 use Rattle.rows.proofs.row_at.Goals as goal
+use Rattle.rows.proofs.row_at.Goals.{Start, Else-children-eq0}
 
 pub kind_at-kind-requires : goal.kind_at-kind-requires
 kind_at-kind-requires c = in_table c.requires.0.measured c.requires.1
@@ -18,40 +19,42 @@ pub returns-then-children-eq0 : goal.returns-then-children-eq0
 returns-then-children-eq0 c =
     no_child c.requires.0 c.requires.1 c.kind_at-kind.ensures c.field_at-field.ensures.0 c.arity-children.ensures c.args.weight c.if-children-eq0.true c.leaf_row.ensures
 
-pub overflow_sub-node : goal.overflow_sub-node
-overflow_sub-node c = has_last c.requires.0.measured c.requires.1 c.kind_at-kind.ensures c.arity-children.ensures c.if-children-eq0.false
+some : (c : Else-children-eq0) → 1 ≤ c.args.node
+some c = has_last c.requires.0.measured c.requires.1 c.kind_at-kind.ensures c.arity-children.ensures c.if-children-eq0.false
 
-pub load-last-requires : goal.load-last-requires
-load-last-requires c = omega (arith, in_place c.requires.0.measured c.requires.1, c.requires.2.room)
+pub overflow_sub-before : goal.overflow_sub-before
+overflow_sub-before c = some c
+
+pub offset_bounds-rows-before : goal.offset_bounds-rows-before
+offset_bounds-rows-before c = omega (arith, in_place c.requires.0.measured c.requires.1)
+
+pub bounds-rows-before : goal.bounds-rows-before
+bounds-rows-before c = omega (arith, in_place c.requires.0.measured c.requires.1, c.requires.2.room)
 
 pub row_of-requires : goal.row_of-requires
 row_of-requires c =
-    let some = has_last c.requires.0.measured c.requires.1 c.kind_at-kind.ensures c.arity-children.ensures c.if-children-eq0.false in
-    let low = said-low c.requires.0 c.requires.2 (c.args.node - 1) (omega (arith, some)) c.load-last.ensures (omega (arith, c.requires.1)) in
-    (low, low, c.load-last.ensures.long)
+    let low = said-low c.requires.0 c.requires.2 (c.args.node - 1) (omega (arith, some (goal.at.row_of-requires c).Else-children-eq0)) (omega (arith, c.requires.1)) in
+    (low, low)
 
 pub returns-then-children-eq1 : goal.returns-then-children-eq1
 returns-then-children-eq1 c =
-    one-child c.requires.0 c.requires.1 c.kind_at-kind.ensures c.arity-children.ensures c.requires.2 c.load-last.ensures c.row_of.ensures c.if-children-eq1.true
+    one-child c.requires.0 c.requires.1 c.kind_at-kind.ensures c.arity-children.ensures c.requires.2 c.row_of.ensures c.if-children-eq1.true
 
-pub overflow_sub-node-2 : goal.overflow_sub-node-2
-overflow_sub-node-2 c = has_last c.requires.0.measured c.requires.1 c.kind_at-kind.ensures c.arity-children.ensures c.if-children-eq0.false
-
-pub overflow_sub-node-3 : goal.overflow_sub-node-3
-overflow_sub-node-3 c = has_last c.requires.0.measured c.requires.1 c.kind_at-kind.ensures c.arity-children.ensures c.if-children-eq0.false
-
-pub overflow_sub-node-4 : goal.overflow_sub-node-4
-overflow_sub-node-4 c =
+pub overflow_sub-first : goal.overflow_sub-first
+overflow_sub-first c =
     first_le c.requires.0.measured c.requires.1 c.kind_at-kind.ensures c.arity-children.ensures c.size_at.ensures c.if-children-eq0.false c.if-children-eq1.false
 
-pub load-first-requires : goal.load-first-requires
-load-first-requires c = omega (arith, in_place c.requires.0.measured c.requires.1, c.requires.2.room)
+pub offset_bounds-rows-before-2 : goal.offset_bounds-rows-before-2
+offset_bounds-rows-before-2 c = omega (arith, in_place c.requires.0.measured c.requires.1)
+
+pub bounds-rows-before-2 : goal.bounds-rows-before-2
+bounds-rows-before-2 c = omega (arith, in_place c.requires.0.measured c.requires.1, c.requires.2.room)
 
 pub row_of-requires-2 : goal.row_of-requires-2
 row_of-requires-2 c =
-    let some = has_last c.requires.0.measured c.requires.1 c.kind_at-kind.ensures c.arity-children.ensures c.if-children-eq0.false in
-    (said-low c.requires.0 c.requires.2 (c.args.node - 1 - c.size_at.result) (omega (arith, some)) c.load-first.ensures (omega (arith, c.requires.1)), said-low c.requires.0 c.requires.2 (c.args.node - 1) (omega (arith, some)) c.load-last.ensures (omega (arith, c.requires.1)), c.load-first.ensures.long)
+    let n = some (goal.at.row_of-requires-2 c).Else-children-eq0 in
+    (said-low c.requires.0 c.requires.2 (c.args.node - 1 - c.size_at.result) (omega arith) (omega (arith, c.requires.1)), said-low c.requires.0 c.requires.2 (c.args.node - 1) (omega arith) (omega (arith, c.requires.1)))
 
 pub returns : goal.returns
 returns c =
-    two-child c.requires.0 c.requires.1 c.kind_at-kind.ensures c.arity-children.ensures c.requires.2 c.load-last.ensures c.row_of-2.ensures c.size_at.ensures c.if-children-eq0.false c.if-children-eq1.false c.load-first.ensures
+    two-child c.requires.0 c.requires.1 c.kind_at-kind.ensures c.arity-children.ensures c.requires.2 c.row_of-2.ensures c.size_at.ensures c.if-children-eq0.false c.if-children-eq1.false

@@ -1,21 +1,30 @@
-use Rattle.std.proofs.Common.{refl, arith}
-use Rattle.rows.proofs.Values.{up-low, entry-low}
-use Rattle.rows.proofs.Sweeps.{begins, step, ends}
+use Rattle.std.proofs.Common.{suc, refl, sym, ◌∙◌, arith}
+use Rattle.table.specs.declared.Kind.TheVariants.{Parallel}
+use Rattle.table.proofs.Comparing.{same-is}
+use Rattle.rows.proofs.Values.{entry-low}
+use Rattle.rows.proofs.Sweeps.{Ups, no_ups, more_ups, begins, step, ends}
 use Rattle.rows.proofs.row_of.Goals as goal
+use Rattle.rows.proofs.row_of.Goals.{Joined-eq, then-eq, else-eq}
 
 pub loop-k-init : goal.loop-k-init
 loop-k-init c = begins refl
 
-pub inner_at-inner-requires : goal.inner_at-inner-requires
-inner_at-inner-requires c =
-    (c.requires.0, c.requires.1, c.requires.2, up-low c.up_if-left_up.ensures (c.requires.0.at _) c.loop-k.invariant.small-left, up-low c.up_if-right_up.ensures (c.requires.1.at _) c.loop-k.invariant.small-right, omega arith)
+-- after the `if`
+ups : (c : Joined-eq) → Ups c.args.weight c.args.kind c.args.first.now.of c.args.second.now.of c.if-eq.up.first c.if-eq.up.second (suc c.loop-k.k)
+ups c =
+    elim c.if-eq.branch [
+      | then-eq w ↦ rw w.up-is (more_ups c.requires.0 c.requires.1 w.pair_at.ensures.0 w.pair_at.ensures.1 w.up_to-up.ensures.first w.up_to-up.ensures.second c.loop-k.invariant.ups)
+      | else-eq w ↦ rw w.up-is (no_ups (sym (c.eq.ensures ∙ same-is c.args.kind Parallel) ∙ w.if-eq.false) c.loop-k.invariant.ups)
+    ]
+
+pub inner_at-requires : goal.inner_at-requires
+inner_at-requires c = (c.requires.0, c.requires.1, (ups c).small-left, (ups c).small-right, omega arith)
 
 pub join-requires : goal.join-requires
-join-requires c = (omega (arith, entry-low c.args.weight c.entry-own.ensures), c.inner_at-inner.ensures.gets.low)
+join-requires c = (omega (arith, entry-low c.args.weight c.entry-own.ensures), c.inner_at.ensures.gets.low)
 
 pub loop-k-preserved : goal.loop-k-preserved
-loop-k-preserved c =
-    step c.requires.0 c.requires.1 c.is_parallel-is_parallel.ensures c.loop-k.invariant (omega arith) c.up_if-left_up.ensures c.up_if-right_up.ensures c.entry-own.ensures c.inner_at-inner.ensures c.join.ensures
+loop-k-preserved c = step c.loop-k.invariant (omega arith) (ups (goal.at.loop-k-preserved c).Joined-eq) c.entry-own.ensures c.inner_at.ensures c.join.ensures
 
 pub returns : goal.returns
 returns c = ends c.loop-k.invariant (omega arith)

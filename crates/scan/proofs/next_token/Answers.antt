@@ -8,8 +8,8 @@ use Rattle.scan.proofs.next_token.Goals as goal
 pub returns-then-start-text : goal.returns-then-start-text
 returns-then-start-text c = (c.skip-start.ensures.same ∙ rest-past c.args.text.now c.skip-start.result (omega arith), (c.skip-start.ensures.same_starts ∙ starts-past c.args.text.now c.skip-start.result (omega arith), c.if-start-text.true))
 
-pub word_end-end-requires : goal.word_end-end-requires
-word_end-end-requires c = (omega arith, word_class _ (sym c.is_in_word.ensures ∙ c.if-is_in_word.true))
+pub word_end-stop-requires : goal.word_end-stop-requires
+word_end-stop-requires c = (omega arith, word_class _ (sym c.is_in_word.ensures ∙ c.if-is_in_word.true))
 
 pub bars_at-requires : goal.bars_at-requires
 bars_at-requires c = (omega arith, bar_class _ c.if-byte-eq124.true)

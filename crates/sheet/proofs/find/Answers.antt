@@ -1,10 +1,12 @@
 -- No name before the place is the one that is sought.
-use Rattle.std.proofs.Common.{arith}
-use Rattle.sheet.proofs.Searching.{found_at, none_found}
+use Rattle.sheet.proofs.Searching.{found_at, one_more, none_found}
 use Rattle.sheet.proofs.find.Goals as goal
 
 pub returns-then-is_same_part : goal.returns-then-is_same_part
-returns-then-is_same_part c = found_at c.args.text.now c.args.sheet.now c.args.first c.args.count c.args.start c.args.stop c.loop-i.i (omega arith) c.wide-kept_start.ensures c.wide-kept_stop.ensures c.is_same_part.ensures c.loop-i.invariant c.if-is_same_part.true
+returns-then-is_same_part c = (c.loop-i-test.true, found_at c.args.text.now c.args.others.now c.args.name c.loop-i.i c.part.result c.loop-i-test.true c.part.ensures.start c.part.ensures.stop c.is_same_part.ensures c.loop-i.invariant c.if-is_same_part.true)
+
+pub loop-i-preserved : goal.loop-i-preserved
+loop-i-preserved c = one_more c.args.text.now c.args.others.now c.args.name c.loop-i.i c.part.result c.loop-i-test.true c.part.ensures.start c.part.ensures.stop c.is_same_part.ensures c.loop-i.invariant c.if-is_same_part.false
 
 pub returns : goal.returns
-returns c = none_found c.args.text.now c.args.sheet.now c.args.first c.args.count c.args.start c.args.stop c.loop-i.i (omega arith) c.loop-i.invariant
+returns c = none_found c.args.text.now c.args.others.now c.args.name c.loop-i.i c.loop-i-test.false c.loop-i.invariant

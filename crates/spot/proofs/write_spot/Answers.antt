@@ -1,22 +1,22 @@
 -- Field after field.
-use mathlib.Core.List.{[], ◌∷◌}
-use native.Mathlib.Omega.{arith}
-use lib.Dec.{lit≤}
-use Rattle.grammar.specs.Ascii.{ascii}
-use Rattle.listing.specs.Text.{decimal}
-use Rattle.listing.proofs.Writing.{rest-fits, last-left}
-use Rattle.listing.proofs.Fields.{next_field, field_fits}
-use Rattle.spot.proofs.Spots.{spot-left, spot-short, spot-written}
+use Rattle.std.proofs.Common.{lit≤, arith, rules}
+use Rattle.listing.proofs.Writing.{begin_fits, written-whole}
+use Rattle.listing.proofs.Fields.{field_next, field_fits, last_fits, field_last}
+use Rattle.spot.specs.Spots.{spot_text}
+use Rattle.spot.proofs.Spots.{spot-left, spot-short}
 use Rattle.spot.proofs.write_spot.Goals as goal
 
-pub write_field-i-requires : goal.write_field-i-requires
-write_field-i-requires c = (lit≤ tt, lit≤ tt, field_fits (decimal c.args.line) (ascii "column") ((decimal c.args.column) ∷ []) (omega (arith, c.requires, spot-short c.args.line c.args.column)) (next_field (ascii "line") (decimal c.args.line) ((ascii "column") ∷ (decimal c.args.column) ∷ []) (spot-left c.args.line c.args.column c.args.text.now) c.write_bytes-i.ensures))
+pub bytes-requires : goal.bytes-requires
+bytes-requires c = field_fits (begin_fits c.new-to.ensures (spot_text c.args.spot.line c.args.spot.column) (omega (arith, spot-short c.args.spot.line c.args.spot.column))) (spot-left c.args.spot.line c.args.spot.column c.new-to.result)
 
-pub write_bytes-i-requires-2 : goal.write_bytes-i-requires-2
-write_bytes-i-requires-2 c = field_fits (ascii "column") (decimal c.args.column) [] (omega (arith, c.requires, spot-short c.args.line c.args.column)) (next_field (decimal c.args.line) (ascii "column") ((decimal c.args.column) ∷ []) (next_field (ascii "line") (decimal c.args.line) ((ascii "column") ∷ (decimal c.args.column) ∷ []) (spot-left c.args.line c.args.column c.args.text.now) c.write_bytes-i.ensures) c.write_field-i.ensures)
+pub field-requires : goal.field-requires
+field-requires c = (lit≤ tt, lit≤ tt, field_fits (begin_fits c.new-to.ensures (spot_text c.args.spot.line c.args.spot.column) (omega (arith, spot-short c.args.spot.line c.args.spot.column))) (field_next (spot-left c.args.spot.line c.args.spot.column c.new-to.result) c.bytes.ensures))
 
-pub write_field-requires : goal.write_field-requires
-write_field-requires c = (lit≤ tt, lit≤ tt, rest-fits (omega (arith, c.requires, spot-short c.args.line c.args.column)) (next_field (ascii "column") (decimal c.args.column) [] (next_field (decimal c.args.line) (ascii "column") ((decimal c.args.column) ∷ []) (next_field (ascii "line") (decimal c.args.line) ((ascii "column") ∷ (decimal c.args.column) ∷ []) (spot-left c.args.line c.args.column c.args.text.now) c.write_bytes-i.ensures) c.write_field-i.ensures) c.write_bytes-i-2.ensures))
+pub bytes-requires-2 : goal.bytes-requires-2
+bytes-requires-2 c = field_fits (begin_fits c.new-to.ensures (spot_text c.args.spot.line c.args.spot.column) (omega (arith, spot-short c.args.spot.line c.args.spot.column))) (field_next (field_next (spot-left c.args.spot.line c.args.spot.column c.new-to.result) c.bytes.ensures) c.field.ensures)
+
+pub field-requires-2 : goal.field-requires-2
+field-requires-2 c = (lit≤ tt, lit≤ tt, last_fits (begin_fits c.new-to.ensures (spot_text c.args.spot.line c.args.spot.column) (omega (arith, spot-short c.args.spot.line c.args.spot.column))) (field_next (field_next (field_next (spot-left c.args.spot.line c.args.spot.column c.new-to.result) c.bytes.ensures) c.field.ensures) c.bytes-2.ensures))
 
 pub returns : goal.returns
-returns c = spot-written c.args.line c.args.column c.requires (last-left (next_field (ascii "column") (decimal c.args.column) [] (next_field (decimal c.args.line) (ascii "column") ((decimal c.args.column) ∷ []) (next_field (ascii "line") (decimal c.args.line) ((ascii "column") ∷ (decimal c.args.column) ∷ []) (spot-left c.args.line c.args.column c.args.text.now) c.write_bytes-i.ensures) c.write_field-i.ensures) c.write_bytes-i-2.ensures) c.write_field.ensures)
+returns c = written-whole c.new-to.ensures (spot_text c.args.spot.line c.args.spot.column) (omega (arith, spot-short c.args.spot.line c.args.spot.column)) (field_last (field_next (field_next (field_next (spot-left c.args.spot.line c.args.spot.column c.new-to.result) c.bytes.ensures) c.field.ensures) c.bytes-2.ensures) c.field-2.ensures) (search rules) c.written.ensures

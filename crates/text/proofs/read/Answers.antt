@@ -1,22 +1,18 @@
 -- The checks in their order.
 use Rattle.std.proofs.Common.{refl}
-use Rattle.std.proofs.Common.{leb-true, leb-false}
 use Rattle.grammar.specs.Meaning.{overlong, derived}
 use Rattle.sheet.proofs.Sheets.{fresh}
 use Rattle.text.specs.Reading.{judged}
 use Rattle.text.proofs.Parsing.{unread}
-use Rattle.text.proofs.Settling.{test-fails, test-holds}
 use Rattle.text.proofs.read.Goals as goal
 
-pub returns-in_default-length : goal.returns-in_default-length
-returns-in_default-length c =
-    let q = test-fails 14 _ c.pass_if-length.ensures c.in_default-length.not-Passed c.refused-in_default-length.ensures in
-    rw q.1 (judged _ _ _ (leb-true _ _ (test-holds 3 _ c.pass_if-room.ensures c.in-Passed.is)) (overlong (leb-false _ _ q.0)) (refl, refl))
+pub returns-then-text-gt-MAX_SOURCE : goal.returns-then-text-gt-MAX_SOURCE
+returns-then-text-gt-MAX_SOURCE c = rw c.fault_at-then-text-gt-MAX_SOURCE.ensures (judged _ _ _ c.if-table-lt-TABLE.false (overlong c.if-text-gt-MAX_SOURCE.true) (refl, refl))
 
-pub returns-in_default-parsed : goal.returns-in_default-parsed
-returns-in_default-parsed c = unread c.args.text.now c.args.table.now _ _ (leb-true _ _ (test-holds 3 _ c.pass_if-room.ensures c.in-Passed.is)) (leb-true _ _ (test-holds 14 _ c.pass_if-length.ensures c.in-Passed-length.is)) c.in_default-parsed.ensures c.find_fault-fault.ensures
+pub returns-then-not-parse : goal.returns-then-not-parse
+returns-then-not-parse c = rw c.fault_at-then-not-parse.ensures (unread c.args.text.now c.args.table.now _ _ c.if-table-lt-TABLE.false c.if-text-gt-MAX_SOURCE.false c.if-not-parse.ensures c.find_fault-fault.ensures)
 
 pub returns : goal.returns
 returns c =
-    let p = c.in-Nodes.ensures in
-    judged _ _ _ (leb-true _ _ (test-holds 3 _ c.pass_if-room.ensures c.in-Passed.is)) (derived p.tree (leb-true _ _ (test-holds 14 _ c.pass_if-length.ensures c.in-Passed-length.is)) p.derivation) (c.settle.ensures p.tree p.derivation (p.wrote (fresh c.args.text.now (leb-true _ _ (test-holds 14 _ c.pass_if-length.ensures c.in-Passed-length.is)) _ (refl, refl, refl, refl))))
+    let p = c.if-not-parse.ensures in
+    judged _ _ _ c.if-table-lt-TABLE.false (derived p.tree c.if-text-gt-MAX_SOURCE.false p.derivation) (c.settle.ensures p.tree p.derivation (p.wrote (fresh c.args.text.now c.if-text-gt-MAX_SOURCE.false _ c.new-sheet.ensures)))

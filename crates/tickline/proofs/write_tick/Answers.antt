@@ -1,15 +1,16 @@
+-- The node, the answers and the line feed.
 use Rattle.std.proofs.Common.{lit≤}
 use Rattle.tickline.proofs.Writing.{node-fits, answers-fit, feed_fits, tick_written}
 use Rattle.tickline.proofs.write_tick.Goals as goal
 
-pub write_number-next-requires : goal.write_number-next-requires
-write_number-next-requires c = (lit≤ tt, lit≤ tt, node-fits c.args.text.now c.args.node c.args.answers.now c.requires)
+pub number-requires : goal.number-requires
+number-requires c = (lit≤ tt, lit≤ tt, node-fits c.args.to.now c.args.node c.args.answers.now c.requires)
 
-pub write_answers-next-requires : goal.write_answers-next-requires
-write_answers-next-requires c = answers-fit c.args.text.now c.args.node c.args.answers.now c.requires c.write_number-next.ensures
+pub write_answers-requires : goal.write_answers-requires
+write_answers-requires c = answers-fit c.args.to.now c.args.node c.args.answers.now c.requires c.number.ensures
 
-pub write_byte-requires : goal.write_byte-requires
-write_byte-requires c = feed_fits c.args.text.now c.args.node c.args.answers.now c.requires c.write_number-next.ensures c.write_answers-next.ensures
+pub byte-requires : goal.byte-requires
+byte-requires c = feed_fits c.args.to.now c.args.node c.args.answers.now c.requires c.number.ensures c.write_answers.ensures
 
 pub returns : goal.returns
-returns c = tick_written c.args.text.now c.args.node c.args.answers.now c.requires c.write_number-next.ensures c.write_answers-next.ensures c.write_byte.ensures
+returns c = tick_written c.args.to.now c.args.node c.args.answers.now c.number.ensures c.write_answers.ensures c.byte.ensures

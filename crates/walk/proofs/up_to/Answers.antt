@@ -5,7 +5,6 @@ use Rattle.walk.proofs.up_to.Goals as goal
 pub loop-k-init : goal.loop-k-init
 loop-k-init c =
     record {
-      low = omega arith;
       long = refl;
       is = refl;
       small = λ m l. omega arith;

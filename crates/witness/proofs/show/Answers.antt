@@ -12,10 +12,9 @@ fill_rows-requires c = (formed c.requires.0 _ (omega (arith, c.fill_sizes.auto.s
 pub overflow_sub-node : goal.overflow_sub-node
 overflow_sub-node c = some-before c.requires.0
 
-pub walk_at-walked-requires : goal.walk_at-walked-requires
-walk_at-walked-requires c =
-    body_call c.requires.0 _ (omega (arith, c.fill_sizes.auto.sizes)) c.fill_sizes.ensures c.fill_rows.ensures c.goal.ensures c.requires.1
+pub walk_at-requires : goal.walk_at-requires
+walk_at-requires c =
+    body_call refl c.requires.0 _ (omega (arith, c.fill_sizes.auto.sizes)) c.fill_sizes.ensures c.fill_rows.ensures c.goal.ensures c.requires.1
 
 pub returns : goal.returns
-returns c =
-    showing c.requires.0 _ (omega (arith, c.fill_sizes.auto.sizes)) c.fill_sizes.ensures c.fill_rows.ensures c.goal.ensures c.requires.1 c.walk_at-walked.ensures refl
+returns c = showing c.requires.0 c.goal.ensures c.requires.1 c.walk_at.ensures
