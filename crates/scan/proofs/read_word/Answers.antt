@@ -1,17 +1,17 @@
--- Each entry is the word, or is not.
-use Rattle.std.proofs.Common.{◌≤◌, ◌∙◌, rules, arith}
-use Rattle.grammar.specs.Tokens.{words}
-use Rattle.scan.proofs.Table.{named_so, is_entry, no_entry, past-entries}
+-- None of the words here.
+use Rattle.scan.proofs.Words.{unlike}
 use Rattle.scan.proofs.read_word.Goals as goal
 
-pub loop-letters-init : goal.loop-letters-init
-loop-letters-init c = named_so _ words (search rules) c.args.word.now
-
-pub returns-then-eq : goal.returns-then-eq
-returns-then-eq c = is_entry _ _ _ _ c.loop-letters-test.true _ c.eq.ensures c.if-eq.true c.loop-letters.invariant
-
-pub loop-letters-preserved : goal.loop-letters-preserved
-loop-letters-preserved c = no_entry _ _ _ _ c.loop-letters-test.true _ c.eq.ensures c.if-eq.false c.loop-letters.invariant
-
 pub returns : goal.returns
-returns c = let all : 22 ≤ c.loop-letters.letters-index = omega arith in c.name_or_count.ensures ∙ past-entries _ _ _ all c.loop-letters.invariant
+returns c =
+    rw (
+      unlike c.args.word.now c.as_slice.ensures c.eq.ensures c.if-eq.false,
+      unlike c.args.word.now c.as_slice-2.ensures c.eq-2.ensures c.if-eq-2.false,
+      unlike c.args.word.now c.as_slice-3.ensures c.eq-3.ensures c.if-eq-3.false,
+      unlike c.args.word.now c.as_slice-4.ensures c.eq-4.ensures c.if-eq-4.false,
+      unlike c.args.word.now c.as_slice-5.ensures c.eq-5.ensures c.if-eq-5.false,
+      unlike c.args.word.now c.as_slice-6.ensures c.eq-6.ensures c.if-eq-6.false,
+      unlike c.args.word.now c.as_slice-7.ensures c.eq-7.ensures c.if-eq-7.false,
+      unlike c.args.word.now c.as_slice-8.ensures c.eq-8.ensures c.if-eq-8.false,
+      unlike c.args.word.now c.as_slice-9.ensures c.eq-9.ensures c.if-eq-9.false,
+    ) c.dialect_word.ensures
