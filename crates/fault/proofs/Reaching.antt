@@ -66,9 +66,6 @@ begun x at s e Finished h b = absurd (h refl)
 pub going-first : {x : List ℕ} {it ts : Tokens} → it ≡ ts → (ts.text.now ≡ x) × (ts.at ≡ 0) → Going x it × (it.at ≡ 0)
 going-first {x} e h = rw e (record { text = h.0; within = omega (arith, h.1); reached = rw h.1 (reached-first x) }, h.1)
 
-pub can-go : {x : List ℕ} {it : Tokens} → Going x it → it.at ≤ length it.text.now
-can-go g = rw g.text g.within
-
 pub token-taken : {x : List ℕ} {s t : Tokens} (r : Scanned) → Going x s → TakesToken s r t → TokenAt x s r t
 token-taken {x} {s} {t} r g k =
     let a = told x s.at r.part.start r.part.stop r.token k.one (rw g.text at k.scanned) in

@@ -6,12 +6,11 @@ use Prim.Native.Nat.{ℕ, suc, ◌+◌, ◌≤◌, ◌<◌, ◌-◌}
 use native.Mathlib.Numerals.{add-one}
 use native.Mathlib.Omega.{arith}
 use Prim.Native.Char.{code}
-use lib.Dec.{eqb, leb}
+use lib.Dec.{eqb}
 use lib.ListN.{length, take, drop, get_or, length-drop, drop_of_length-le}
 use lib.Seq.{drop-cons, take-suc, get_or-drop}
 use Rattle.std.specs.Char.{is_ascii_digit}
 use Rattle.std.specs.List.{list_all}
-use Rattle.grammar.specs.Limits.{max_name}
 use Rattle.grammar.specs.Tokens as G
 use Rattle.grammar.specs.Tokens.{tokens, class_of, word_token, Pending, none, word, first_bar, tokens_after, meet, begins, pending_after, cons_if, beginnings_after, Class, is_letter, is_digit, is_count, sign_of, name_or}
 use Rattle.grammar.proofs.Runs.{bar-met, word-met}
@@ -138,18 +137,6 @@ word-last x i w h = rw (drop_of_length-le x h)
 pub word-closes : (x : List ℕ) (at i : ℕ) → at < length x → length x ≡ i → rest x at ≡ tokens_after (word (take (i - at) (drop at x))) (drop i x) → starts x at ≡ at ∷ beginnings_after i (word (take (i - at) (drop at x))) (drop i x) → Worded x at (length x)
 word-closes x at i h e r s = rw e (record { from = omega arith; to = omega arith; moves = r ∙ word-last x i _ (omega arith); begins = s ∙ word-all x at i (omega arith) })
 
-pub is_name : (w : List ℕ) (t : Bool) → 0 < length w → t ≡ is_letter (get_or w 0 0) → (t && leb (length w) max_name) ≡ true → ◌≡◌ {A = List G.Token} (G.name w ∷ []) (name_or w ∷ [])
-is_name [] t h l e = absurd (omega arith)
-is_name (b ∷ w) t h l e = rw (← l, e)
-
-pub is-count-then : (w : List ℕ) (t : Bool) → 0 < length w → t ≡ is_letter (get_or w 0 0) → (t && leb (length w) max_name) ≡ false → is_count w ≡ true → ◌≡◌ {A = List G.Token} (G.foreign ∷ []) (name_or w ∷ [])
-is-count-then [] t h l e f = absurd (omega arith)
-is-count-then (b ∷ w) t h l e f = rw (← l, e, f)
-
-pub neither : (w : List ℕ) (t : Bool) → 0 < length w → t ≡ is_letter (get_or w 0 0) → (t && leb (length w) max_name) ≡ false → is_count w ≡ false → ◌≡◌ {A = List G.Token} (G.stray ∷ []) (name_or w ∷ [])
-neither [] t h l e f = absurd (omega arith)
-neither (b ∷ w) t h l e f = rw (← l, e, f)
-
 -- digits, as the library's all has them
 pub all-digits : (w : List ℕ) → list_all is_ascii_digit w ≡ is_count w
 all-digits [] = refl
@@ -180,15 +167,6 @@ begins-here x at e Names w u h m = m
 begins-here x at e Foreign w u h m = m
 begins-here x at e Stray w u h m = m
 begins-here x at e Finished w u h m = let z : ◌≡◌ {A = ℕ} 0 1 = cc in absurd (omega arith)
-
--- a word
-pub word_scanned : (x : List ℕ) (at e : ℕ) (t : Token) → Worded x at e → token_is t (take (e - at) (drop at x)) ≡ word_token (take (e - at) (drop at x)) ∷ [] → ScannedAs x at at e t
-word_scanned x at e (Opens o) w h = record { from = w.from; to = w.to; moves = let f : G.opening (opening_is o) ≡ word_token (take (e - at) (drop at x)) = cc in rw f w.moves }
-word_scanned x at e (Marks m) w h = record { from = w.from; to = w.to; moves = let f : G.mark (mark_is m) ≡ word_token (take (e - at) (drop at x)) = cc in rw f w.moves }
-word_scanned x at e Names w h = record { lexed = record { from = w.from; to = w.to; moves = let f : G.name (take (e - at) (drop at x)) ≡ word_token (take (e - at) (drop at x)) = cc in rw f w.moves }; ordered = omega (arith, w.from) }
-word_scanned x at e Foreign w h = record { from = w.from; to = w.to; moves = let f : G.foreign ≡ word_token (take (e - at) (drop at x)) = cc in rw f w.moves }
-word_scanned x at e Stray w h = record { from = w.from; to = w.to; moves = let f : G.stray ≡ word_token (take (e - at) (drop at x)) = cc in rw f w.moves }
-word_scanned x at e Finished w h = let z : ◌≡◌ {A = ℕ} 0 1 = cc in absurd (omega arith)
 
 -- a sign
 pub sign_scanned : (x : List ℕ) (at : ℕ) (t : Token) (u : G.Token) → at < length x → token_is t [] ≡ u ∷ [] → rest x at ≡ u ∷ rest x (at + 1) → (u ≡ G.name [] → ⊥) → ScannedAs x at at (at + 1) t
