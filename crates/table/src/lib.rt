@@ -8,7 +8,7 @@ ghost use Rattle.esterel.specs.Statement.{size};
 ghost use Rattle.table.specs.Kinds.{kind_of, arity_of, plain_of};
 ghost use Rattle.table.specs.Program.{program_of, Readable};
 ghost use Rattle.table.specs.Columns.{onto, sizes_of};
-ghost use Rattle.table.specs.Check.{length_check, node_check, nodes_check, WellSized, Room, span_of, refuse_below, Shallow, TopOf, OnlyOf, SecondOf, Descended, Seen, Surveyed};
+ghost use Rattle.table.specs.Check.{length_check, node_check, nodes_check, WellSized, Room, span_of, refuse_some, Shallow, TopOf, OnlyOf, SecondOf, Descended, depths_of, traps_of, loops_of, Seen, Surveyed};
 
 use esterel::{Check, Refusal};
 
@@ -175,19 +175,19 @@ struct Nesting {
     waiting: usize,
 }
 
-// The lowest node of those seen so far at which check 8, 9 and 10 fails, or MAX_NODES. Numbers keep the survey's loop small.
+// The lowest node of those seen so far at which check 8, 9 and 10 fails.
 #[derive(Drop)]
 struct Faults {
-    depths: usize,
-    traps: usize,
-    exits: usize,
+    depths: Option<usize>,
+    traps: Option<usize>,
+    exits: Option<usize>,
 }
 
 // A lower node that fails takes the place of a higher one.
-fn lower_if(fails: bool, node: usize, higher: usize) -> usize
-    ensures { result ≡ cond fails node higher }
+fn lower_if(fails: bool, node: usize, higher: Option<usize>) -> Option<usize>
+    ensures { result ≡ cond fails (Some node) higher }
 {
-    if fails { node } else { higher }
+    if fails { Some(node) } else { higher }
 }
 
 // Checks 8, 9 and 10 of one more node, the lowest.
@@ -212,24 +212,24 @@ fn seen(faults: Faults, kind: Kind, field: usize, node: usize, nesting: Nesting)
 
 // The first refusal: each check comes before the next.
 fn first_refusal(faults: Faults) -> Result<(), Refusal>
-    ensures { reply result ≡ refuse_below 8 faults.depths (refuse_below 9 faults.traps (refuse_below 10 faults.exits (yields tt))) }
+    ensures { reply result ≡ refuse_some 8 faults.depths (refuse_some 9 faults.traps (refuse_some 10 faults.exits (yields tt))) }
 {
-    if faults.depths < esterel::MAX_NODES {
+    if let Some(node) = faults.depths {
         return Err(Refusal {
             check: Check::TooDeep,
-            node: faults.depths,
+            node,
         });
     }
-    if faults.traps < esterel::MAX_NODES {
+    if let Some(node) = faults.traps {
         return Err(Refusal {
             check: Check::TooManyTraps,
-            node: faults.traps,
+            node,
         });
     }
-    if faults.exits < esterel::MAX_NODES {
+    if let Some(node) = faults.exits {
         return Err(Refusal {
             check: Check::Uncaught,
-            node: faults.exits,
+            node,
         });
     }
     Ok(())
@@ -239,22 +239,25 @@ fn first_refusal(faults: Faults) -> Result<(), Refusal>
 // nothing else waits.
 const WAITING: usize = esterel::MAX_NODES / 2 + 1;
 
+// How a subtree that waits is nested, in a third of the room.
+#[derive(Clone, Copy)]
+struct Level {
+    depth: u16,
+    traps: u16,
+    loops: u16,
+}
+
 // Past a leaf: the subtree that waits next.
-fn next_waiting(
-    depths: &[u16; WAITING],
-    traps: &[u16; WAITING],
-    loops: &[u16; WAITING],
-    waiting: usize,
-) -> Nesting
+fn next_waiting(stack: &[Level; WAITING], waiting: usize) -> Nesting
     requires { (0 < waiting) × (waiting ≤ max_nodes / 2) }
-    ensures { TopOf depths.now traps.now loops.now waiting result }
+    ensures { TopOf (depths_of stack.now) (traps_of stack.now) (loops_of stack.now) waiting result }
 {
-    let top = waiting - 1;
+    let level = stack[waiting - 1];
     Nesting {
-        depth: usize::from(depths[top]),
-        traps: usize::from(traps[top]),
-        loops: usize::from(loops[top]),
-        waiting: top,
+        depth: usize::from(level.depth),
+        traps: usize::from(level.traps),
+        loops: usize::from(level.loops),
+        waiting: waiting - 1,
     }
 }
 
@@ -272,65 +275,56 @@ fn only_child(node: Nesting, traps: usize, loops: usize) -> Nesting
 }
 
 // Into the second of two children. The first waits.
-fn second_child(
-    depths: &mut [u16; WAITING],
-    traps: &mut [u16; WAITING],
-    loops: &mut [u16; WAITING],
-    node: Nesting,
-) -> Nesting
+fn second_child(stack: &mut [Level; WAITING], node: Nesting) -> Nesting
     requires { Shallow max_nodes node × (node.waiting ≤ max_nodes / 2) }
-    ensures { SecondOf node depths.old traps.old loops.old depths.new traps.new loops.new result }
+    ensures { SecondOf node (depths_of stack.old) (traps_of stack.old) (loops_of stack.old) (depths_of stack.new) (traps_of stack.new) (loops_of stack.new) result }
 {
-    let place = node.waiting;
-    depths[place] = (node.depth + 1) as u16;
-    traps[place] = node.traps as u16;
-    loops[place] = node.loops as u16;
+    stack[node.waiting] = Level {
+        depth: (node.depth + 1) as u16,
+        traps: node.traps as u16,
+        loops: node.loops as u16,
+    };
     Nesting {
         depth: node.depth + 1,
         traps: node.traps,
         loops: node.loops,
-        waiting: place + 1,
+        waiting: node.waiting + 1,
     }
 }
 
 // From a node to the node before it.
-fn descend(
-    kind: Kind,
-    depths: &mut [u16; WAITING],
-    traps: &mut [u16; WAITING],
-    loops: &mut [u16; WAITING],
-    node: Nesting,
-) -> Nesting
+fn descend(kind: Kind, stack: &mut [Level; WAITING], node: Nesting) -> Nesting
     requires { Shallow max_nodes node × (0 < node.waiting) × (node.waiting ≤ max_nodes / 2) }
-    ensures { Descended kind node depths.old traps.old loops.old depths.new traps.new loops.new result }
+    ensures { Descended kind node (depths_of stack.old) (traps_of stack.old) (loops_of stack.old) (depths_of stack.new) (traps_of stack.new) (loops_of stack.new) result }
 {
     match kind {
         Kind::Nothing | Kind::Pause | Kind::Emit | Kind::Exit | Kind::Unknown => {
-            next_waiting(depths, traps, loops, node.waiting)
+            next_waiting(stack, node.waiting)
         }
         Kind::Signal | Kind::Suspend => only_child(node, node.traps, node.loops),
         Kind::Loop => only_child(node, node.traps, node.loops + 1),
         Kind::Trap => only_child(node, node.traps + 1, node.loops),
-        Kind::Present | Kind::Sequence | Kind::Parallel => {
-            second_child(depths, traps, loops, node)
-        }
+        Kind::Present | Kind::Sequence | Kind::Parallel => { second_child(stack, node) }
     }
 }
 
 // Checks 8, 9 and 10, and the loop depth, in one pass from the last node to the first. What waits are the subtrees that end
-// right before the nodes seen. How the one that ends next is nested is at hand, and how the others are is on three stacks, the
-// next one on top.
+// right before the nodes seen. How the one that ends next is nested is at hand, and how the others are is on a stack, the next
+// one on top.
 pub fn survey_table(table: &[u8]) -> Survey
     requires { Readable table.now }
     ensures { Surveyed (program_of table.now) result }
 {
-    let mut depths = [0u16; WAITING];
-    let mut traps = [0u16; WAITING];
-    let mut loops = [0u16; WAITING];
+    let nowhere = Level {
+        depth: 0,
+        traps: 0,
+        loops: 0,
+    };
+    let mut stack = [nowhere; WAITING];
     let mut faults = Faults {
-        depths: esterel::MAX_NODES,
-        traps: esterel::MAX_NODES,
-        exits: esterel::MAX_NODES,
+        depths: None,
+        traps: None,
+        exits: None,
     };
     let mut most: usize = 0;
     let mut node = Nesting {
@@ -342,7 +336,7 @@ pub fn survey_table(table: &[u8]) -> Survey
     for i in (0..table.len() / 2).rev() {
         let kind = kind_at(table, i);
         faults = seen(faults, kind, field_at(table, i), i, node);
-        node = descend(kind, &mut depths, &mut traps, &mut loops, node);
+        node = descend(kind, &mut stack, node);
         // Only a loop puts one more around what comes next.
         if kind == Kind::Loop {
             most = most.max(node.loops);
