@@ -37,7 +37,7 @@ use Rattle.starts.proofs.Agree.{walk_agree}
 use Rattle.starts.proofs.Short.{walk-short}
 use Rattle.starts.proofs.Theorems.{few-tests, codes-below}
 use Rattle.starts.proofs.Entries.{first_tick, composed}
-use Rattle.rows.specs.Rows.{value_of, values_of, Picks, Holds}
+use Rattle.rows.specs.Rows.{value_of, values_of, Holds}
 use Rattle.rows.specs.declared.Row.{Row}
 use Rattle.rows.specs.Filled.{Formed, numbers_at, RowsTo}
 use Rattle.rows.proofs.Said.{row_low}
@@ -59,9 +59,6 @@ same_value zero zero e = refl
 same_value zero (suc y) e = let z : ◌≡◌ {A = ℕ} 0 1 = cc in absurd (omega arith)
 same_value (suc x) zero e = let z : ◌≡◌ {A = ℕ} 0 1 = cc in absurd (omega arith)
 same_value (suc x) (suc y) e = let z : x ≡ y = cc in ap suc z
-
-pub picked : (row : List ℕ) {r : ℕ} → Picks Entries (get_or row 0 0) (get_or row 1 0) r → r ≡ larger01 row
-picked row {r} p = same_value r (larger01 row) (p.is ∙ sym (max-says (get_or row 0 0) (get_or row 1 0)))
 
 -- ---- the greatest number of an accepted program
 

@@ -25,7 +25,8 @@ struct Pair {
 }
 
 // Fixed memory: a number stands for the Option that `value_of` reads in it, 0 for None. The rows of all nodes are 128 KiB so, cleared by
-// zeros; an Option<NonZeroU16> takes four bytes here, for there is no niche.
+// zeros; an Option<NonZeroU16> takes four bytes here, for there is no niche. How large they are stays in clauses (`LowRow`), since an
+// invariant is no plainer: it follows from the size of the row's statement, which the functions that build a row don't know.
 #[derive(Clone, Copy)]
 pub struct Row {
     pub of: [u16; 64],
@@ -247,7 +248,8 @@ fn row_at(weight: Weight, table: &[u8], sizes: &[u16], rows: &[Row], node: usize
     row_of(weight, kind, &rows[first], &rows[last])
 }
 
-// The rows of the nodes before one, children before parents.
+// The rows of the nodes before one, children before parents. No plainer with a struct for the table, as `walk::Ground`: that lends the
+// rows which this fills in.
 pub fn fill_rows(weight: Weight, table: &[u8], sizes: &[u16], nodes: usize, rows: &mut [Row])
     requires { Formed table.now sizes.now × (nodes ≤ size (program_of table.now)) × (max_nodes ≤ length rows.old) }
     ensures { RowsTo weight table.now nodes rows.new }

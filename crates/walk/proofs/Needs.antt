@@ -45,13 +45,6 @@ rises {w} {row} {of} {up} {k} {r} o h p =
     less : (m : ℕ) → LowRow m row → r ≤ m
     less m l = omega (arith, p.low, l.at k, o.small m l)
 
-pub risen : {w : Weight} {row of : List ℕ} {up k : ℕ} → Rising w row of up k → 64 ≤ k → UpRow w row of
-risen o h =
-    record {
-      holds = record { long = o.long; at = λ j l. o.done j (omega arith) };
-      low = λ m l. row_low m o.long (λ j i. o.smalls m l j (omega arith));
-    }
-
 -- ---- need_sequence
 
 pub sequence-first : {w : Weight} {row need : List ℕ} {x : ℕ} → length need ≡ 64 → Found w row need x → First w true row need (set need 0 x)
