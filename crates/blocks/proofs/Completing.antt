@@ -1,20 +1,21 @@
 -- Whether an edition is whole, part by part.
 use mathlib.Core.Path.{◌≡◌, refl, sym, ap, ◌∙◌}
-use mathlib.Core.Bool.{true, false, not, ◌&&◌, ◌||◌}
+use mathlib.Core.Bool.{true, false, ◌&&◌, ◌||◌}
 use mathlib.Core.List.{List}
+use mathlib.Core.Option.{none}
 use Prim.Native.Nat.{ℕ, ◌+◌, ◌*◌, ◌≤◌, ◌<◌}
-use native.Mathlib.Decide.{dec_lt}
 use native.Mathlib.Numerals.{add-one}
 use native.Mathlib.Omega.{arith}
-use borrow.Author.Tests.{lt-ltb, le-leb, lt-leb, eq-eqb, ne_eqb, ltb-true, not-true, not-false}
-use lib.Dec.{eqb, leb, ltb}
+use borrow.Author.Tests.{le-leb, lt-leb, eq-eqb, ne_eqb}
+use lib.Dec.{eqb, leb}
 use lib.ListN.{length}
 use Rattle.blocks.specs.Block.{content_size}
-use Rattle.blocks.specs.Editions.{counted, length_of, all_below, content_of, parts_of, completes, whole, joined, table_of}
+use Rattle.blocks.specs.Editions.{counted, length_of, named_by, all_below, content_of, parts_of, completes, whole, joined, table_of}
 use Rattle.blocks.specs.declared.Place.{Place}
-use Rattle.blocks.specs.declared.Edition.TheVariants.{Whole, None}
-use Rattle.blocks.specs.Steps.{FoundPlace, edition_of}
-use Rattle.codes.proofs.Bools.{both, left, right, cannot_pass, false-not-true}
+use Rattle.blocks.specs.declared.Edition.{Edition}
+use Rattle.blocks.specs.Steps.{CountedPlace, edition_of}
+use Rattle.std.specs.Prelude.{Some, None}
+use Rattle.codes.proofs.Bools.{both, right, cannot_pass, false-not-true}
 use Rattle.blocks.proofs.Last.{all-holds}
 use Rattle.blocks.proofs.Counted.{counted_view, place_short, content-length}
 use Rattle.blocks.proofs.Joining.{joined_length}
@@ -23,12 +24,15 @@ use Rattle.blocks.proofs.Joining.{joined_length}
 abbrev pub content : (file : List ℕ) (p e k : ℕ) → List ℕ
 content file p e k = content_of file (counted file p e k)
 
+abbrev edition : (number parts long : ℕ) → Edition
+edition e m n = record { edition = e; parts = m; length = n }
+
 module _ (file : List ℕ) (p e : ℕ) where
   pub not-whole : whole file p e ≡ false → None ≡ edition_of file p e
   unfolding edition_of
   not-whole w = rw w refl
 
-  pub is_whole : whole file p e ≡ true → Whole e (parts_of file p e) (length (table_of file p e)) ≡ edition_of file p e
+  pub is_whole : whole file p e ≡ true → Some (edition e (parts_of file p e) (length (table_of file p e))) ≡ edition_of file p e
   unfolding edition_of
   is_whole w = rw w refl
 
@@ -54,7 +58,15 @@ pub record Completing (file : List ℕ) (p e m total k : ℕ) : Type 0 where
 pub completing_start : (file : List ℕ) (p e : ℕ) {m : ℕ} → m ≡ parts_of file p e → Completing file p e m 0 0
 completing_start file p e n = record { bound = omega arith; named = n; complete = refl; is = refl; short = omega arith }
 
-module _ {file : List ℕ} {p e m total k : ℕ} {l : Place} (o : Completing file p e m total k) (h : k < m) (w : FoundPlace file p e k l) where
+-- a part without a block
+pub missing-part : {file : List ℕ} {p e m total k : ℕ} → Completing file p e m total k → k < m → counted file p e k ≡ none → None ≡ edition_of file p e
+unfolding completes
+missing-part {file} {p} {e} {m} {total} {k} o h c =
+    let z : named_by file (counted file p e k) ≡ 0 = ap (named_by file) c in
+    incomplete file p e k o.named h
+    (ap (λ b. b && (leb m (k + 1) || eqb (length_of file (counted file p e k)) content_size)) (ne_eqb _ _ (λ q. omega (arith, z, q))))
+
+module _ {file : List ℕ} {p e m total k : ℕ} {l : Place} (o : Completing file p e m total k) (h : k < m) (w : CountedPlace file p e k l) where
   -- the part names another number
   pub unnamed : (l.parts ≡ m → ⊥) → None ≡ edition_of file p e
   unfolding completes
@@ -70,41 +82,37 @@ module _ {file : List ℕ} {p e m total k : ℕ} {l : Place} (o : Completing fil
         ∙ ap (λ u. leb m (k + 1) || eqb u content_size) (sym w.place.used)
 
     -- it is not the last and does not use all of its content
-    pub unfilled : ltb (k + 1) m && not (eqb l.length content_size) ≡ true → None ≡ edition_of file p e
-    unfilled t =
-        let more : k + 1 < m = ltb-true _ _ (left (ltb (k + 1) m) (not (eqb l.length content_size)) t) in
-        let not_full : eqb l.length content_size ≡ false = not-true _ (right (ltb (k + 1) m) t) in
-        incomplete file p e k o.named h (used ∙ (rw (lt-leb m (k + 1) more, not_full) refl))
+    pub unfilled : k + 1 < m → (l.length ≡ content_size → ⊥) → None ≡ edition_of file p e
+    unfilled more d = incomplete file p e k o.named h (used ∙ (rw (lt-leb m (k + 1) more, ne_eqb _ _ d) refl))
 
-    complete-here : ltb (k + 1) m && not (eqb l.length content_size) ≡ false → completes file p e m k ≡ true
-    complete-here t = used ∙ go (dec_lt (k + 1) m)
-      where
-        go : Dec (k + 1 < m) → leb m (k + 1) || eqb l.length content_size ≡ true
-        go (yes b) =
-            let full : eqb l.length content_size ≡ true = not-false _ (rw (lt-ltb (k + 1) m b) at t) in
-            rw (lt-leb m (k + 1) b) full
-        go (no b) = rw (le-leb m (k + 1) (omega arith)) refl
+    -- it is the last
+    pub last-part : m ≤ k + 1 → completes file p e m k ≡ true
+    last-part last = used ∙ (rw (le-leb m (k + 1) last) refl)
 
-    pub completing_next : ltb (k + 1) m && not (eqb l.length content_size) ≡ false → Completing file p e m (total + l.length) (k + 1)
+    -- it uses all of its content
+    pub full-part : k + 1 < m → l.length ≡ content_size → completes file p e m k ≡ true
+    full-part more full = used ∙ (rw (lt-leb m (k + 1) more, eq-eqb _ _ full) refl)
+
+    pub completing_next : completes file p e m k ≡ true → Completing file p e m (total + l.length) (k + 1)
     completing_next t =
         record {
           bound = omega arith;
           named = o.named;
-          complete = ap (all_below (completes file p e m)) (add-one k) ∙ both o.complete (complete-here t);
+          complete = ap (all_below (completes file p e m)) (add-one k) ∙ both o.complete t;
           is = omega (arith, o.is, joined_length (content file p e) k, content-length (counted_view file p e k), w.place.used);
           short = omega (arith, o.short, place_short w);
         }
 
 module _ {file : List ℕ} {p e m total k : ℕ} (o : Completing file p e m total k) where
-  pub completing_end : 1 ≤ m → m ≤ k → Whole e m total ≡ edition_of file p e
+  pub completing_end : 1 ≤ m → m ≤ k → Some (edition e m total) ≡ edition_of file p e
   unfolding whole table_of
   completing_end l h =
       let all : k ≡ parts_of file p e = omega (arith, o.bound, o.named) in
       let complete : all_below (completes file p e (parts_of file p e)) (parts_of file p e) ≡ true =
       ap (λ n. all_below (completes file p e n) (parts_of file p e)) (sym o.named) ∙ ap (all_below (completes file p e m)) (sym all) ∙ o.complete in
       let some : leb 1 (parts_of file p e) ≡ true = le-leb 1 (parts_of file p e) (omega (arith, o.named)) in
-      ap (λ n. Whole e n total) o.named
-      ∙ ap (Whole e (parts_of file p e)) (o.is ∙ ap (λ n. length (joined (content file p e) n)) all)
+      ap (λ n. Some (edition e n total)) o.named
+      ∙ ap (λ n. Some (edition e (parts_of file p e) n)) (o.is ∙ ap (λ n. length (joined (content file p e) n)) all)
       ∙ is_whole file p e (both some complete)
 
 -- the parts of an edition, joined, are its table

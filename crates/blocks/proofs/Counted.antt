@@ -13,7 +13,7 @@ use Rattle.codes.proofs.Bools.{both, left, right}
 use Rattle.blocks.specs.Block.{content_size, program_in, edition_in, part_in, good}
 use Rattle.blocks.specs.Editions.{file_fits, blocks_in, block_at, is_for, counted, start_of, length_of, content_of}
 use Rattle.blocks.specs.Fetching.{handed, Locating}
-use Rattle.blocks.specs.Steps.{FoundPlace}
+use Rattle.blocks.specs.Steps.{CountedPlace}
 use Rattle.blocks.specs.Theorems.{GoodBlock}
 use Rattle.blocks.specs.declared.Place.{Place}
 use Rattle.blocks.specs.declared.Span.{Span}
@@ -78,7 +78,7 @@ slice_content file o {from} {long} a b =
     let n : from + long - from ≡ length_of file o = omega (arith, b) in
     ap (λ m. take m (drop from file)) n ∙ ap (λ m. take (length_of file o) (drop m file)) a
 
-module _ {file : List ℕ} {p e k : ℕ} {l : Place} (w : FoundPlace file p e k l) where
+module _ {file : List ℕ} {p e k : ℕ} {l : Place} (w : CountedPlace file p e k l) where
   pub place_short : l.length ≤ content_size
   place_short = rw w.place.used (used-short (counted_view file p e k))
 

@@ -1,5 +1,5 @@
 -- What `fetch` answers, one law for each return.
-use mathlib.Core.Path.{◌≡◌, refl, sym, ap, ◌∙◌}
+use mathlib.Core.Path.{◌≡◌, refl, sym, ap, subst, ◌∙◌}
 use mathlib.Core.Bool.{Bool, true, false}
 use mathlib.Core.Option.{Option, none, some}
 use mathlib.Core.List.{List, ◌++◌}
@@ -8,20 +8,22 @@ use native.Mathlib.Omega.{arith}
 use borrow.Author.Tests.{lt-ltb, le-ltb}
 use lib.ListN.{length, drop}
 use Rattle.blocks.specs.Editions.{file_fits, parts_of, newest, table_of}
-use Rattle.blocks.specs.Fetching.{max_table, fetched, refused, check_table, check_edition, outcome, content, answer_of, Fetching}
+use Rattle.blocks.specs.Fetching.{max_table, fetched, refused, check_table, check_edition, outcome, content, fetched_as, refused_at, answer_of, Fetching}
 use Rattle.blocks.specs.declared.Edition.{Edition}
-use Rattle.blocks.specs.declared.Edition.TheVariants.{Whole, None}
-use Rattle.blocks.specs.declared.Fetched.TheVariants.{Done, Refused}
+use Rattle.std.specs.Prelude.{Some, None, Ok, Err}
+use Rattle.std.specs.Prelude.{Option as Optional}
+use Rattle.esterel.specs.Refusal.{number_of, yields}
+use Rattle.esterel.specs.declared.Check.{Check}
 use Rattle.blocks.specs.Steps.{chosen}
 
 module _ {file : List ℕ} {p : ℕ} {old new : List ℕ} where
-  pub refusing : (number : ℕ) → outcome (length old) file p ≡ refused number → new ≡ old → Fetching file p old new (Refused number 0)
+  pub refusing : (check : Check) → outcome (length old) file p ≡ refused (number_of check) → new ≡ old → Fetching file p old new (Err (refused_at check 0))
   unfolding answer_of content
-  refusing number o e = record { answer = rw o refl; table = rw o e }
+  refusing check o e = record { answer = rw o refl; table = rw o e }
 
-  pub finding : {e m n : ℕ} (t : List ℕ) → outcome (length old) file p ≡ fetched e m t → n ≡ length t → new ≡ t ++ drop (length t) old → Fetching file p old new (Done n e m)
+  pub finding : {e m n : ℕ} (t : List ℕ) → outcome (length old) file p ≡ fetched e m t → n ≡ length t → new ≡ t ++ drop (length t) old → Fetching file p old new (Ok (fetched_as n e m))
   unfolding answer_of content
-  finding {e} {m} t o q w = record { answer = rw o (ap (λ k. Done k e m) q); table = rw o w }
+  finding {e} {m} t o q w = record { answer = rw o (ap (λ k. yields (fetched_as k e m)) q); table = rw o w }
 
 module _ (file : List ℕ) (p room : ℕ) where
   pub short-room : room < max_table → outcome room file p ≡ refused 3
@@ -48,20 +50,16 @@ module _ (file : List ℕ) (p : ℕ) where
   none-chosen none h = refl
   none-chosen (some e) h = absurd (let z : ◌≡◌ {A = ℕ} 0 1 = cc in omega arith)
 
-  one-chosen : (o : Option ℕ) {e m n : ℕ} → chosen file p o ≡ Whole e m n → Chosen file p o e m n
+  one-chosen : (o : Option ℕ) {r : Edition} → chosen file p o ≡ Some r → Chosen file p o r.edition r.parts r.length
   one-chosen none h = absurd (let z : ◌≡◌ {A = ℕ} 0 1 = cc in omega arith)
-  one-chosen (some d) {e} h =
-      let same : d ≡ e = cc in
-      record {
-        is = ap some same;
-        parts = sym (ap (parts_of file p) (sym same) ∙ cc);
-        long = sym (ap (λ k. length (table_of file p k)) (sym same) ∙ cc);
-      }
+  one-chosen (some d) {r} h =
+      let same : record { edition = d; parts = parts_of file p d; length = length (table_of file p d) } ≡ r = cc in
+      subst (λ (s : Edition). Chosen file p (some d) s.edition s.parts s.length) same (record { is = refl; parts = refl; long = refl })
 
-  pub no_edition_lem : {r : Edition} → r ≡ chosen file p (newest file p) → r ≡ None → check_edition file p (newest file p) ≡ refused 18
+  pub no_edition_lem : {r : Optional Edition} → r ≡ chosen file p (newest file p) → r ≡ None → check_edition file p (newest file p) ≡ refused 18
   no_edition_lem q t = none-chosen (newest file p) (sym q ∙ t)
 
-  pub an_edition : {r : Edition} {e m n : ℕ} → r ≡ chosen file p (newest file p) → r ≡ Whole e m n → Chosen file p (newest file p) e m n
+  pub an_edition : {r : Optional Edition} {d : Edition} → r ≡ chosen file p (newest file p) → r ≡ Some d → Chosen file p (newest file p) d.edition d.parts d.length
   an_edition q t = one-chosen (newest file p) (sym q ∙ t)
 
 module _ {file : List ℕ} {p : ℕ} {o : Option ℕ} {e m n : ℕ} (c : Chosen file p o e m n) where

@@ -3,14 +3,13 @@ use mathlib.Core.Path.{◌≡◌, refl, sym, ap, ◌∙◌}
 use mathlib.Core.Bool.{Bool, true, false, ◌&&◌}
 use mathlib.Core.Option.{none, some}
 use mathlib.Core.List.{List}
-use Prim.Native.Nat.{ℕ, ◌+◌, ◌-◌, ◌≤◌}
-use native.Mathlib.Nat.{sub-zero}
+use Prim.Native.Nat.{ℕ, ◌+◌, ◌≤◌}
 use native.Mathlib.Numerals.{add-one}
 use native.Mathlib.Omega.{arith}
 use lib.ListN.{get_or}
 use Rattle.blocks.specs.Editions.{blocks_in, block_at, last_below, is_good_for, counted}
 use Rattle.blocks.specs.declared.Place.{Place}
-use Rattle.blocks.specs.Steps.{Checked, is_part, Placed, FoundPlace}
+use Rattle.blocks.specs.Steps.{Checked, is_part, Placed, CountedPlace}
 use Rattle.blocks.proofs.Good.{good_for_is}
 
 module _ (f : ℕ → Bool) (j : ℕ) where
@@ -29,9 +28,9 @@ pub record Searching (file : List ℕ) (p e k i : ℕ) : Type 0 where
   pub bound : i ≤ blocks_in file
   pub is : counted file p e k ≡ last_below (counts file p e k) i
 
-pub search_start : (file : List ℕ) (p e k : ℕ) → Searching file p e k (blocks_in file - 0)
+pub search_start : (file : List ℕ) (p e k : ℕ) → Searching file p e k (blocks_in file)
 unfolding counted
-search_start file p e k = record { bound = omega arith; is = ap (last_below (counts file p e k)) (sym (sub-zero (blocks_in file))) }
+search_start file p e k = record { bound = omega arith; is = refl }
 
 module _ {file : List ℕ} {p e k i : ℕ} (o : Searching file p e k i) (j : ℕ) (s : i ≡ j + 1) where
   here : counted file p e k ≡ last_below (counts file p e k) (j + 1)
@@ -57,8 +56,5 @@ module _ {file : List ℕ} {marks : List Bool} {p e k i : ℕ} (c : Checked file
   pub search_other : {r : Bool} → get_or marks j false ≡ true → r ≡ is_part e k (block_at file j) → r ≡ false → Searching file p e k j
   search_other g q t = search_next o j s (mark g ∙ sym q ∙ t)
 
-  pub search_found : {r : Bool} {l : Place} → get_or marks j false ≡ true → r ≡ is_part e k (block_at file j) → r ≡ true → Placed file (some j) l → FoundPlace file p e k l
-  search_found g q t w = record { place = rw (search_hit o j s (mark g ∙ sym q ∙ t)) w }
-
-pub search_ended : {file : List ℕ} {p e k i : ℕ} {l : Place} → Searching file p e k i → i ≤ 0 → l.from ≡ 0 → l.length ≡ 0 → l.parts ≡ 0 → FoundPlace file p e k l
-search_ended o h a b d = record { place = rw (search_none o h) (record { from = a; used = b; parts = d }) }
+  pub search_found : {r : Bool} {l : Place} → get_or marks j false ≡ true → r ≡ is_part e k (block_at file j) → r ≡ true → Placed file (some j) l → CountedPlace file p e k l
+  search_found g q t w = let c = search_hit o j s (mark g ∙ sym q ∙ t) in record { block = j; counts = c; place = rw c w }

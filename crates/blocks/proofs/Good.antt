@@ -8,13 +8,24 @@ use borrow.Author.Tests.{eqb-true, eq-eqb, ne_eqb, leb-true, le-leb, lt-leb}
 use lib.Dec.{eqb, leb}
 use lib.ListN.{get_or, take, drop}
 use Rattle.codes.proofs.Bools.{both, left, right}
-use Rattle.esterel.proofs.Scanning.{Tests}
+use Rattle.std.specs.Prelude.{IsTrue, EachIndex, ◌↔◌}
+use Rattle.esterel.proofs.Scanning.{Tests, each, fails-at}
 use Rattle.blocks.specs.Block.{content_at, content_size, checks_at, program_in, edition_in, part_in, used_in, first_check, second_check, checks_match, length_fits, all_zero, zero_filled, good}
 use Rattle.blocks.specs.Editions.{is_for, is_good_for}
 use Rattle.blocks.specs.Steps.{usable, is_part}
 
 pub all-zero : Tests all_zero (λ x. eqb x 0)
 all-zero = record { none = refl; first = λ x xs. refl }
+
+-- a test that passes exactly where each byte is zero
+pub each_zero : (xs : List ℕ) {r : Bool} → (IsTrue r ↔ EachIndex xs (λ k. get_or xs k 0 ≡ 0)) → r ≡ all_zero xs
+each_zero xs {r} h = go r (all_zero xs) refl h
+  where
+    go : (r b : Bool) → all_zero xs ≡ b → (IsTrue r ↔ EachIndex xs (λ k. get_or xs k 0 ≡ 0)) → r ≡ b
+    go true true e h = refl
+    go false false e h = refl
+    go false true e h = h.1 (λ k l. eqb-true _ _ (each all-zero refl xs e k))
+    go true false e h = let (k, l, t) = fails-at all-zero xs e in sym (sym t ∙ eq-eqb _ _ (h.0 refl k l))
 
 -- what the tests of a good block say
 pub record Good (b : List ℕ) : Type 0 where

@@ -38,6 +38,12 @@ pub record Joining (f : ℕ → List ℕ) (m : ℕ) (old now : List ℕ) (at k :
   pub is : now ≡ joined f k ++ drop at old
   pub end : at ≡ length (joined f k)
 
+-- a part without content
+pub joining_skip : {f : ℕ → List ℕ} {m : ℕ} {old now : List ℕ} {at k : ℕ} → Joining f m old now at k → k < m → f k ≡ [] → Joining f m old now at (k + 1)
+joining_skip {f} {m} {old} {now} {at} {k} o h e =
+    let same : joined f (k + 1) ≡ joined f k = joined-next f k ∙ ap (λ l. joined f k ++ l) e ∙ append-nil (joined f k) in
+    record { bound = omega arith; is = o.is ∙ ap (λ l. l ++ drop at old) (sym same); end = o.end ∙ ap length (sym same) }
+
 module _ {f : ℕ → List ℕ} {m : ℕ} {old now : List ℕ} {at k : ℕ} (room : length (joined f m) ≤ length old) (o : Joining f m old now at k) where
   at-within : at ≤ length old
   at-within = go (dec_lt k m)

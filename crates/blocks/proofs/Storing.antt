@@ -14,9 +14,12 @@ use Rattle.blocks.specs.Editions.{max_blocks, file_fits, block_at, counted, cont
 use Rattle.blocks.specs.Storing.{unsealed, sealed, part_count, piece, stored_part, stored, Holds}
 use Rattle.esterel.proofs.Every.{Every, none, also, every_left, every_right, every_join, every_at}
 use Rattle.codes.proofs.Bools.{cannot_pass, false-not-true}
-use Rattle.blocks.specs.Fetching.{max_table, fetched, outcome, content, answer_of, Fetching}
+use Rattle.blocks.specs.Fetching.{max_table, fetched, outcome, content, fetched_as, answer_of, Fetching}
 use Rattle.blocks.specs.Theorems.{GoodBlock, Complete, FetchedBack, RoundTrip}
 use Rattle.blocks.specs.declared.Fetched.{Fetched}
+use Rattle.std.specs.Prelude.{Result, Ok}
+use Rattle.esterel.specs.declared.Refusal.{Refusal}
+use Rattle.esterel.proofs.Replies.{reply-once}
 use Rattle.blocks.proofs.Good.{is-good}
 use Rattle.blocks.proofs.Last.{last_some}
 use Rattle.blocks.proofs.Blocks.{content_in, whole_blocks}
@@ -190,7 +193,7 @@ module _ (file : List ℕ) (p e : ℕ) (t : List ℕ) (some_bytes : 1 ≤ length
   held-table =
       sym (table_is file p e (sym held-parts)) ∙ joined_same _ (piece t) m held-piece ∙ pieces_are t
 
-  pub held-fetched : (old new : List ℕ) (r : Fetched) → file_fits file ≡ true → e < 65536 → length t ≤ max_table → ((d : ℕ) → e < d → whole file p d ≡ false) → max_table ≤ length old → Fetching file p old new r → FetchedBack e t old new r
+  pub held-fetched : (old new : List ℕ) (r : Result Fetched Refusal) → file_fits file ≡ true → e < 65536 → length t ≤ max_table → ((d : ℕ) → e < d → whole file p d ≡ false) → max_table ≤ length old → Fetching file p old new r → FetchedBack e t old new r
   unfolding newest answer_of content
   held-fetched old new r f b short higher room w =
       let chosen_is : newest file p ≡ some e =
@@ -199,7 +202,7 @@ module _ (file : List ℕ) (p e : ℕ) (t : List ℕ) (some_bytes : 1 ≤ length
       good_file file p (length old) room refl f
       ∙ fitting (record { is = chosen_is; parts = sym held-parts; long = ap length (sym held-table) }) short
       ∙ ap (fetched e m) held-table in
-      (w.answer ∙ ap answer_of found-is, w.table ∙ ap (λ x. content x old) found-is)
+      (reply-once r (Ok (fetched_as (length t) e m)) (w.answer ∙ ap answer_of found-is), w.table ∙ ap (λ x. content x old) found-is)
     where
       below : (d : ℕ) → whole file p d ≡ true → Dec (e < d) → d ≤ e
       below d v (yes l) = absurd (false-not-true (higher d l) v)

@@ -14,11 +14,14 @@ use lib.ListN.{length, take, drop}
 use Rattle.codes.proofs.Bools.{both, left, right, either, inl_true, inr_true, cannot_pass, false-not-true}
 use Rattle.blocks.specs.Block.{content_at, content_size, Bytes, used_in, reduced, sum, first_check, running_from, second_check}
 use Rattle.blocks.specs.Editions.{file_fits, blocks_in, block_at, counted, length_of, content_of, named_by, parts_of, completes, whole, newest, joined, table_of, all_below}
-use Rattle.blocks.specs.Fetching.{handed, Locating, max_table, Outcome, fetched, refused, check_edition, outcome, content, answer_of, Fetching}
+use Rattle.blocks.specs.Fetching.{handed, Locating, max_table, Outcome, fetched, refused, check_edition, outcome, content, fetched_as, answer_of, Fetching}
 use Rattle.blocks.proofs.Fetches.{refusing, finding, short-room, bad_file_lem, good_file, too_long, fitting}
 use Rattle.blocks.specs.declared.Span.{Span}
 use Rattle.blocks.specs.declared.Fetched.{Fetched}
-use Rattle.blocks.specs.declared.Fetched.TheVariants.{Done, Refused}
+use Rattle.std.specs.Prelude.{Result}
+use Rattle.esterel.specs.Refusal.{number_of, Reply, yields, rejects, reply}
+use Rattle.esterel.specs.declared.Refusal.{Refusal}
+use Rattle.esterel.proofs.Replies.{reply-once}
 use Rattle.blocks.specs.Theorems.{add_byte, CheckBytes, GoodBlock, Complete, Superseding, Wrote, Reason, short_buffer, bad_file, no_edition, long_table, OfFetch, OfPart}
 use Rattle.blocks.proofs.Last.{last_some, last_none, all-holds, holds-all}
 use Rattle.blocks.proofs.Finding.{counts}
@@ -172,12 +175,13 @@ outcome_view room file p = by-room (ltb room max_table) refl
     by-room false t = by_file (ltb-false _ _ t) (file_fits file) refl
 
 module _ {file : List ℕ} {p : ℕ} {old new : List ℕ} where
-  done_of : {o : Outcome} (n e m : ℕ) → View (length old) file p o → Done n e m ≡ answer_of o → new ≡ content o old → Wrote file p old new n e m
+  done_of : {o : Outcome} (n e m : ℕ) → View (length old) file p o → yields (fetched_as n e m) ≡ answer_of o → new ≡ content o old → Wrote file p old new n e m
   unfolding answer_of content
   done_of n e m (finds d r f w s) a t =
-      let same : d ≡ e = cc in
-      let long : n ≡ length (table_of file p d) = cc in
-      let parts : m ≡ parts_of file p d = cc in
+      let told : fetched_as n e m ≡ fetched_as (length (table_of file p d)) d (parts_of file p d) = cc in
+      let same : d ≡ e = ap (λ (x : Fetched). x.edition) (sym told) in
+      let long : n ≡ length (table_of file p d) = ap (λ (x : Fetched). x.length) told in
+      let parts : m ≡ parts_of file p d = ap (λ (x : Fetched). x.parts) told in
       rw (← same) (
       record {
         room = r;
@@ -191,7 +195,7 @@ module _ {file : List ℕ} {p : ℕ} {old new : List ℕ} where
       )
   done_of n e m (refuses number x) a t = absurd (let z : ◌≡◌ {A = ℕ} 0 1 = cc in omega arith)
 
-  refused_of : {o : Outcome} (number node : ℕ) → View (length old) file p o → Refused number node ≡ answer_of o → new ≡ content o old → (new ≡ old) × (node ≡ 0) × Reason (length old) file p number
+  refused_of : {o : Outcome} (number node : ℕ) → View (length old) file p o → ◌≡◌ {A = Reply Fetched} (rejects number node) (answer_of o) → new ≡ content o old → (new ≡ old) × (node ≡ 0) × Reason (length old) file p number
   unfolding answer_of content
   refused_of number node (finds d r f w s) a t = absurd (let z : ◌≡◌ {A = ℕ} 0 1 = cc in omega arith)
   refused_of number node (refuses n x) a t =
@@ -199,7 +203,7 @@ module _ {file : List ℕ} {p : ℕ} {old new : List ℕ} where
       let none_named : node ≡ 0 = cc in
       (t, none_named, rw same x)
 
-refused-answer : {file : List ℕ} {p : ℕ} {old new : List ℕ} {r : Fetched} {number : ℕ} → Fetching file p old new r → outcome (length old) file p ≡ refused number → r ≡ Refused number 0
+refused-answer : {file : List ℕ} {p : ℕ} {old new : List ℕ} {r : Result Fetched Refusal} {number : ℕ} → Fetching file p old new r → outcome (length old) file p ≡ refused number → reply r ≡ rejects number 0
 unfolding answer_of
 refused-answer f q = f.answer ∙ ap answer_of q
 
@@ -234,11 +238,11 @@ pub of_fetch : OfFetch
 of_fetch =
     record {
       empty = λ p old new r h f. refused-answer f (refused-by (no_edition h (whole_blocks [] 0 (omega arith) refl) (empty-none p)));
-      determined = λ file p old new new' r r' f g. (f.table ∙ sym g.table, f.answer ∙ sym g.answer);
+      determined = λ file p old new new' r r' f g. (f.table ∙ sym g.table, reply-once r r' (f.answer ∙ sym g.answer));
       done = λ file p old new n e m.
           (λ f. done_of n e m (outcome_view (length old) file p) f.answer f.table, λ w. finding (table_of file p e) (fetched-by w) w.long (written_back w));
-      refused = λ file p old new number node.
-          (λ f. refused_of number node (outcome_view (length old) file p) f.answer f.table, λ (same, none_named, reason). rw none_named (refusing number (refused-by reason) same));
+      refused = λ file p old new check node.
+          (λ f. refused_of (number_of check) node (outcome_view (length old) file p) f.answer f.table, λ (same, none_named, reason). rw none_named (refusing check (refused-by reason) same));
     }
 
 module _ (file : List ℕ) (p e k : ℕ) where

@@ -1,11 +1,13 @@
 -- What `part` and `fetch` answer, and what `fetch` leaves in the lent table (F-4).
-use Rattle.std.specs.Prelude.{ℕ, ◌+◌, ◌*◌, ◌≤◌, ◌≡◌, cond, List, ◌++◌, length, drop, ltb}
+use Rattle.std.specs.Prelude.{Result, ℕ, ◌+◌, ◌*◌, ◌≤◌, ◌≡◌, cond, List, ◌++◌, length, drop, ltb}
 use Rattle.std.proofs.Math.Option.{Option, none, some}
 use Rattle.std.specs.Borrow.{Bor}
 use Rattle.esterel.specs.Limits.{max_nodes}
+use Rattle.esterel.specs.Refusal.{Reply, yields, rejects, reply}
+use Rattle.esterel.specs.declared.Check.{Check}
+use Rattle.esterel.specs.declared.Refusal.{Refusal}
 use Rattle.blocks.specs.declared.Span.{Span}
 use Rattle.blocks.specs.declared.Fetched.{Fetched}
-use Rattle.blocks.specs.declared.Fetched.TheVariants.{Done, Refused}
 use Rattle.blocks.specs.Editions.{file_fits, counted, start_of, length_of, content_of, parts_of, newest, table_of}
 
 -- the block whose used content is handed out: none if no block counts for the part, or the file is refused 17
@@ -52,12 +54,19 @@ unfoldable pub content : Outcome → List ℕ → List ℕ
 content (fetched e m t) old = t ++ drop (length t) old
 content (refused number) old = old
 
+-- the table that was fetched
+abbrev pub fetched_as : (long edition parts : ℕ) → Fetched
+fetched_as n e m = record { length = n; edition = e; parts = m }
+
+abbrev pub refused_at : Check → (node : ℕ) → Refusal
+refused_at check node = record { check = check; node = node }
+
 -- the answer; no refusal names a node
-unfoldable pub answer_of : Outcome → Fetched
-answer_of (fetched e m t) = Done (length t) e m
-answer_of (refused number) = Refused number 0
+unfoldable pub answer_of : Outcome → Reply Fetched
+answer_of (fetched e m t) = yields (fetched_as (length t) e m)
+answer_of (refused number) = rejects number 0
 
 -- the contract of `fetch`: the answer, and the whole content of the lent table
-pub record Fetching (file : List ℕ) (program : ℕ) (old new : List ℕ) (r : Fetched) : Type 0 where
-  pub answer : r ≡ answer_of (outcome (length old) file program)
+pub record Fetching (file : List ℕ) (program : ℕ) (old new : List ℕ) (r : Result Fetched Refusal) : Type 0 where
+  pub answer : reply r ≡ answer_of (outcome (length old) file program)
   pub table : new ≡ content (outcome (length old) file program) old

@@ -1,12 +1,12 @@
 -- What the functions within the crate answer.
-use Rattle.std.specs.Prelude.{ℕ, ◌<◌, ◌≡◌, Bool, true, false, ◌&&◌, cond, List, length, get_or, eqb, ltb}
+use Rattle.std.specs.Prelude.{Some, None, ℕ, ◌<◌, ◌≡◌, Bool, true, false, ◌&&◌, cond, List, length, get_or, eqb, ltb}
+use Rattle.std.specs.Prelude.{Option as Optional}
 use Rattle.std.proofs.Math.Option.{Option, none, some}
 use Rattle.blocks.specs.Block.{program_in, edition_in, part_in, good, first_check, second_check}
 use Rattle.blocks.specs.Editions.{file_fits, blocks_in, block_at, counted, start_of, length_of, named_by, whole, parts_of, table_of}
 use Rattle.blocks.specs.declared.Sums.{Sums}
 use Rattle.blocks.specs.declared.Place.{Place}
 use Rattle.blocks.specs.declared.Edition.{Edition}
-use Rattle.blocks.specs.declared.Edition.TheVariants.{Whole, None}
 
 pub record Summed (bytes : List ℕ) (r : Sums) : Type 0 where
   pub first : r.first ≡ first_check bytes
@@ -31,25 +31,32 @@ pub record Placed (file : List ℕ) (o : Option ℕ) (r : Place) : Type 0 where
   pub used : r.length ≡ length_of file o
   pub parts : r.parts ≡ named_by file o
 
--- of the block that counts for a program, an edition and a part (a record, so that these are inferred)
-pub record FoundPlace (file : List ℕ) (program edition part : ℕ) (r : Place) : Type 0 where
+-- of the block that counts for a program, an edition and a part
+pub record CountedPlace (file : List ℕ) (program edition part : ℕ) (r : Place) : Type 0 where
+  pub block : ℕ
+  pub counts : counted file program edition part ≡ some block
   pub place : Placed file (counted file program edition part) r
 
+-- if one does
+abbrev pub FoundPlace : (file : List ℕ) (program edition part : ℕ) → Optional Place → Type 0
+FoundPlace file p e k (Some r) = CountedPlace file p e k r
+FoundPlace file p e k None = counted file p e k ≡ none
+
 -- an edition that is chosen, with its number of parts and the length of its table
-abbrev pub chosen : (file : List ℕ) (program : ℕ) → Option ℕ → Edition
+abbrev pub chosen : (file : List ℕ) (program : ℕ) → Option ℕ → Optional Edition
 chosen file p none = None
-chosen file p (some e) = Whole e (parts_of file p e) (length (table_of file p e))
+chosen file p (some e) = Some (record { edition = e; parts = parts_of file p e; length = length (table_of file p e) })
 
 -- if it is whole
-unfoldable pub edition_of : (file : List ℕ) (program edition : ℕ) → Edition
+unfoldable pub edition_of : (file : List ℕ) (program edition : ℕ) → Optional Edition
 edition_of file p e = cond (whole file p e) (chosen file p (some e)) None
 
 -- an edition is higher than the best so far
-abbrev pub higher_than : ℕ → Edition → Bool
-higher_than e (Whole d m n) = ltb d e
+abbrev pub higher_than : ℕ → Optional Edition → Bool
+higher_than e (Some d) = ltb d.edition e
 higher_than e None = true
 
 -- the best of the editions whose part 0 is in one of the first n blocks: whole, and no higher one of them is
-pub data Best (file : List ℕ) (p n : ℕ) : Edition → Type 0 where
+pub data Best (file : List ℕ) (p n : ℕ) : Optional Edition → Type 0 where
   none_yet : ((d i : ℕ) → i < n → counted file p d 0 ≡ some i → whole file p d ≡ false) → Best file p n None
   best : (e : ℕ) → whole file p e ≡ true → ((d i : ℕ) → i < n → counted file p d 0 ≡ some i → e < d → whole file p d ≡ false) → Best file p n (chosen file p (some e))

@@ -1,15 +1,17 @@
 -- What F-4 says, sentence by sentence, of the definitions and of the calls: the statements alone. The proofs are in proofs/Theorems.antt, but
 -- for `Files` (Blocks.antt), `Damage` (Damage.antt) and `RoundTrip` (Storing.antt).
-use Rattle.std.specs.Prelude.{◌≡◌, ◌↔◌, ◌⊎◌, true, false, ℕ, ◌+◌, ◌*◌, ◌≤◌, ◌<◌, length, get_or, set, take, drop}
+use Rattle.std.specs.Prelude.{Result, Ok, Err, ◌≡◌, ◌↔◌, ◌⊎◌, true, false, ℕ, ◌+◌, ◌*◌, ◌≤◌, ◌<◌, length, get_or, set, take, drop}
 use Rattle.std.proofs.Math.Option.{none, some}
 use mathlib.Core.List.{List, [], ◌++◌, foldl}
 use Rattle.blocks.specs.Block.{block_size, content_at, content_size, checks_at, Bytes, program_in, edition_in, part_in, parts_in, used_in, reduced, first_check, second_check, good}
 use Rattle.blocks.specs.Editions.{file_fits, block_at, counted, content_of, parts_of, whole, newest, joined, table_of}
-use Rattle.blocks.specs.Fetching.{handed, Locating, Fetching}
+use Rattle.blocks.specs.Fetching.{handed, Locating, fetched_as, refused_at, Fetching}
 use Rattle.blocks.specs.Storing.{part_count, stored, Holds}
 use Rattle.blocks.specs.declared.Span.{Span}
+use Rattle.esterel.specs.Refusal.{number_of, rejects, reply}
+use Rattle.esterel.specs.declared.Check.{Check}
+use Rattle.esterel.specs.declared.Refusal.{Refusal}
 use Rattle.blocks.specs.declared.Fetched.{Fetched}
-use Rattle.blocks.specs.declared.Fetched.TheVariants.{Done, Refused}
 
 -- ---- the file
 
@@ -99,13 +101,13 @@ pub data Reason (room : ℕ) (file : List ℕ) (program : ℕ) : ℕ → Type 0 
 
 pub record OfFetch : Type 0 where
   -- the contract leaves nothing open
-  pub determined : (file : List ℕ) (p : ℕ) (old new new' : List ℕ) (r r' : Fetched) → Fetching file p old new r → Fetching file p old new' r' → (new ≡ new') × (r ≡ r')
+  pub determined : (file : List ℕ) (p : ℕ) (old new new' : List ℕ) (r r' : Result Fetched Refusal) → Fetching file p old new r → Fetching file p old new' r' → (new ≡ new') × (r ≡ r')
   -- it is done exactly with the table of the edition that supersedes, if that fits
-  pub done : (file : List ℕ) (p : ℕ) (old new : List ℕ) (n e m : ℕ) → Fetching file p old new (Done n e m) ↔ Wrote file p old new n e m
+  pub done : (file : List ℕ) (p : ℕ) (old new : List ℕ) (n e m : ℕ) → Fetching file p old new (Ok (fetched_as n e m)) ↔ Wrote file p old new n e m
   -- an empty file has no whole edition
-  pub empty : (p : ℕ) (old new : List ℕ) (r : Fetched) → 2048 ≤ length old → Fetching [] p old new r → r ≡ Refused 18 0
+  pub empty : (p : ℕ) (old new : List ℕ) (r : Result Fetched Refusal) → 2048 ≤ length old → Fetching [] p old new r → reply r ≡ rejects 18 0
   -- it is refused exactly with the number of the first check that fails, and the lent table is as it was
-  pub refused : (file : List ℕ) (p : ℕ) (old new : List ℕ) (number node : ℕ) → Fetching file p old new (Refused number node) ↔ ((new ≡ old) × (node ≡ 0) × Reason (length old) file p number)
+  pub refused : (file : List ℕ) (p : ℕ) (old new : List ℕ) (check : Check) (node : ℕ) → Fetching file p old new (Err (refused_at check node)) ↔ ((new ≡ old) × (node ≡ 0) × Reason (length old) file p (number_of check))
 
 pub record OfPart : Type 0 where
   -- empty exactly if no block counts for the part or the file is refused 17; whole editions are not asked for
@@ -119,8 +121,8 @@ pub record OfPart : Type 0 where
 
 -- ---- what is stored is fetched back
 
-abbrev pub FetchedBack : (e : ℕ) (t old new : List ℕ) → Fetched → Type 0
-FetchedBack e t old new r = (r ≡ Done (length t) e (part_count t)) × (new ≡ t ++ drop (length t) old)
+abbrev pub FetchedBack : (e : ℕ) (t old new : List ℕ) → Result Fetched Refusal → Type 0
+FetchedBack e t old new r = (r ≡ Ok (fetched_as (length t) e (part_count t))) × (new ≡ t ++ drop (length t) old)
 
 pub record RoundTrip : Type 0 where
   -- an edition as which a file holds a table is whole, and its table is that one
@@ -129,7 +131,7 @@ pub record RoundTrip : Type 0 where
       (whole file p e ≡ true) × (parts_of file p e ≡ part_count t) × (table_of file p e ≡ t)
   -- it is fetched if no higher edition is whole
   pub fetched :
-      (file : List ℕ) (p e : ℕ) (t old new : List ℕ) (r : Fetched) →
+      (file : List ℕ) (p e : ℕ) (t old new : List ℕ) (r : Result Fetched Refusal) →
       file_fits file ≡ true → e < 65536 → 1 ≤ length t → length t ≤ 2048 → Holds file p e t → ((d : ℕ) → e < d → whole file p d ≡ false) →
       2048 ≤ length old → Fetching file p old new r → FetchedBack e t old new r
   -- a file with its blocks alone, which are bytes, holds it
@@ -139,5 +141,5 @@ pub record RoundTrip : Type 0 where
       (file_fits (stored p e t) ≡ true) × Holds (stored p e t) p e t × ((d : ℕ) → e < d → whole (stored p e t) p d ≡ false)
   -- and it is fetched from that
   pub stored_fetched :
-      (p e : ℕ) (t old new : List ℕ) (r : Fetched) →
+      (p e : ℕ) (t old new : List ℕ) (r : Result Fetched Refusal) →
       e < 65536 → 1 ≤ length t → length t ≤ 2048 → 2048 ≤ length old → Fetching (stored p e t) p old new r → FetchedBack e t old new r

@@ -1,12 +1,14 @@
 // Blocks of the service partition (F-4): the used content of a part, and the table of the highest whole edition.
 #![tactic(auto)]
 
-ghost use Rattle.std.specs.Prelude.{◌≡◌, true, ◌++◌, ◌+◌, ◌*◌, ◌<◌, ◌≤◌, length, drop};
+ghost use Rattle.std.specs.Prelude.{◌≡◌, ◌↔◌, IsTrue, true, EachIndex, slice_index, ◌++◌, ◌+◌, ◌*◌, ◌<◌, ◌≤◌, length, drop};
 ghost use Rattle.std.proofs.Math.Option.{some};
-ghost use Rattle.blocks.specs.Block.{block_size, word as word_of, reduced as reduced_of, all_zero, good as good_of};
+ghost use Rattle.blocks.specs.Block.{block_size, word as word_of, good as good_of};
 ghost use Rattle.blocks.specs.Editions.{file_fits, blocks_in, block_at, is_good_for, parts_of, newest as newest_of, table_of};
 ghost use Rattle.blocks.specs.Steps.{Summed, usable, Checked, is_part, Placed, FoundPlace, edition_of, higher_than, Best, chosen};
-ghost use Rattle.blocks.specs.Fetching.{Locating, Handing, Fetching};
+ghost use Rattle.blocks.specs.Fetching.{Locating, Handing, refused_at, Fetching};
+
+use esterel::{Check, Refusal};
 
 const BLOCK: usize = 512;
 
@@ -22,24 +24,12 @@ const MAX_BLOCKS: usize = 64;
 // The longest table.
 const MAX_TABLE: usize = 2 * esterel::MAX_NODES;
 
-fn wide(byte: u8) -> u16
-    ensures { (result ≡ byte) × (result < 256) }
-{
-    byte as u16
-}
-
 // Two bytes, lowest first.
 fn word(block: &[u8], at: usize) -> u16
     requires { at + 1 < length block.now }
     ensures { result ≡ word_of block.now at }
 {
-    wide(block[at]) + 256 * wide(block[at + 1])
-}
-
-fn reduced(sum: u32) -> u32
-    ensures { result ≡ reduced_of sum }
-{
-    sum % 255
+    u16::from_le_bytes([block[at], block[at + 1]])
 }
 
 // The two check bytes of some bytes.
@@ -56,29 +46,20 @@ fn sum_bytes(bytes: &[u8]) -> Sums
 {
     let mut first: u32 = 0;
     let mut second: u32 = 0;
-    let mut i: usize = 0;
-    while i < bytes.len() {
-        first += wide(bytes[i]) as u32;
+    for byte in bytes {
+        first += u32::from(*byte);
         second += first;
-        i += 1;
     }
     Sums {
-        first: reduced(first),
-        second: reduced(second),
+        first: first % 255,
+        second: second % 255,
     }
 }
 
 fn all_zero(bytes: &[u8]) -> bool
-    ensures { result ≡ all_zero bytes.now }
+    ensures { IsTrue result ↔ EachIndex bytes.now (λ k. slice_index bytes.now k ≡ 0) }
 {
-    let mut i: usize = 0;
-    while i < bytes.len() {
-        if bytes[i] != 0 {
-            return false;
-        }
-        i += 1;
-    }
-    true
+    bytes.iter().all(|byte| *byte == 0)
 }
 
 // Whether a block is good: its check bytes, its used length and its filler.
@@ -87,13 +68,13 @@ fn is_good(block: &[u8]) -> bool
     ensures { result ≡ good_of block.now }
 {
     let sums = sum_bytes(&block[0..CHECKS_AT]);
-    if wide(block[CHECKS_AT]) as u32 != sums.first {
+    if u32::from(block[CHECKS_AT]) != sums.first {
         return false;
     }
-    if wide(block[CHECKS_AT + 1]) as u32 != sums.second {
+    if u32::from(block[CHECKS_AT + 1]) != sums.second {
         return false;
     }
-    let used = word(block, 6) as usize;
+    let used = usize::from(word(block, 6));
     if used < 1 {
         return false;
     }
@@ -154,16 +135,13 @@ fn check_blocks(file: &[u8], program: u16) -> [bool; MAX_BLOCKS]
     ensures { Checked file.now program result }
 {
     let mut good = [false; MAX_BLOCKS];
-    let n = file.len() / BLOCK;
-    let mut i: usize = 0;
-    while i < n {
+    for i in 0..file.len() / BLOCK {
         good[i] = is_usable(block_at(file, i), program);
-        i += 1;
     }
     good
 }
 
-// The used content of a part in the file, and the number of parts that its block names; zeros where no block counts.
+// The used content of a block in the file, and the number of parts that it names.
 #[derive(Drop)]
 struct Place {
     from: usize,
@@ -179,43 +157,37 @@ fn place_at(file: &[u8], i: usize) -> Place
     let block = block_at(file, i);
     Place {
         from: BLOCK * i + CONTENT_AT,
-        length: word(block, 6) as usize,
+        length: usize::from(word(block, 6)),
         parts: block[5],
     }
 }
 
 // Of the good blocks for a program, an edition and a part the last counts.
-fn find(file: &[u8], good: &[bool; MAX_BLOCKS], program: u16, edition: u16, number: u8) -> Place
+fn find(
+    file: &[u8],
+    good: &[bool; MAX_BLOCKS],
+    program: u16,
+    edition: u16,
+    number: u8,
+) -> Option<Place>
     requires { Checked file.now program good.now }
     ensures { FoundPlace file.now program edition number result }
 {
     let n = file.len() / BLOCK;
-    let mut seen: usize = 0;
-    while seen < n {
-        seen += 1;
-        let i = n - seen;
-        if good[i] {
-            if is_part(block_at(file, i), edition, number) {
-                return place_at(file, i);
-            }
+    for i in (0..n).rev() {
+        if good[i] && is_part(block_at(file, i), edition, number) {
+            return Some(place_at(file, i));
         }
     }
-    Place {
-        from: 0,
-        length: 0,
-        parts: 0,
-    }
+    None
 }
 
-// A whole edition, with its number of parts and the length of its table; or that there is none.
+// A whole edition, with its number of parts and the length of its table.
 #[derive(Clone, Copy)]
-enum Edition {
-    Whole {
-        edition: u16,
-        parts: u8,
-        length: usize,
-    },
-    None,
+struct Edition {
+    edition: u16,
+    parts: u8,
+    length: usize,
 }
 
 // Whether an edition is whole whose part 0 names so many parts.
@@ -225,44 +197,38 @@ fn check_edition(
     program: u16,
     edition: u16,
     parts: u8,
-) -> Edition
+) -> Option<Edition>
     requires { Checked file.now program good.now × (parts ≡ parts_of file.now program edition) }
     ensures { result ≡ edition_of file.now program edition }
 {
     if parts == 0 {
-        return Edition::None;
+        return None;
     }
     let mut length: usize = 0;
-    let mut k: u8 = 0;
-    while k < parts {
-        let place = find(file, good, program, edition, k);
+    for k in 0..parts {
+        let place = find(file, good, program, edition, k)?;
         if place.parts != parts {
-            return Edition::None;
+            return None;
         }
-        k += 1;
-        if (k < parts) & (place.length != CONTENT) {
-            return Edition::None;
+        if k + 1 < parts && place.length != CONTENT {
+            return None;
         }
         length += place.length;
     }
-    Edition::Whole {
+    Some(Edition {
         edition,
         parts,
         length,
-    }
+    })
 }
 
 // Whether an edition is higher than the best so far.
-fn is_higher(edition: u16, best: Edition) -> bool
+fn is_higher(edition: u16, best: Option<Edition>) -> bool
     ensures { result ≡ higher_than edition best }
 {
     match best {
-        Edition::Whole {
-            edition: highest,
-            parts: _,
-            length: _,
-        } => highest < edition,
-        Edition::None => true,
+        Some(best) => best.edition < edition,
+        None => true,
     }
 }
 
@@ -273,8 +239,8 @@ fn consider(
     good: &[bool; MAX_BLOCKS],
     program: u16,
     i: usize,
-    best: Edition,
-) -> Edition
+    best: Option<Edition>,
+) -> Option<Edition>
     requires { Checked file.now program good.now × (i < blocks_in file.now) × Best file.now program i best }
     ensures { Best file.now program (i + 1) result }
 {
@@ -285,28 +251,23 @@ fn consider(
     if !is_higher(edition, best) {
         return best;
     }
-    let first = find(file, good, program, edition, 0);
+    let Some(first) = find(file, good, program, edition, 0) else {
+        return best;
+    };
     if first.from != BLOCK * i + CONTENT_AT {
         return best;
     }
-    let next = check_edition(file, good, program, edition, first.parts);
-    let Edition::None = next else {
-        return next;
-    };
-    best
+    check_edition(file, good, program, edition, first.parts).or(best)
 }
 
 // The highest whole edition of a program.
-fn newest(file: &[u8], good: &[bool; MAX_BLOCKS], program: u16) -> Edition
+fn newest(file: &[u8], good: &[bool; MAX_BLOCKS], program: u16) -> Option<Edition>
     requires { Checked file.now program good.now }
     ensures { result ≡ chosen file.now program (newest_of file.now program) }
 {
-    let n = file.len() / BLOCK;
-    let mut best = Edition::None;
-    let mut i: usize = 0;
-    while i < n {
+    let mut best = None;
+    for i in 0..file.len() / BLOCK {
         best = consider(file, good, program, i, best);
-        i += 1;
     }
     best
 }
@@ -333,13 +294,13 @@ fn join(
     ensures { table.new ≡ table_of file.now program edition ++ drop (length (table_of file.now program edition)) table.old }
 {
     let mut at: usize = 0;
-    let mut k: u8 = 0;
-    while k < parts {
-        let place = find(file, good, program, edition, k);
+    for k in 0..parts {
+        let Some(place) = find(file, good, program, edition, k) else {
+            continue;
+        };
         let from = place.from;
         let end = from + place.length;
         at += copy(&file[from..end], &mut table[at..]);
-        k += 1;
     }
 }
 
@@ -359,10 +320,7 @@ pub fn locate(file: &[u8], program: u16, edition: u16, number: u8) -> Span
         return Span { from: 0, length: 0 };
     }
     let n = file.len() / BLOCK;
-    let mut seen: usize = 0;
-    while seen < n {
-        seen += 1;
-        let last = n - seen;
+    for last in (0..n).rev() {
         if is_good_for(block_at(file, last), program, edition, number) {
             let place = place_at(file, last);
             return Span {
@@ -384,53 +342,42 @@ pub fn part(file: &[u8], program: u16, edition: u16, number: u8) -> &[u8]
     &file[from..end]
 }
 
-// What a fetch answers.
+// The table that was fetched: its length, its edition and the number of its parts.
 #[derive(Clone, Copy)]
-pub enum Fetched {
-    Done {
-        length: usize,
-        edition: u16,
-        parts: u8,
-    },
-    Refused {
-        number: u8,
-        node: usize,
-    },
+pub struct Fetched {
+    pub length: usize,
+    pub edition: u16,
+    pub parts: u8,
 }
 
 // The table of the highest whole edition of a program, to the lent table.
-pub fn fetch(file: &[u8], program: u16, table: &mut [u8]) -> Fetched
+pub fn fetch(file: &[u8], program: u16, table: &mut [u8]) -> Result<Fetched, Refusal>
     ensures { Fetching file.now program table.old table.new result }
 {
     if table.len() < MAX_TABLE {
-        return Fetched::Refused { number: 3, node: 0 };
+        return refuse(Check::NoRoom);
     }
     if !fits(file) {
-        return Fetched::Refused {
-            number: 17,
-            node: 0,
-        };
+        return refuse(Check::NotBlocks);
     }
     let good = check_blocks(file, program);
-    let best = newest(file, &good, program);
-    let Edition::Whole {
-        edition,
-        parts,
-        length,
-    } = best
-    else {
-        return Fetched::Refused {
-            number: 18,
-            node: 0,
-        };
+    let Some(best) = newest(file, &good, program) else {
+        return refuse(Check::NoEdition);
     };
-    if MAX_TABLE < length {
-        return Fetched::Refused { number: 1, node: 0 };
+    if MAX_TABLE < best.length {
+        return refuse(Check::TooManyNodes);
     }
-    join(file, &good, program, edition, parts, table);
-    Fetched::Done {
-        length,
-        edition,
-        parts,
-    }
+    join(file, &good, program, best.edition, best.parts, table);
+    Ok(Fetched {
+        length: best.length,
+        edition: best.edition,
+        parts: best.parts,
+    })
+}
+
+// No check of a fetch names a node.
+fn refuse(check: Check) -> Result<Fetched, Refusal>
+    ensures { result ≡ Err (refused_at check 0) }
+{
+    Err(Refusal { check, node: 0 })
 }

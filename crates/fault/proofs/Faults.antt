@@ -11,19 +11,19 @@ use Rattle.scan.specs.declared.Scanned.{Scanned}
 use Rattle.scan.specs.declared.Tokens.{Tokens}
 use Rattle.fault.specs.declared.Mode.{Mode}
 use Rattle.fault.specs.declared.Mode.TheVariants.{Statement}
-use Rattle.fault.specs.declared.Stack.{Stack}
-use Rattle.fault.specs.Walking.{Stepped, StepsOn, Going, OnWay, FaultTold}
+use Rattle.fault.specs.declared.stack.Stack.{Stack}
+use Rattle.fault.specs.Walking.{Stacked, Stepped, StepsOn, Going, OnWay, FaultTold}
 use Rattle.fault.proofs.Climbing.{climbs}
 use Rattle.fault.proofs.Reaching.{TokenAt, none-taken, byte_next}
 
-pub way_first : {x : List ℕ} (w : Stack) (it : Tokens) → length x ≤ max_source → length w.frames ≡ max_source → w.height ≡ 0 → Going x it × (it.at ≡ 0) → OnWay x w Statement it
+pub way_first : {x : List ℕ} (w : Stack) (it : Tokens) → length x ≤ max_source → Stacked w top → Going x it × (it.at ≡ 0) → OnWay x w Statement it
 unfolding rest
-way_first w it h l e (g, i) = record {
+way_first w it h k (g, i) = record {
   going = g;
   state = expect alone top;
-  kept = record { mode = refl; stack = record { frames = l; height = e } };
+  kept = record { mode = refl; stack = k };
   moved = rw i;
-  low = omega (arith, e);
+  low = omega (arith, k.height);
   short = h;
 }
 

@@ -1,15 +1,15 @@
 -- A statement is opened over those that are open.
-use Rattle.std.proofs.Common.{◌≡◌, ◌⊎◌, Option, Some, ℕ, ◌+◌, ◌<◌, ◌≤◌, List, length, set, refl, sym, subst, ◌∙◌, arith}
+use Rattle.std.proofs.Common.{◌≡◌, ◌⊎◌, Option, Some, ℕ, ◌+◌, ◌<◌, ◌≤◌, List, length, set, refl, sym, ap, subst, ◌∙◌, ◌∙◌, arith}
 use Rattle.std.proofs.Math.Seq.{get_or-set_same, get_or-set_other}
 use Rattle.std.proofs.Math.ListN.{length-set}
 use Rattle.grammar.specs.Limits.{max_source}
 use Rattle.grammar.specs.Machine.{Before, alone, after, Frame, branch, body, then_branch, else_branch, suspended, aborted, Open, top, within, expect, at_bars, at_else, height as opens}
 use Rattle.grammar.specs.Tree.{Tree, two, parallel}
-use Rattle.fault.specs.declared.Frame.{Frame as Kind}
-use Rattle.fault.specs.declared.Frame.TheVariants as F
+use Rattle.fault.specs.declared.stack.Frame.{Frame as Kind}
+use Rattle.fault.specs.declared.stack.Frame.TheVariants as F
 use Rattle.fault.specs.declared.Mode.{Mode}
 use Rattle.fault.specs.declared.Mode.TheVariants.{Statement}
-use Rattle.fault.specs.declared.Stack.{Stack}
+use Rattle.fault.specs.declared.stack.Stack.{Stack}
 use Rattle.fault.specs.Walking.{frame_of, top_of, Framed, Stacked, StackedBelow, Kept, Stepped}
 
 -- a store above what is open leaves it as it was
@@ -24,12 +24,12 @@ long w (within f b k) s = long w k s.1
 opened : (w : List Kind) (v : Kind) (f : Frame) (b : Before) (k : Open) → opens k < max_source → v ≡ frame_of f → Framed w k → Framed (set w (opens k) v) (within f b k)
 opened w v f b k h e s = (get_or-set_same w (opens k) v F.First (omega (arith, long w k s)) ∙ e, above w k (opens k) v (omega arith) s)
 
-pub pushed : (w : Stack) (v : Kind) (f : Frame) (b : Before) (k : Open) → w.height < max_source → v ≡ frame_of f → Stacked w k → Kept (record { frames = set w.frames w.height v; height = w.height + 1 }) Statement (expect alone (within f b k))
-pushed w v f b k i e s = record {
+pub pushed : (w w' : Stack) (v : Kind) (f : Frame) (b : Before) (k : Open) → w.height < max_source → w'.frames ≡ set w.frames w.height v → w'.height ≡ w.height + 1 → v ≡ frame_of f → Stacked w k → Kept w' Statement (expect alone (within f b k))
+pushed w w' v f b k i p q e s = record {
   mode = refl;
   stack = record {
-    frames = subst (λ n. Framed (set w.frames n v) (within f b k)) (sym s.height) (opened w.frames v f b k (omega (arith, s.height)) e s.frames);
-    height = omega (arith, s.height);
+    frames = subst (λ l. Framed l (within f b k)) (sym (p ∙ ap (λ n. set w.frames n v) s.height)) (opened w.frames v f b k (omega (arith, s.height)) e s.frames);
+    height = q ∙ omega (arith, s.height);
   };
 }
 

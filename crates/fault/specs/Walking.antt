@@ -18,9 +18,9 @@ use Rattle.fault.specs.declared.Named.{Named}
 use Rattle.fault.specs.declared.Named.TheVariants.{Leaf, Body, Present, Abort as AbortName}
 use Rattle.fault.specs.declared.Mode.{Mode}
 use Rattle.fault.specs.declared.Mode.TheVariants.{Statement, More, Name, In, Branch, End, Abort}
-use Rattle.fault.specs.declared.Frame.{Frame as Kind}
-use Rattle.fault.specs.declared.Frame.TheVariants as F
-use Rattle.fault.specs.declared.Stack.{Stack}
+use Rattle.fault.specs.declared.stack.Frame.{Frame as Kind}
+use Rattle.fault.specs.declared.stack.Frame.TheVariants as F
+use Rattle.fault.specs.declared.stack.Stack.{Stack}
 use Rattle.fault.specs.declared.Wanted.{Wanted}
 use Rattle.fault.specs.declared.Wanted.TheVariants.{TrapName, ExitName}
 use Rattle.fault.specs.declared.Lost.{Lost}

@@ -3,7 +3,7 @@
 // not recurse: a text that is outside the grammar may be nested deeper than the readers (crates/reader) go.
 #![tactic(auto)]
 
-ghost use Rattle.std.specs.Prelude.{◌≡◌, List, [], ◌∷◌, ℕ, ◌<◌, ◌≤◌, false, not, cond, ltb, length, Some, IfSome};
+ghost use Rattle.std.specs.Prelude.{◌≡◌, List, [], ◌∷◌, ℕ, ◌<◌, ◌≤◌, false, not, cond, ltb, length, Some};
 ghost use Rattle.esterel.specs.Refusal.{number_of};
 ghost use Rattle.grammar.specs.Limits.{max_source, max_levels};
 ghost use Rattle.grammar.specs.Tokens as G;
@@ -18,12 +18,15 @@ ghost use Rattle.grammar.specs.Faults.{number_of_fault, opens_signal, crowded_fr
 ghost use Rattle.grammar.specs.Search.{wants, opened, closed, Closable, Room as Fits};
 ghost use Rattle.esterel.specs.Limits.{signals as max_signals};
 ghost use Rattle.sheet.specs.Sheet.{name_at, InText, Filled};
-ghost use Rattle.fault.specs.Walking.{Stacked, StackedBelow, frame_of, top_of, Kept, Stepped, Steps, StepsOn, FaultTold, ExitTold, met, Levels, want_is, PassedAs, before_signal, CrowdedAs};
-ghost use Rattle.fault.specs.declared.Stack as D;
+ghost use Rattle.fault.specs.Walking.{Stacked, Stepped, Steps, StepsOn, FaultTold, ExitTold, met, Levels, want_is, PassedAs, before_signal, CrowdedAs};
+ghost use Rattle.fault.specs.declared.stack.Stack as D;
+
+mod stack;
 
 use esterel::Check;
 use scan::{Mark, Opening, Part, Scanned, Token, Tokens};
 use sheet::Sheet;
+use stack::{Frame, Stack};
 
 // What a name that comes next belongs to, and so what comes after it: a statement that is whole with it, a body, a present, an
 // abort.
@@ -48,25 +51,6 @@ pub enum Mode {
     Abort,
 }
 
-// What is open: a bracket in its first branch or in a later one, a body, a then branch, an else branch, a suspend, an abort.
-#[derive(Clone, Copy)]
-enum Frame {
-    First,
-    Branch,
-    Body,
-    Then,
-    Else,
-    Suspended,
-    Aborted,
-}
-
-// The open statements, from the outermost on. There is room for as many as a text may have bytes: memory is fixed.
-#[derive(Drop)]
-struct Stack {
-    frames: [Frame; grammar::MAX_SOURCE],
-    height: usize,
-}
-
 // Whose name comes next, if it is a trap's or an exit's.
 #[derive(Clone, Copy)]
 pub enum Wanted {
@@ -83,31 +67,6 @@ struct Lost;
 pub struct Fault {
     pub check: Check,
     pub place: usize,
-}
-
-impl Stack {
-    // A statement is opened, and one is expected in it.
-    fn push(&mut self, frame: Frame) -> Mode
-        requires { self.old.height < max_source }
-        ensures { (f : M.Frame) (b : M.Before) (k : M.Open) → frame ≡ frame_of f → Stacked self.old k → Kept self.new result (M.expect M.alone (M.within f b k)) }
-    {
-        self.frames[self.height] = frame;
-        self.height += 1;
-        Mode::Statement
-    }
-
-    // The innermost open statement is closed.
-    fn pop(&mut self) -> Option<Frame>
-        requires { self.old.height ≤ max_source }
-        ensures room { IfSome result (λ f. self.new.height < max_source) }
-        ensures top { (k : M.Open) → Stacked self.old k → (result ≡ top_of k) × StackedBelow self.new k }
-    {
-        if self.height == 0 {
-            return None;
-        }
-        self.height -= 1;
-        Some(self.frames[self.height])
-    }
 }
 
 // At a word or sign that opens a statement, where one is expected.
@@ -159,7 +118,6 @@ fn on_opening(stack: &mut Stack, mode: Mode, opening: Opening) -> Option<Mode>
 
 // After a sequence: at a double bar.
 fn at_bars(stack: &mut Stack) -> Option<Mode>
-    requires { stack.old.height ≤ max_source }
     ensures { (p : Tree) (k : M.Open) → Stacked stack.old k → Stepped (M.at_bars p k) stack.new result }
 {
     match stack.pop()? {
@@ -170,7 +128,6 @@ fn at_bars(stack: &mut Stack) -> Option<Mode>
 
 // At a closing bracket.
 fn at_close(stack: &mut Stack) -> Option<Mode>
-    requires { stack.old.height ≤ max_source }
     ensures { (p : Tree) (k : M.Open) → Stacked stack.old k → Stepped (M.at_close p k) stack.new result }
 {
     match stack.pop()? {
@@ -181,7 +138,6 @@ fn at_close(stack: &mut Stack) -> Option<Mode>
 
 // At `else`.
 fn at_else(stack: &mut Stack) -> Option<Mode>
-    requires { stack.old.height ≤ max_source }
     ensures { (p : Tree) (k : M.Open) → Stacked stack.old k → Stepped (M.at_else p k) stack.new result }
 {
     match stack.pop()? {
@@ -192,7 +148,6 @@ fn at_else(stack: &mut Stack) -> Option<Mode>
 
 // At `end`.
 fn at_end(stack: &mut Stack) -> Option<Mode>
-    requires { stack.old.height ≤ max_source }
     ensures { (p : Tree) (k : M.Open) → Stacked stack.old k → Stepped (M.at_end p k) stack.new result }
 {
     match stack.pop()? {
@@ -203,7 +158,6 @@ fn at_end(stack: &mut Stack) -> Option<Mode>
 
 // At `when`.
 fn at_when(stack: &mut Stack) -> Option<Mode>
-    requires { stack.old.height ≤ max_source }
     ensures { (p : Tree) (k : M.Open) → Stacked stack.old k → Stepped (M.at_when p k) stack.new result }
 {
     match stack.pop()? {
@@ -215,7 +169,6 @@ fn at_when(stack: &mut Stack) -> Option<Mode>
 
 // After a sequence.
 fn go_on(stack: &mut Stack, mark: Mark) -> Option<Mode>
-    requires { stack.old.height ≤ max_source }
     ensures { (p : Tree) (k : M.Open) → Stacked stack.old k → Stepped (M.go_on (mark_is mark) p k) stack.new result }
 {
     match mark {
@@ -317,10 +270,7 @@ pub fn find_fault(text: &[u8]) -> Fault
     requires { length text.now ≤ max_source }
     ensures { FaultTold text.now (number_of result.check) result.place }
 {
-    let mut stack = Stack {
-        frames: [Frame::First; grammar::MAX_SOURCE],
-        height: 0,
-    };
+    let mut stack = Stack::new();
     let mut mode = Mode::Statement;
     for scanned in Tokens::new(text) {
         let Some(next) = step(&mut stack, mode, scanned.token) else {

@@ -1,15 +1,13 @@
 -- What planning the input's first tick comes to: from the buffers b and t to b' and t'.
-use Rattle.std.specs.Prelude.{ℕ, ◌≡◌, List}
-use Rattle.input.specs.Reads.{Reads, OfInput}
-use Rattle.input.specs.declared.Input.TheVariants.{Failed}
-use Rattle.first_tick.specs.declared.Told.{Told}
+use Rattle.std.specs.Prelude.{ℕ, List, Result}
+use Rattle.std.specs.declared.io.Error.{Error}
+use Rattle.program.specs.Shows.{ShowsText, Shows}
 use Rattle.planline.specs.Line.{LineWritten}
 
 -- the line is that of the whole input
 abbrev pub PlansLine : (b b' t t' : List ℕ) (end : ℕ) → Type 0
-PlansLine b b' t t' end = OfInput b b' (λ input. LineWritten input t t' end)
+PlansLine = ShowsText LineWritten
 
 -- where a read fails, it stays as it was
-abbrev pub Plans : (b b' t t' : List ℕ) → Told → Type 0
-Plans b b' t t' (Told.Line end) = PlansLine b b' t t' end
-Plans b b' t t' Told.Failed = Reads 0 b b' Failed × (t' ≡ t)
+abbrev pub Plans : (b b' t t' : List ℕ) → Result ℕ Error → Type 0
+Plans = Shows LineWritten

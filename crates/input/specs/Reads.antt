@@ -1,58 +1,57 @@
 -- What reading standard input answers, and what it does to the lent buffer.
-use Rattle.std.specs.Prelude.{ℕ, zero, suc, ◌+◌, ◌-◌, ◌^◌, ◌≤◌, ◌<◌, ◌≡◌, Bool, false, List, eqb, length, take}
-use Rattle.input.specs.declared.Input.{Input}
-use Rattle.input.specs.declared.Input.TheVariants.{Bytes, Failed}
-use Rattle.input.specs.declared.Progress.{Progress}
-use Rattle.input.specs.declared.Progress.TheVariants.{On, Over}
+use Rattle.std.specs.Prelude.{ℕ, zero, suc, ◌+◌, ◌-◌, ◌≤◌, ◌<◌, ◌≡◌, Bool, false, List, Result, Ok, Err, is_ok, eqb, length, take}
+use Rattle.std.specs.declared.io.Error.{Error}
 
 -- no more bytes came than there was room for
-abbrev pub Within : Input → ℕ → Type 0
-Within (Bytes n) room = n ≤ room
-Within Failed room = Unit {0}
+abbrev pub Within : {E : Type 0} → Result ℕ E → ℕ → Type 0
+Within (Ok n) room = n ≤ room
+Within (Err e) room = Unit {0}
 
--- with those before them they can be counted
-abbrev pub Fits : ℕ → Input → Type 0
-Fits done (Bytes n) = done + n < 2 ^ 64
-Fits done Failed = Unit {0}
+-- where reading stands after a read: behind so many bytes, or it is over and answers this
+pub data Progress (E : Type 0) : Type 0 where
+  On : (done : ℕ) → Progress E
+  Over : (answer : Result ℕ E) → Progress E
 
--- what a read makes of the bytes done: behind those that came it goes on; where none came, the input has ended; a failed read fails
-abbrev pub step_of : (done : ℕ) (piece : Input) → Progress
-step_of done (Bytes zero) = Over (Bytes done)
-step_of done (Bytes (suc n)) = On (done + suc n)
-step_of done Failed = Over Failed
+-- what a read makes of the bytes done: behind those that came it goes on; where none came, the input has ended; a failed read fails, with its
+-- error
+abbrev pub step_of : {E : Type 0} (done : ℕ) (piece : Result ℕ E) → Progress E
+step_of done (Ok zero) = Over (Ok done)
+step_of done (Ok (suc n)) = On (done + suc n)
+step_of done (Err e) = Over (Err e)
 
 -- what a read that answered `piece`, into the room behind the buffer's first `done` bytes, leaves of it: there was room, those bytes stay,
 -- and so does the length
-pub record ReadBehind (done : ℕ) (b b' : List ℕ) (piece : Input) : Type 0 where
+pub record ReadBehind {E : Type 0} (done : ℕ) (b b' : List ℕ) (piece : Result ℕ E) : Type 0 where
   pub room : done < length b
   pub came : Within piece (length b - done)
   pub front : take done b' ≡ take done b
   pub size : length b' ≡ length b
 
 -- `done` bytes are at the front of the buffer b; reading goes on from there, leaves b' and answers r
-pub data Reads : (done : ℕ) (b b' : List ℕ) (r : Input) → Type 0 where
+pub data Reads {E : Type 0} : (done : ℕ) (b b' : List ℕ) (r : Result ℕ E) → Type 0 where
   -- the buffer is full
-  full : {done : ℕ} {b : List ℕ} → done ≡ length b → Reads done b b (Bytes done)
+  full : {done : ℕ} {b : List ℕ} → done ≡ length b → Reads done b b (Ok done)
   -- after a read it is over
-  over : {done : ℕ} {b b' : List ℕ} {r : Input} (piece : Input) → ReadBehind done b b' piece → step_of done piece ≡ Over r → Reads done b b' r
+  over : {done : ℕ} {b b' : List ℕ} {r : Result ℕ E} (piece : Result ℕ E) → ReadBehind done b b' piece → step_of done piece ≡ Over r → Reads done b b' r
   -- after a read it goes on
-  on : {done next : ℕ} {b c b' : List ℕ} {r : Input} (piece : Input) → ReadBehind done b c piece → step_of done piece ≡ On next → Reads next c b' r → Reads done b b' r
+  on : {done next : ℕ} {b c b' : List ℕ} {r : Result ℕ E} (piece : Result ℕ E) → ReadBehind done b c piece → step_of done piece ≡ On next → Reads next c b' r → Reads done b b' r
 
 -- what is said of the whole input where its bytes may not all fit in the buffer
 pub record OfInput (b b' : List ℕ) (Said : List ℕ → Type 0) : Type 0 where
   -- so many bytes were read
   pub read : ℕ
-  pub reads : Reads 0 b b' (Bytes read)
+  pub reads : Reads {E = Error} 0 b b' (Ok read)
   -- whatever the whole input is: if they are as many of its bytes as fit in the buffer
   pub whole : (input : List ℕ) → take (length b') input ≡ take read b' → Said input
 
 -- whether the bytes that came fill a buffer of this length
-abbrev pub is_full : Input → ℕ → Bool
-is_full (Bytes n) room = eqb n room
-is_full Failed room = false
+abbrev pub is_full : {E : Type 0} → Result ℕ E → ℕ → Bool
+is_full (Ok n) room = eqb n room
+is_full (Err e) room = false
 
--- the answer to whether the input filled the buffer
-pub record Fills (b b' : List ℕ) (r : Bool) : Type 0 where
-  pub input : Input
+-- the answer to whether the input filled the buffer: it is that it did exactly where as many bytes came, and a failed read's error comes with it
+pub record Fills (b b' : List ℕ) (r : Result Unit Error) : Type 0 where
+  pub input : Result ℕ Error
   pub reads : Reads 0 b b' input
-  pub answer : r ≡ is_full input (length b')
+  pub answer : is_ok r ≡ is_full input (length b')
+  pub reason : (e : Error) → input ≡ Err e → r ≡ Err e

@@ -11,6 +11,8 @@ use lib.Seq.{sets, drop-cons}
 use borrow.Author.Tests.{ne_eqb}
 use Rattle.std.specs.Prelude.{Option, Some, None}
 use Rattle.std.specs.Option.{option_map}
+use Rattle.std.specs.List.{slice_get}
+use Rattle.std.proofs.lemmas.Option.{slice_get_within, get_or_from_slice_get}
 use Rattle.esterel.specs.Statement.{Unary, Binary, present, sequence, parallel, Stmt, one, two, kind, field, size}
 use Rattle.esterel.specs.Instant.{Result, zeros, start}
 use Rattle.table.specs.Kinds.{kind_of, arity_of, leaf_of, is_trap, is_present, is_sequence}
@@ -31,6 +33,12 @@ unfolding kind_of
 present-is (present g) p q e = (g, refl)
 present-is sequence p q e = (0, cc)
 present-is parallel p q e = (0, cc)
+
+-- where no answer is left
+past-end : (xs : List ℕ) (i : ℕ) → None ≡ slice_get xs i → length xs ≤ i
+past-end [] i e = omega arith
+past-end (x ∷ xs) zero e = cc
+past-end (x ∷ xs) (suc i) e = omega (arith, past-end xs i e)
 
 -- a node with one child is left: in the statement's terms
 pub left_as : {t mid held' : List ℕ} {node s : ℕ} {u : Unary} {p : Stmt} {k : Kind} {x r : Reaction} → Over t node s u p → kind_of (kind (one u p)) ≡ k → Left k x (node - s) node mid held' r → (r ≡ one_more (cond (is_trap (kind_of (kind (one u p)))) (catch_ran x) x)) × (held' ≡ cond (is_trap (kind_of (kind (one u p))) && catches x) (sets mid (first_at t node) (zeros (size p))) mid)
@@ -104,19 +112,20 @@ module _ {t sizes answers held em : List ℕ} {node taken : ℕ} (ok : Runnable 
           signal_of : (b : Binary) {p q : Stmt} → Both t node s b p q → (g : ℕ) × (b ≡ present g)
           signal_of b {p} {q} v = present-is b p q (ap is_present (kind-is ok.measured room.within ek en v.is) ∙ pr)
 
-          pub present-starves : length answers ≤ taken → Started t answers held held em em node taken None
-          present-starves le =
+          pub present-starves : None ≡ slice_get answers taken → Started t answers held held em em node taken None
+          present-starves none-left =
+              let le = past-end answers taken none-left in
               let (b, p, q, v) = two_of_lem ok.measured room.within ek en es z y in
               let (g, e) = signal_of b v in
               let none : drop taken answers ≡ [] = drop_of_length-le answers le in
               start_as refl (sym v.is) (drop taken answers) (rw (none, e) starves)
 
-          module _ {a b : ℕ} (got : (taken < length answers) × ((d : ℕ) → a ≡ get_or answers taken d)) (chosen : b ≡ cond (eqb a 0) (node - 1) (node - 1 - s)) where
+          module _ {a b : ℕ} (got : Some a ≡ slice_get answers taken) (chosen : b ≡ cond (eqb a 0) (node - 1) (node - 1 - s)) where
             lt : taken < length answers
-            lt = got.0
+            lt = slice_get_within answers taken a (sym got)
 
             eb : b ≡ cond (eqb (get_or answers taken 0) 0) (node - 1) (node - 1 - s)
-            eb = chosen ∙ ap (λ x. cond (eqb x 0) (node - 1) (node - 1 - s)) (got.1 0)
+            eb = chosen ∙ ap (λ x. cond (eqb x 0) (node - 1) (node - 1 - s)) (sym (get_or_from_slice_get answers taken a 0 (sym got)))
 
             pub branch_lt : b < node
             branch_lt = go (eqb (get_or answers taken 0) 0) eb
@@ -131,10 +140,10 @@ module _ {t sizes answers held em : List ℕ} {node taken : ℕ} (ok : Runnable 
                 go : (c : Bool) → b ≡ cond c (node - 1) (node - 1 - s) → Runnable t sizes × Room t answers held em b (taken + 1) × Clear t held b
                 go true e =
                     let (c, p, q, v) = two_of_lem ok.measured room.within ek en es z y in
-                    rw e (beneath (node - 1) (taken + 1) (omega (arith, v.second)) (omega (arith, v.ends, v.some_right)) (omega arith))
+                    rw e (beneath (node - 1) (taken + 1) (omega (arith, v.second)) (omega (arith, v.ends, v.some_right)) (omega (arith, lt)))
                 go false e =
                     let (c, p, q, v) = two_of_lem ok.measured room.within ek en es z y in
-                    rw e (beneath (node - 1 - s) (taken + 1) (omega (arith, v.first)) (omega (arith, v.ends, v.some_right)) (omega arith))
+                    rw e (beneath (node - 1 - s) (taken + 1) (omega (arith, v.first)) (omega (arith, v.ends, v.some_right)) (omega (arith, lt)))
 
             pub present-returns : {held' em' : List ℕ} {r r' : Option Reaction} → Started t answers held held' em em' b (taken + 1) r → r' ≡ option_map one_more r → Started t answers held held' em em' node taken r'
             present-returns {held'} {em'} {r} {r'} o l =

@@ -13,6 +13,7 @@ ghost use Rattle.esterel.specs.Refusal.{reply};
 ghost use Rattle.instant.specs.Calls.{room_for, CallChecked, handed, Reacts, Starting, Resuming};
 
 use esterel::{Check, Refusal};
+use run::Inputs;
 
 // What a run answers, an instant or one of its statements: the code, the answers taken up to its end and its entries.
 #[derive(Clone, Copy, PartialEq, Eq)]
@@ -79,7 +80,12 @@ pub fn start(
     let n = table.len() / 2;
     let mut held = [0u8; esterel::MAX_NODES];
     let mut marks = [0u8; esterel::SIGNALS];
-    let ran = run::start_at(table, &sizes, answers, n - 1, 0, &mut held, &mut marks);
+    let inputs = Inputs {
+        table,
+        sizes: &sizes,
+        answers,
+    };
+    let ran = run::start_at(&inputs, n - 1, 0, &mut held, &mut marks);
     hand_over(ran, &held, &marks, n, state, emissions)
 }
 
@@ -104,15 +110,11 @@ pub fn resume(
         });
     }
     let mut marks = [0u8; esterel::SIGNALS];
-    let ran = run::resume_at(
+    let inputs = Inputs {
         table,
-        &sizes,
-        &counts,
+        sizes: &sizes,
         answers,
-        n - 1,
-        0,
-        &mut held,
-        &mut marks,
-    );
+    };
+    let ran = run::resume_at(&inputs, &counts, n - 1, 0, &mut held, &mut marks);
     hand_over(ran, &held, &marks, n, state, emissions)
 }

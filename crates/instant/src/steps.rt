@@ -4,6 +4,7 @@ ghost use Rattle.table.specs.Kinds.{is_suspend, leaf_of};
 ghost use Rattle.instant.specs.Steps.{alone, one_more, both, Left, asked, holds_beneath, LeafRan};
 
 use crate::Reaction;
+use crate::run::Inputs;
 use table::Kind;
 
 impl Reaction {
@@ -69,17 +70,17 @@ pub fn leave(kind: Kind, inner: Reaction, held: &mut [u8], first: usize, node: u
 
 // A statement without children is started, where nothing is held.
 pub fn start_leaf(
-    table: &[u8],
+    inputs: &Inputs,
     kind: Kind,
     node: usize,
     taken: usize,
     held: &mut [u8],
     emissions: &mut [u8],
 ) -> Reaction
-    requires { (2 * node + 1 < length table.now) × (node < length held.old) × (256 ≤ length emissions.old) }
-    ensures { LeafRan (leaf_of kind (get_or table.now (2 * node + 1) 0)) node taken held.old held.new emissions.old emissions.new result }
+    requires { (2 * node + 1 < length inputs.now.table.now) × (node < length held.old) × (256 ≤ length emissions.old) }
+    ensures { LeafRan (leaf_of kind (get_or inputs.now.table.now (2 * node + 1) 0)) node taken held.old held.new emissions.old emissions.new result }
 {
-    let field = table::field_at(table, node);
+    let field = inputs.field_at(node);
     match kind {
         Kind::Pause => {
             held[node] = 1;
@@ -96,8 +97,8 @@ pub fn start_leaf(
 
 // What a node asks before its child is resumed, as a run of its own: the child is resumed if that ends, with code 0. A suspend
 // needs an answer, and keeps its pauses unless that is 0.
-pub fn ask(kind: Kind, answers: &[u8], taken: usize) -> Option<Reaction>
-    ensures { result ≡ asked (is_suspend kind) answers.now taken }
+pub fn ask(inputs: &Inputs, kind: Kind, taken: usize) -> Option<Reaction>
+    ensures { result ≡ asked (is_suspend kind) inputs.now.answers.now taken }
 {
     let free = Reaction {
         code: 0,
@@ -107,7 +108,7 @@ pub fn ask(kind: Kind, answers: &[u8], taken: usize) -> Option<Reaction>
     if kind != Kind::Suspend {
         return Some(free);
     }
-    let answer = *answers.get(taken)?;
+    let answer = inputs.answer_after(taken)?;
     if answer != 0 {
         return Some(Reaction::alone(1, taken + 1));
     }
@@ -118,10 +119,10 @@ pub fn ask(kind: Kind, answers: &[u8], taken: usize) -> Option<Reaction>
 }
 
 // Whether a pause is held at a node or beneath it; the counts are those of the pauses held before each node.
-pub fn holds_beneath(sizes: &[u16], counts: &[u16], node: usize) -> bool
-    requires { (node < length sizes.now) × (get_or sizes.now node 0 ≤ node + 1) × (node + 1 < length counts.now) }
-    ensures { result ≡ holds_beneath sizes.now counts.now node }
+pub fn holds_beneath(inputs: &Inputs, counts: &[u16], node: usize) -> bool
+    requires { (node < length inputs.now.sizes.now) × (get_or inputs.now.sizes.now node 0 ≤ node + 1) × (node + 1 < length counts.now) }
+    ensures { result ≡ holds_beneath inputs.now.sizes.now counts.now node }
 {
-    let first = node + 1 - table::size_at(sizes, node);
+    let first = node + 1 - inputs.size_at(node);
     counts[first] < counts[node + 1]
 }

@@ -2,49 +2,27 @@
 // output. What it reads is `input`'s, what it prints `listing`'s; this file only moves bytes.
 #![tactic(auto)]
 
-ghost use Rattle.std.specs.Prelude.{◌*◌, ◌<◌, length};
-ghost use Rattle.esterel.specs.Limits.{max_nodes};
-ghost use Rattle.list.specs.Lists.{Lists};
+ghost use Rattle.list.specs.Lists.{IsListing};
+ghost use Rattle.list.specs.Whole.{listing_of_front};
 
-use input::{Input, Source};
-use std::io::{Read, Write};
+use program::Text;
 use std::process::ExitCode;
 
-#[derive(Drop)]
-enum Listed {
-    Text { end: usize },
-    Failed,
-}
+struct Listing;
 
-// Reads the input and lists all of it, also where it does not fit in the buffer: what fits is too long a table then, too.
-fn list_input<R: Read>(
-    reader: &mut R,
-    buffer: &mut [u8],
-    text: &mut [u8; listing::MAX_TEXT],
-) -> Listed
-    requires { 2 * max_nodes < length buffer.old }
-    ensures { Lists buffer.old buffer.new text.old text.new result }
-{
-    let input = input::read(reader, buffer);
-    let Input::Bytes { length } = input else {
-        return Listed::Failed;
-    };
-    let end = listing::render_whole(&buffer[..length], text);
-    Listed::Text { end }
+impl Text<{ listing::MAX_TEXT }> for Listing {
+    ghost Said = { IsListing };
+
+    fn render(table: &[u8], text: &mut [u8; listing::MAX_TEXT]) -> usize {
+        listing::render_whole(table, text)
+    }
+
+    ghost of_front = { listing_of_front };
 }
 
 fn main(rt: HostRuntime) -> ExitCode {
     // One byte more than a table may have decides refusal 1, so no more is read.
     let mut buffer = [0u8; 2 * esterel::MAX_NODES + 1];
     let mut text = [0u8; listing::MAX_TEXT];
-    let mut source = Source::new(rt.stdin());
-    let listed = list_input(&mut source, &mut buffer, &mut text);
-    let Listed::Text { end } = listed else {
-        return output::tell_failure(&rt, "list: standard input", source.failure());
-    };
-    let mut writer = rt.stdout();
-    match writer.write_all(&text[..end]) {
-        Ok(()) => ExitCode::SUCCESS,
-        Err(e) => output::tell_failure(&rt, "list: standard output", Some(e)),
-    }
+    program::run::<{ listing::MAX_TEXT }, Listing>(&rt, "list", &mut buffer, &mut text)
 }

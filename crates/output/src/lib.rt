@@ -1,64 +1,32 @@
-// What the test programs write: the fields of a line, each after a space; and the bytes of a lent buffer before a call, by which
-// they tell whether it changed. And what a program says that could not read or write.
+// What the test programs write besides plain text; and the bytes of a lent buffer before a call, by which they tell whether it changed.
+// And what a program says that could not read or write.
 #![tactic(auto)]
 
-ghost use Rattle.std.specs.Prelude.{◌+◌, ◌<◌, ◌≤◌, length};
+ghost use Rattle.std.specs.Prelude.{◌<◌};
 
+use esterel::Refusal;
 use std::io;
 use std::io::Write;
 use std::process::ExitCode;
 
-// The bytes of the text of a field, of which each byte of a buffer takes two.
-const TEXT: usize = 4096;
-
-fn wide(x: u8) -> usize
-    ensures { result ≤ 255 }
-{
-    x as usize
+// What the byte at a place of a buffer is before the call: each is the successor of the one before it.
+fn before_call(at: usize, first: u8) -> u8 {
+    first.wrapping_add((at % 256) as u8)
 }
 
-fn successor(byte: u8) -> u8 {
-    if byte == 255 { 0 } else { byte + 1 }
-}
-
-// What a buffer holds before the call: each byte the successor of the one before it.
+// What a buffer holds before the call.
 pub fn fill(bytes: &mut [u8], first: u8) {
-    let mut byte = first;
-    let mut i: usize = 0;
-    while i < bytes.len() {
-        bytes[i] = byte;
-        byte = successor(byte);
-        i += 1;
+    for (at, byte) in bytes.iter_mut().enumerate() {
+        *byte = before_call(at, first);
     }
 }
 
 // Whether the buffer is as `fill` left it.
 pub fn is_filled(bytes: &[u8], first: u8) -> bool {
-    let mut byte = first;
-    let mut i: usize = 0;
-    while i < bytes.len() {
-        if bytes[i] != byte {
-            return false;
-        }
-        byte = successor(byte);
-        i += 1;
-    }
-    true
-}
-
-// Each function below answers whether all was written.
-pub fn write_word<W: Write>(writer: &mut W, word: &[u8]) -> bool {
-    writer.write_all(word).is_ok()
-}
-
-// A space and a number.
-pub fn write_number<W: Write>(writer: &mut W, n: usize) -> bool {
-    write!(writer, " {n}").is_ok()
-}
-
-// A space and a byte as a number.
-pub fn write_byte<W: Write>(writer: &mut W, byte: u8) -> bool {
-    write_number(writer, wide(byte))
+    bytes
+        .iter()
+        .enumerate()
+        .all(|(at, byte)| *byte == before_call(at, first))
 }
 
 fn digit(four: u8) -> u8
@@ -71,42 +39,33 @@ fn digit(four: u8) -> u8
     }
 }
 
-// The two digits of a byte.
-fn put_hex(text: &mut [u8], at: usize, byte: u8)
-    requires { at + 1 < length text.old }
-{
-    text[at] = digit(byte / 16);
-    text[at + 1] = digit(byte % 16);
-}
+// The bytes of the text of a field, of which each byte of a buffer takes two.
+const TEXT: usize = 4096;
 
-// A space and the bytes in hexadecimal, or a dash for none.
-pub fn write_hex<W: Write>(writer: &mut W, bytes: &[u8]) -> bool {
-    if bytes.len() == 0 {
-        return write_word(writer, b" -");
+// A space and the bytes in hexadecimal, or a dash for none. It fails where they are too many for the text, which is written at once.
+pub fn write_hex<W: Write>(writer: &mut W, bytes: &[u8]) -> io::Result<()> {
+    if bytes.is_empty() {
+        return writer.write_all(b" -");
     }
     let mut text = [0u8; TEXT];
     if text.len() / 2 < bytes.len() {
-        return false;
+        return Err(io::ErrorKind::InvalidInput.into());
     }
-    let mut i: usize = 0;
-    while i < bytes.len() {
-        put_hex(&mut text, 2 * i, bytes[i]);
-        i += 1;
+    for (digits, byte) in text.chunks_exact_mut(2).zip(bytes) {
+        digits[0] = digit(byte / 16);
+        digits[1] = digit(byte % 16);
     }
-    let end = 2 * i;
-    write_word(writer, b" ") && write_word(writer, &text[..end])
+    writer.write_all(b" ")?;
+    writer.write_all(&text[..2 * bytes.len()])
 }
 
 // The word and the two figures of a refusal.
-pub fn write_refusal<W: Write>(writer: &mut W, number: u8, node: usize) -> bool {
-    write_word(writer, b"refused") && write_byte(writer, number) && write_number(writer, node)
+pub fn write_refusal<W: Write>(writer: &mut W, refusal: Refusal) -> io::Result<()> {
+    write!(writer, "refused {} {}", refusal.check as u8, refusal.node)
 }
 
 // Says on standard error what could not be done, and the system's reason, and answers the status that the program ends with.
-pub fn tell_failure<E: Eprint>(rt: &E, what: &str, reason: Option<io::Error>) -> ExitCode {
-    let _ = match reason {
-        Some(e) => eprintln!(rt; "{what}: {e}"),
-        None => eprintln!(rt; "{what}"),
-    };
+pub fn tell_failure<E: Eprint>(rt: &E, program: &str, what: &str, reason: io::Error) -> ExitCode {
+    let _ = eprintln!(rt; "{program}: {what}: {reason}");
     ExitCode::FAILURE
 }

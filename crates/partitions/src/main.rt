@@ -2,10 +2,11 @@
 // compare/src/bin/partitions.rs says. Each answer is written as a line. The expected output comes from compare/.
 #![tactic(auto)]
 
-ghost use Rattle.std.specs.Prelude.{◌+◌, ◌<◌, length};
+ghost use Rattle.std.specs.Prelude.{◌≤◌, length};
 
 use blocks::Fetched;
 use input::LARGE_BUFFER;
+use std::io;
 use std::io::{Read, Write};
 
 // The bytes of a call, and of the head of a file.
@@ -14,23 +15,11 @@ const CALL: usize = 8;
 const HEAD: usize = 4;
 
 // The end of a line: whether the lent bytes from a place on are as they were.
-fn end_line<W: Write>(writer: &mut W, table: &[u8], at: usize, first: u8) -> bool {
-    if table.len() < at {
-        return false;
-    }
-    let past = ((first as usize + at % 256) % 256) as u8;
-    if output::is_filled(&table[at..], past) {
-        return output::write_word(writer, b" =\n");
-    }
-    output::write_word(writer, b" changed\n")
-}
-
-// The bytes of the table that was fetched.
-fn write_table<W: Write>(writer: &mut W, table: &[u8], length: usize) -> bool {
-    if table.len() < length {
-        return false;
-    }
-    output::write_hex(writer, &table[0..length])
+fn end_line<W: Write>(writer: &mut W, table: &[u8], at: usize, first: u8) -> io::Result<()>
+    requires { at ≤ length table.now }
+{
+    let same = output::is_filled(&table[at..], first.wrapping_add((at % 256) as u8));
+    writeln!(writer, " {}", if same { "=" } else { "changed" })
 }
 
 // The lent table holds the successors of a byte before the call.
@@ -40,100 +29,83 @@ fn run_fetch<W: Write>(
     program: u16,
     first: u8,
     table: &mut [u8],
-) -> bool {
+) -> io::Result<()> {
     output::fill(table, first);
-    let fetched = blocks::fetch(file, program, table);
-    match fetched {
-        Fetched::Done {
-            length,
-            edition,
-            parts,
-        } => output::write_word(writer, b"done")
-            && output::write_number(writer, length)
-            && output::write_number(writer, edition as usize)
-            && output::write_byte(writer, parts)
-            && write_table(writer, table, length)
-            && end_line(writer, table, length, first),
-        Fetched::Refused { number, node } => {
-            output::write_refusal(writer, number, node) && end_line(writer, table, 0, first)
+    match blocks::fetch(file, program, table) {
+        Ok(
+            Fetched {
+                length,
+                edition,
+                parts,
+            },
+        ) => {
+            write!(writer, "done {length} {edition} {parts}")?;
+            output::write_hex(writer, &table[..length])?;
+            end_line(writer, table, length, first)
+        }
+        Err(refusal) => {
+            output::write_refusal(writer, refusal)?;
+            end_line(writer, table, 0, first)
         }
     }
 }
 
-fn run_part<W: Write>(writer: &mut W, file: &[u8], program: u16, edition: u16, number: u8) -> bool {
+fn run_part<W: Write>(
+    writer: &mut W,
+    file: &[u8],
+    program: u16,
+    edition: u16,
+    number: u8,
+) -> io::Result<()> {
     let span = blocks::locate(file, program, edition, number);
-    output::write_word(writer, b"part")
-        && output::write_number(writer, span.from)
-        && output::write_number(writer, span.length)
-        && output::write_hex(writer, blocks::part(file, program, edition, number))
-        && output::write_word(writer, b"\n")
+    write!(writer, "part {} {}", span.from, span.length)?;
+    output::write_hex(writer, blocks::part(file, program, edition, number))?;
+    writeln!(writer)
 }
 
-// Runs a call; false where it can't be written.
-fn run_call<W: Write>(writer: &mut W, file: &[u8], call: &[u8], table: &mut [u8]) -> bool
-    requires { 7 < length call.now }
-{
+// Runs a call.
+fn run_call<W: Write>(
+    writer: &mut W,
+    file: &[u8],
+    call: &[u8; CALL],
+    table: &mut [u8],
+) -> io::Result<()> {
     let program = input::length_at(call, 1) as u16;
     if call[0] == 0 {
         return run_fetch(writer, file, program, call[1], table);
     }
-    run_part(
-        writer,
-        file,
-        program,
-        input::length_at(call, 3) as u16,
-        call[5],
-    )
+    let edition = input::length_at(call, 3) as u16;
+    run_part(writer, file, program, edition, call[5])
 }
 
 // Reads the next call on a file and runs it.
-fn run_next<R: Read, W: Write>(reader: &mut R, writer: &mut W, file: &[u8]) -> bool {
+fn run_next<R: Read, W: Write>(reader: &mut R, writer: &mut W, file: &[u8]) -> io::Result<()> {
     let mut call = [0u8; CALL];
-    if !input::read_full(reader, &mut call) {
-        return false;
-    }
-    let room = input::length_at(&call, 6);
+    input::read_full(reader, &mut call)?;
     let mut table = [0u8; LARGE_BUFFER];
-    run_call(writer, file, &call, &mut table[..room])
+    run_call(
+        writer,
+        file,
+        &call,
+        &mut table[..input::length_at(&call, 6)],
+    )
 }
 
-// Reads a file and runs the calls on it; false at the end of the input.
-fn run_calls<R: Read, W: Write>(
-    reader: &mut R,
-    writer: &mut W,
-    file: &mut [u8],
-    calls: usize,
-) -> bool {
-    if !input::read_full(reader, file) {
-        return false;
-    }
-    let mut left = calls;
-    while left > 0 {
-        if !run_next(reader, writer, file) {
-            return false;
-        }
-        left -= 1;
-    }
-    true
-}
-
-fn run_file<R: Read, W: Write>(reader: &mut R, writer: &mut W) -> bool {
+// Reads the next file and runs the calls on it.
+fn run_file<R: Read, W: Write>(reader: &mut R, writer: &mut W) -> io::Result<()> {
     let mut head = [0u8; HEAD];
-    if !input::read_full(reader, &mut head) {
-        return false;
+    input::read_full(reader, &mut head)?;
+    let mut buffer = [0u8; LARGE_BUFFER];
+    let file = &mut buffer[..input::length_at(&head, 0)];
+    input::read_full(reader, file)?;
+    for _ in 0..input::length_at(&head, 2) {
+        run_next(reader, writer, file)?;
     }
-    let length = input::length_at(&head, 0);
-    let calls = input::length_at(&head, 2);
-    let mut file = [0u8; LARGE_BUFFER];
-    run_calls(reader, writer, &mut file[..length], calls)
+    Ok(())
 }
 
-// A proved loop has to end, so the files are counted down from more than there are.
 fn main(rt: HostRuntime) {
     let mut reader = rt.stdin();
     let mut writer = rt.stdout();
-    let mut left: usize = 65536;
-    while left > 0 && run_file(&mut reader, &mut writer) {
-        left -= 1;
-    }
+    input::for_each_case(|| run_file(&mut reader, &mut writer));
 }

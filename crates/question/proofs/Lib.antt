@@ -4,7 +4,6 @@ pub mod Looks
 pub mod Answers
 pub mod Suffice
 pub mod Theorems
-pub mod Small
 pub mod Beneath
 pub mod Looking
 pub mod Asking

@@ -21,7 +21,9 @@ use Rattle.table.specs.declared.Kind.{Kind}
 use Rattle.table.proofs.Views.{spans, Over, Both, kind-is, has_last, one_of, two_of_lem, first_le}
 use Rattle.analysis.specs.Analysis.{Sized}
 use Rattle.question.specs.Question.{Found, found, asking, after, or_else, asks_second, and_then, max_code, range, whole, look}
-use Rattle.question.specs.Steps.{Counted, counted, counted_of, look_at, passed_up, joined_of, looks_at_all, stops_at, passed_code}
+use Rattle.question.specs.Calls.{told, told_of}
+use Rattle.question.specs.declared.Asked.{Asked}
+use Rattle.question.specs.Steps.{look_at, passed_up, joined_of, looks_at_all, stops_at, passed_code}
 use Rattle.question.proofs.Lists.{length-range}
 use Rattle.question.proofs.Looks.{limited_in, limited_out, look-fits}
 
@@ -87,22 +89,16 @@ tested-is i parallel p q code a e = absurd (false≢true (sym a))
 
 -- ---- the counts
 
-abbrev member_in : Counted → Bool
-member_in (counted member looked) = member
+passed-up : (n : ℕ) (x : Found) → passed_up (told_of x) ≡ told_of (asking n x)
+passed-up n (found m ns) = ap (told m) (omega arith)
 
-abbrev looked_in : Counted → ℕ
-looked_in (counted member looked) = looked
-
-passed-up : (n : ℕ) (x : Found) → passed_up (counted_of x) ≡ counted_of (asking n x)
-passed-up n (found m ns) = ap (counted m) (omega arith)
-
-else_done : (n : ℕ) (x y : Found) {m : Bool} {l : ℕ} → counted m l ≡ counted_of x → m ≡ true → passed_up (counted m l) ≡ counted_of (asking n (or_else x y))
+else_done : (n : ℕ) (x y : Found) {r : Asked} → r ≡ told_of x → r.answer ≡ true → passed_up r ≡ told_of (asking n (or_else x y))
 else_done n (found true ns) y e z = ap passed_up e ∙ passed-up n (found true ns)
-else_done n (found false ns) y e z = absurd (false≢true (sym (ap member_in e) ∙ z))
+else_done n (found false ns) y e z = absurd (false≢true (sym (ap (λ a. a.answer) e) ∙ z))
 
-else_asks_lem : (n : ℕ) (x y : Found) {m : Bool} {l : ℕ} → counted m l ≡ counted_of x → m ≡ false → joined_of (counted m l) (counted_of y) ≡ counted_of (asking n (or_else x y))
-else_asks_lem n (found true ns) y e z = absurd (false≢true (sym z ∙ ap member_in e))
-else_asks_lem n (found false ns) (found b ms) e z = ap (λ c. joined_of c (counted b (length ms))) e ∙ ap (counted b) (omega (arith, length-append ns ms))
+else_asks_lem : (n : ℕ) (x y : Found) {r : Asked} → r ≡ told_of x → r.answer ≡ false → joined_of r (told_of y) ≡ told_of (asking n (or_else x y))
+else_asks_lem n (found true ns) y e z = absurd (false≢true (sym z ∙ ap (λ a. a.answer) e))
+else_asks_lem n (found false ns) (found b ms) e z = ap (λ c. joined_of c (told b (length ms))) e ∙ ap (told b) (omega (arith, length-append ns ms))
 
 -- a sequence, by the test that the code makes
 asks-by : (a : Codes) (k : ℕ) → asks_second a k ≡ not (without_ended a k || not (a 0))
@@ -119,17 +115,17 @@ asks-by a (suc k) = go (a 0) (a (suc k))
     go false true = refl
     go false false = refl
 
-then-done : (j i n : ℕ) (a : Codes) (k : ℕ) (y : Found) → (without_ended a k || not (a 0)) ≡ true → passed_up (counted (without_ended a k) n) ≡ counted_of (asking j (after (range i n) (and_then a k y)))
+then-done : (j i n : ℕ) (a : Codes) (k : ℕ) (y : Found) → (without_ended a k || not (a 0)) ≡ true → passed_up (told (without_ended a k) n) ≡ told_of (asking j (after (range i n) (and_then a k y)))
 then-done j i n a k y e =
-    ap (counted (without_ended a k)) (omega (arith, length-range i n, length-append (range i n) []))
+    ap (told (without_ended a k)) (omega (arith, length-range i n, length-append (range i n) []))
     ∙ passed-up j (after (range i n) (found (without_ended a k) []))
-    ∙ ap (λ b. counted_of (asking j (after (range i n) (cond b y (found (without_ended a k) []))))) (sym (asks-by a k ∙ ap not e))
+    ∙ ap (λ b. told_of (asking j (after (range i n) (cond b y (found (without_ended a k) []))))) (sym (asks-by a k ∙ ap not e))
 
-then-asks : (j i n : ℕ) (a : Codes) (k : ℕ) (y : Found) → (without_ended a k || not (a 0)) ≡ false → joined_of (counted (without_ended a k) n) (counted_of y) ≡ counted_of (asking j (after (range i n) (and_then a k y)))
+then-asks : (j i n : ℕ) (a : Codes) (k : ℕ) (y : Found) → (without_ended a k || not (a 0)) ≡ false → joined_of (told (without_ended a k) n) (told_of y) ≡ told_of (asking j (after (range i n) (and_then a k y)))
 then-asks j i n a k (found b ms) e =
-    ap (λ c. joined_of (counted c n) (counted b (length ms))) (cannot_pass (without_ended a k) (λ z. false-not-true e (inl_true (without_ended a k) (not (a 0)) z)))
-    ∙ ap (counted b) (omega (arith, length-range i n, length-append (range i n) ms))
-    ∙ ap (λ c. counted_of (asking j (after (range i n) (cond c (found b ms) (found (without_ended a k) []))))) (sym (asks-by a k ∙ ap not e))
+    ap (λ c. joined_of (told c n) (told b (length ms))) (cannot_pass (without_ended a k) (λ z. false-not-true e (inl_true (without_ended a k) (not (a 0)) z)))
+    ∙ ap (told b) (omega (arith, length-range i n, length-append (range i n) ms))
+    ∙ ap (λ c. told_of (asking j (after (range i n) (cond c (found b ms) (found (without_ended a k) []))))) (sym (asks-by a k ∙ ap not e))
 
 -- ---- at a node of an accepted table
 
@@ -138,8 +134,8 @@ module _ {t sizes : List ℕ} (ok : Sized true t sizes) {i : ℕ} (h : i < size 
   size_few : size (stmt_at t i) ≤ max_nodes
   size_few = omega (arith, spans t i h, ok.few)
 
-  pub looked-few : (k : ℕ) {m : Bool} {n : ℕ} → counted m n ≡ look_at t i k → n ≤ max_nodes
-  looked-few k e = omega (arith, ap looked_in e, (look-fits (first_at t i) (stmt_at t i) k).most, size_few)
+  pub looked-few : (k : ℕ) {r : Asked} → r ≡ look_at t i k → r.count ≤ max_nodes
+  looked-few k e = omega (arith, ap (λ r. r.count) e, (look-fits (first_at t i) (stmt_at t i) k).most, size_few)
 
   pub own-few : {n : ℕ} → n ≡ get_or sizes i 0 → n ≤ max_nodes
   own-few e = omega (arith, ok.measured.sized i h, size_few)
@@ -152,10 +148,10 @@ module _ {t sizes : List ℕ} (ok : Sized true t sizes) {i : ℕ} (h : i < size 
     by_all : {b : Bool} → all ≡ b → {w : Stmt} → stmt_at t i ≡ w → looks_at_all (kind_of (kind w)) code ≡ b
     by_all a e = ap (λ y. looks_at_all y code) (sym (kind_of_lem e)) ∙ sym ea ∙ a
 
-    pub all_looks : all ≡ true → {set n : ℕ} {m : Bool} → set ≡ word (start_set (stmt_at t i)) → m ≡ (set ∋ code) → n ≡ get_or sizes i 0 → counted m n ≡ look_at t i code
+    pub all_looks : all ≡ true → {set n : ℕ} {m : Bool} → set ≡ word (start_set (stmt_at t i)) → m ≡ (set ∋ code) → n ≡ get_or sizes i 0 → told m n ≡ look_at t i code
     all_looks a es em en =
-        ap₂ counted (em ∙ ap (λ y. y ∋ code) es ∙ ∋_word (start_set (stmt_at t i)) code (omega arith)) (en ∙ ok.measured.sized i h ∙ sym (length-range (first_at t i) (size (stmt_at t i))))
-        ∙ sym (ap counted_of (all-is (first_at t i) (stmt_at t i) code (by_all a refl)))
+        ap₂ told (em ∙ ap (λ y. y ∋ code) es ∙ ∋_word (start_set (stmt_at t i)) code (omega arith)) (en ∙ ok.measured.sized i h ∙ sym (length-range (first_at t i) (size (stmt_at t i))))
+        ∙ sym (ap told_of (all-is (first_at t i) (stmt_at t i) code (by_all a refl)))
 
     module _ (a : all ≡ false) where
       has-child : arity_of k ≡ 0 → ⊥
@@ -173,16 +169,16 @@ module _ {t sizes : List ℕ} (ok : Sized true t sizes) {i : ℕ} (h : i < size 
           child : (u : Unary) × (p : Stmt) × Child u p
           child = one_of ok.measured h ek en refl z
 
-          look_one : {u : Unary} {p : Stmt} → Child u p → look_at t i code ≡ counted_of (look (first_at t i) (one u p) code)
-          look_one v = ap (λ w. counted_of (look (first_at t i) w code)) v.is
+          look_one : {u : Unary} {p : Stmt} → Child u p → look_at t i code ≡ told_of (look (first_at t i) (one u p) code)
+          look_one v = ap (λ w. told_of (look (first_at t i) w code)) v.is
 
           by-stop : {b : Bool} → stop ≡ b → {u : Unary} {p : Stmt} → Child u p → stops_at (kind_of (kind (one u p))) code ≡ b
           by-stop y v = ap (λ x. stops_at x code) (sym (kind_of_lem v.is)) ∙ sym eq ∙ y
 
-          pub stop_looks : stop ≡ true → counted false 1 ≡ look_at t i code
+          pub stop_looks : stop ≡ true → told false 1 ≡ look_at t i code
           stop_looks y =
               let (u, p, v) = child in
-              sym (look_one v ∙ ap counted_of (stop_is (first_at t i) u p code (by_all a v.is) (by-stop y v)))
+              sym (look_one v ∙ ap told_of (stop_is (first_at t i) u p code (by_all a v.is) (by-stop y v)))
 
           module _ (y : stop ≡ false) {next : ℕ} (ex : next ≡ passed_code k code) where
             passes : (u : Unary) (p : Stmt) → Child u p → PassedOn (first_at t i) u p code next
@@ -193,11 +189,11 @@ module _ {t sizes : List ℕ} (ok : Sized true t sizes) {i : ℕ} (h : i < size 
             pub pass-low : next ≤ max_code
             pass-low = let (u, p, v) = child in (passes u p v).low
 
-            pub pass_looks : {x w : Counted} → x ≡ look_at t (i - 1) next → w ≡ passed_up x → w ≡ look_at t i code
+            pub pass_looks : {x w : Asked} → x ≡ look_at t (i - 1) next → w ≡ passed_up x → w ≡ look_at t i code
             pass_looks ei ew =
                 let (u, p, v) = child in
-                ew ∙ ap passed_up (ei ∙ ap₂ (λ j w. counted_of (look j w next)) v.first v.child) ∙ passed-up (first_at t i + size p) (look (first_at t i) p next)
-                ∙ sym (look_one v ∙ ap counted_of (passes u p v).is)
+                ew ∙ ap passed_up (ei ∙ ap₂ (λ j w. told_of (look j w next)) v.first v.child) ∙ passed-up (first_at t i + size p) (look (first_at t i) p next)
+                ∙ sym (look_one v ∙ ap told_of (passes u p v).is)
 
         -- two children, of which the second has s nodes
         module _ (z : n ≡ 1 → ⊥) {s : ℕ} (es : s ≡ get_or sizes (i - 1) 0) where
@@ -207,11 +203,11 @@ module _ {t sizes : List ℕ} (ok : Sized true t sizes) {i : ℕ} (h : i < size 
           pub first_below : s ≤ i - 1
           first_below = first_le ok.measured h ek en es (λ e. has-child (sym en ∙ e)) z
 
-          look-two : {b : Binary} {p q : Stmt} → Both t i s b p q → look_at t i code ≡ counted_of (look (first_at t i) (two b p q) code)
-          look-two v = ap (λ w. counted_of (look (first_at t i) w code)) v.is
+          look-two : {b : Binary} {p q : Stmt} → Both t i s b p q → look_at t i code ≡ told_of (look (first_at t i) (two b p q) code)
+          look-two v = ap (λ w. told_of (look (first_at t i) w code)) v.is
 
-          look-right : {b : Binary} {p q : Stmt} → Both t i s b p q → look_at t (i - 1) code ≡ counted_of (look (first_at t i + size p) q code)
-          look-right v = ap₂ (λ j w. counted_of (look j w code)) v.second v.right
+          look-right : {b : Binary} {p q : Stmt} → Both t i s b p q → look_at t (i - 1) code ≡ told_of (look (first_at t i + size p) q code)
+          look-right v = ap₂ (λ j w. told_of (look j w code)) v.second v.right
 
           module _ {seq : Bool} (eq : seq ≡ is_sequence k) where
             by_kind : {x : Bool} → seq ≡ x → {b : Binary} {p q : Stmt} → Both t i s b p q → is_sequence (kind_of (kind (two b p q))) ≡ x
@@ -240,33 +236,33 @@ module _ {t sizes : List ℕ} (ok : Sized true t sizes) {i : ℕ} (h : i < size 
                 asked_as : {x : Bool} → (stays || not ends) ≡ x → (without_ended (start_set p) code || not (start_set p 0)) ≡ x
                 asked_as e = ap₂ (λ x y. x || not y) (sym stays_as) (sym ends_as) ∙ e
 
-              pub first_settles : (stays || not ends) ≡ true → {w : Counted} → w ≡ passed_up (counted stays own) → w ≡ look_at t i code
+              pub first_settles : (stays || not ends) ≡ true → {w : Asked} → w ≡ passed_up (told stays own) → w ≡ look_at t i code
               first_settles done ew =
                   let (p, q, v) = ordered in
-                  ew ∙ ap₂ (λ x n. passed_up (counted x n)) (stays_as v) (own_as v)
+                  ew ∙ ap₂ (λ x n. passed_up (told x n)) (stays_as v) (own_as v)
                   ∙ then-done (first_at t i + (size p + size q)) (first_at t i) (size p) (start_set p) code (look (first_at t i + size p) q code) (asked_as v done) ∙ sym (look-two v)
 
-              pub second-asked : (stays || not ends) ≡ false → {x w : Counted} → x ≡ look_at t (i - 1) code → w ≡ joined_of (counted stays own) x → w ≡ look_at t i code
+              pub second-asked : (stays || not ends) ≡ false → {x w : Asked} → x ≡ look_at t (i - 1) code → w ≡ joined_of (told stays own) x → w ≡ look_at t i code
               second-asked asks ex ew =
                   let (p, q, v) = ordered in
-                  ew ∙ ap (joined_of (counted stays own)) (ex ∙ look-right v) ∙ ap₂ (λ x n. joined_of (counted x n) (counted_of (look (first_at t i + size p) q code))) (stays_as v) (own_as v)
+                  ew ∙ ap (joined_of (told stays own)) (ex ∙ look-right v) ∙ ap₂ (λ x n. joined_of (told x n) (told_of (look (first_at t i + size p) q code))) (stays_as v) (own_as v)
                   ∙ then-asks (first_at t i + (size p + size q)) (first_at t i) (size p) (start_set p) code (look (first_at t i + size p) q code) (asked_as v asks) ∙ sym (look-two v)
 
             -- a present
-            module _ (y : seq ≡ false) {m : Bool} {l : ℕ} (ex : counted m l ≡ look_at t (i - 1 - s) code) where
-              then_is : {b : Binary} {p q : Stmt} → Both t i s b p q → counted m l ≡ counted_of (look (first_at t i) p code)
-              then_is v = ex ∙ ap₂ (λ j w. counted_of (look j w code)) v.first v.left
+            module _ (y : seq ≡ false) {r : Asked} (ex : r ≡ look_at t (i - 1 - s) code) where
+              then_is : {b : Binary} {p q : Stmt} → Both t i s b p q → r ≡ told_of (look (first_at t i) p code)
+              then_is v = ex ∙ ap₂ (λ j w. told_of (look j w code)) v.first v.left
 
-              present-is : (b : Binary) (p q : Stmt) → Both t i s b p q → look_at t i code ≡ counted_of (asking (first_at t i + (size p + size q)) (or_else (look (first_at t i) p code) (look (first_at t i + size p) q code)))
-              present-is b p q v = look-two v ∙ ap counted_of (tested-is (first_at t i) b p q code (by_all a v.is) (by_kind y v))
+              present-is : (b : Binary) (p q : Stmt) → Both t i s b p q → look_at t i code ≡ told_of (asking (first_at t i + (size p + size q)) (or_else (look (first_at t i) p code) (look (first_at t i + size p) q code)))
+              present-is b p q v = look-two v ∙ ap told_of (tested-is (first_at t i) b p q code (by_all a v.is) (by_kind y v))
 
-              pub then-has : m ≡ true → {w : Counted} → w ≡ passed_up (counted m l) → w ≡ look_at t i code
+              pub then-has : r.answer ≡ true → {w : Asked} → w ≡ passed_up r → w ≡ look_at t i code
               then-has e ew =
                   let (b, p, q, v) = children in
                   ew ∙ else_done (first_at t i + (size p + size q)) (look (first_at t i) p code) (look (first_at t i + size p) q code) (then_is v) e ∙ sym (present-is b p q v)
 
-              pub else_asked : m ≡ false → {x w : Counted} → x ≡ look_at t (i - 1) code → w ≡ joined_of (counted m l) x → w ≡ look_at t i code
+              pub else_asked : r.answer ≡ false → {x w : Asked} → x ≡ look_at t (i - 1) code → w ≡ joined_of r x → w ≡ look_at t i code
               else_asked e ez ew =
                   let (b, p, q, v) = children in
-                  ew ∙ ap (joined_of (counted m l)) (ez ∙ look-right v)
+                  ew ∙ ap (joined_of r) (ez ∙ look-right v)
                   ∙ else_asks_lem (first_at t i + (size p + size q)) (look (first_at t i) p code) (look (first_at t i + size p) q code) (then_is v) e ∙ sym (present-is b p q v)

@@ -11,52 +11,52 @@ use Rattle.codes.specs.Words.{◌∋◌}
 use Rattle.esterel.specs.Limits.{max_nodes}
 use Rattle.esterel.specs.Statement.{Stmt, size, nodes}
 use Rattle.esterel.specs.Sets.{start_set}
+use Rattle.esterel.specs.Refusal.{Reply, yields, rejects}
 use Rattle.esterel.specs.Table.{Verdict, passed, refused}
 use Rattle.esterel.specs.Checks.{verdict}
 use Rattle.esterel.specs.Outcome.{statement_at}
 use Rattle.esterel.proofs.Accepted.{acceptance}
+use Rattle.esterel.proofs.Replies.{rejects≢yields}
 use Rattle.esterel.proofs.Refusals.{refusals}
-use Rattle.analysis.specs.Analysis.{Analysis}
-use Rattle.analysis.specs.declared.Analysed.TheVariants.{Done}
+use Rattle.analysis.specs.Analysis.{Analysis, done}
 use Rattle.analysis.proofs.Theorems.{demand2_of_call}
 use Rattle.question.specs.Question.{nodes_of, max_code}
-use Rattle.question.specs.Calls.{question_at, known_of, asked_of}
+use Rattle.question.specs.Calls.{question_at, told, told_of, tells, asked_of}
 use Rattle.question.specs.Theorems.{Refusal, of_table, outside, OfAsk}
 use Rattle.question.specs.declared.Asked.{Asked}
-use Rattle.question.specs.declared.Asked.TheVariants.{Known, Refused}
 use Rattle.question.proofs.Answers.{answers}
 use Rattle.question.proofs.Theorems.{looks}
 
+-- what is told is told once
+told_once : {a b : Bool} {m n : ℕ} → tells a m ≡ tells b n → (a ≡ b) × (m ≡ n)
+told_once {a} {b} {m} {n} e = let z : told a m ≡ told b n = cc in (ap (λ r. r.answer) z, ap (λ r. r.count) z)
+
 module _ (t : List ℕ) (node code : ℕ) where
-  by-verdict : {v : Verdict} → verdict t ≡ v → {r : Asked} → r ≡ asked_of (verdict t) node code → r ≡ asked_of v node code
+  by-verdict : {v : Verdict} → verdict t ≡ v → {r : Reply Asked} → r ≡ asked_of (verdict t) node code → r ≡ asked_of v node code
   by-verdict e er = er ∙ ap (λ v. asked_of v node code) e
 
-  of_table_lem : (number at : ℕ) (r : Asked) → verdict t ≡ refused number at → r ≡ asked_of (verdict t) node code → r ≡ Refused number at
+  of_table_lem : (number at : ℕ) (r : Reply Asked) → verdict t ≡ refused number at → r ≡ asked_of (verdict t) node code → r ≡ rejects number at
   unfolding asked_of
   of_table_lem number at r e er = by-verdict e er
 
-  by-node : {p : Stmt} → verdict t ≡ passed p → {r : Asked} → r ≡ asked_of (verdict t) node code → {b : Bool} → ltb node (size p) ≡ b → r ≡ cond b (known_of (question_at p node code)) (Refused 21 0)
+  by-node : {p : Stmt} → verdict t ≡ passed p → {r : Reply Asked} → r ≡ asked_of (verdict t) node code → {b : Bool} → ltb node (size p) ≡ b → r ≡ cond b (yields (told_of (question_at p node code))) (rejects 21 0)
   unfolding asked_of
-  by-node {p} e er z = by-verdict e er ∙ ap (λ b. cond b (known_of (question_at p node code)) (Refused 21 0)) z
+  by-node {p} e er z = by-verdict e er ∙ ap (λ b. cond b (yields (told_of (question_at p node code))) (rejects 21 0)) z
 
-  known_at : (p : Stmt) (r : Asked) → verdict t ≡ passed p → node < size p → r ≡ asked_of (verdict t) node code → r ≡ Known (start_set (statement_at (nodes p) node) code) (length (nodes_of (question_at p node code)))
+  known_at : (p : Stmt) (r : Reply Asked) → verdict t ≡ passed p → node < size p → r ≡ asked_of (verdict t) node code → r ≡ tells (start_set (statement_at (nodes p) node) code) (length (nodes_of (question_at p node code)))
   known_at p r e h er =
-      by-node e er (lt-ltb node (size p) h) ∙ ap (λ m. Known m (length (nodes_of (question_at p node code)))) (answers.exact p (acceptance t p e).1 node code)
+      by-node e er (lt-ltb node (size p) h) ∙ ap (λ m. tells m (length (nodes_of (question_at p node code)))) (answers.exact p (acceptance t p e).1 node code)
 
-  -- an answer is of one kind
-  no_refusal : {A : Type 0} {m : Bool} {n number at : ℕ} → Known m n ≡ Refused number at → A
-  no_refusal e = absurd (let z : ◌≡◌ {A = ℕ} 0 1 = cc in omega arith)
-
-  of_verdict : (number at : ℕ) → Refused number at ≡ asked_of (verdict t) node code → (v : Verdict) → verdict t ≡ v → Refusal t node number at
+  of_verdict : (number at : ℕ) → rejects number at ≡ asked_of (verdict t) node code → (v : Verdict) → verdict t ≡ v → Refusal t node number at
   of_verdict number at er (refused a b) e =
-      let z = of_table_lem a b (Refused number at) e er in
+      let z = of_table_lem a b (rejects number at) e er in
       let en : number ≡ a = cc in
       let ea : at ≡ b = cc in
       of_table number at (e ∙ ap₂ refused (sym en) (sym ea)) (refusals t number at (e ∙ ap₂ refused (sym en) (sym ea)))
   of_verdict number at er (passed p) e = go (ltb node (size p)) refl
     where
       go : (b : Bool) → ltb node (size p) ≡ b → Refusal t node number at
-      go true z = no_refusal (sym (by-node e er z))
+      go true z = absurd (rejects≢yields (by-node e er z))
       go false z =
           let y = by-node e er z in
           let en : number ≡ 21 = cc in
@@ -64,7 +64,7 @@ module _ (t : List ℕ) (node code : ℕ) where
           rw (en, ea) (outside p e (ltb-false node (size p) z))
 
   -- its number, and a node that a table can have
-  pub numbered : (number at : ℕ) → Refused number at ≡ asked_of (verdict t) node code → (1 ≤ number) × (number ≤ 21) × (at < max_nodes)
+  pub numbered : (number at : ℕ) → rejects number at ≡ asked_of (verdict t) node code → (1 ≤ number) × (number ≤ 21) × (at < max_nodes)
   numbered number at er = go (of_verdict number at er (verdict t) refl)
     where
       go : {n a : ℕ} → Refusal t node n a → (1 ≤ n) × (n ≤ 21) × (a < max_nodes)
@@ -77,23 +77,24 @@ module _ (t : List ℕ) (node code : ℕ) where
     pub is_member : answer ≡ start_set (statement_at (nodes p) node) code
     pub counts : count ≡ length (nodes_of (question_at p node code))
 
-  at-node : (p : Stmt) (count : ℕ) (answer : Bool) → verdict t ≡ passed p → Known answer count ≡ asked_of (verdict t) node code → At p count answer
+  at-node : (p : Stmt) (count : ℕ) (answer : Bool) → verdict t ≡ passed p → tells answer count ≡ asked_of (verdict t) node code → At p count answer
   at-node p count answer e er = go (ltb node (size p)) refl
     where
       go : (b : Bool) → ltb node (size p) ≡ b → At p count answer
       go true z =
           let h = ltb-true node (size p) z in
-          let y = known_at p (Known answer count) e h er in
-          record { inside = h; is_member = cc; counts = cc }
-      go false z = no_refusal (by-node e er z)
+          let y = known_at p (tells answer count) e h er in
+          let (same, many) = told_once y in
+          record { inside = h; is_member = same; counts = many }
+      go false z = absurd (rejects≢yields (sym (by-node e er z)))
 
-  bounds : (p : Stmt) (count : ℕ) (answer : Bool) → verdict t ≡ passed p → Known answer count ≡ asked_of (verdict t) node code → (count ≤ size (statement_at (nodes p) node)) × (code ≤ max_code → 1 ≤ count) × (max_code < code → count ≡ 0)
+  bounds : (p : Stmt) (count : ℕ) (answer : Bool) → verdict t ≡ passed p → tells answer count ≡ asked_of (verdict t) node code → (count ≤ size (statement_at (nodes p) node)) × (code ≤ max_code → 1 ≤ count) × (max_code < code → count ≡ 0)
   bounds p count answer e er =
       let x = at-node p count answer e er in
       let i = suc node - size (statement_at (nodes p) node) in
       (omega (arith, x.counts, looks.at_most i (statement_at (nodes p) node) code), λ h. omega (arith, x.counts, looks.at_least i (statement_at (nodes p) node) code h), λ h. x.counts ∙ ap length (looks.above i (statement_at (nodes p) node) code h))
 
-listed_at : (t k a s m k' a' s' m' : List ℕ) (n d node code count : ℕ) (answer : Bool) → Analysis t k a s m k' a' s' m' (Done n d) → Known answer count ≡ asked_of (verdict t) node code → (node < n) × (answer ≡ (get_or k' node 0 ∋ code))
+listed_at : (t k a s m k' a' s' m' : List ℕ) (n d node code count : ℕ) (answer : Bool) → Analysis t k a s m k' a' s' m' (done n d) → tells answer count ≡ asked_of (verdict t) node code → (node < n) × (answer ≡ (get_or k' node 0 ∋ code))
 listed_at t k a s m k' a' s' m' n d node code count answer o er =
     let x = demand2_of_call.sets t k a s m k' a' s' m' n d o in
     let y = at-node t node code x.program count answer x.accepted er in

@@ -1,34 +1,23 @@
 -- The rule of F-12 as the code goes through it: by the kind of a node, and with the number of the nodes looked at alone.
-use Rattle.std.specs.Prelude.{ℕ, ◌+◌, Bool, ◌&&◌, ◌||◌, cond, List, eqb, leb, length}
+use Rattle.std.specs.Prelude.{ℕ, ◌+◌, Bool, ◌&&◌, ◌||◌, cond, List, eqb, leb}
 use Rattle.table.specs.Kinds.{arity_of, is_trap, is_loop, is_parallel}
 use Rattle.table.specs.Columns.{stmt_at, first_at}
 use Rattle.table.specs.declared.Kind.{Kind}
-use Rattle.question.specs.Question.{Found, member_of, nodes_of, max_code, look}
-use Rattle.question.specs.declared.Answer.{Answer}
-
--- whether the code is in the set, and how many nodes were looked at
-pub data Counted : Type 0 where
-  counted : (member : Bool) (looked : ℕ) → Counted
-
--- what is found, by the number of nodes
-abbrev pub counted_of : Found → Counted
-counted_of x = counted (member_of x) (length (nodes_of x))
-
--- what the code says
-abbrev pub said_by : Answer → Counted
-said_by r = counted r.member r.looked
+use Rattle.question.specs.Question.{max_code, look}
+use Rattle.question.specs.Calls.{told, told_of}
+use Rattle.question.specs.declared.Asked.{Asked}
 
 -- what is found at a node of a table
-abbrev pub look_at : List ℕ → (node code : ℕ) → Counted
-look_at t node k = counted_of (look (first_at t node) (stmt_at t node) k)
+abbrev pub look_at : List ℕ → (node code : ℕ) → Asked
+look_at t node k = told_of (look (first_at t node) (stmt_at t node) k)
 
--- the answer of a node one of whose children settles it
-abbrev pub passed_up : Counted → Counted
-passed_up (counted member looked) = counted member (looked + 1)
+-- what is told of a node one of whose children settles it
+abbrev pub passed_up : Asked → Asked
+passed_up x = told x.answer (x.count + 1)
 
--- the answer of a node both of whose children are asked
-abbrev pub joined_of : Counted → Counted → Counted
-joined_of (counted m l) (counted n k) = counted (m || n) (l + k + 1)
+-- what is told of a node both of whose children are asked
+abbrev pub joined_of : Asked → Asked → Asked
+joined_of x y = told (x.answer || y.answer) (x.count + y.count + 1)
 
 -- every node is looked at
 abbrev pub looks_at_all : Kind → (code : ℕ) → Bool

@@ -5,16 +5,15 @@ use Rattle.codes.specs.Words.{◌∋◌}
 use Rattle.esterel.specs.Limits.{max_nodes}
 use Rattle.esterel.specs.Statement.{Leaf, Unary, Binary, Stmt, leaf, one, two, size, nodes}
 use Rattle.esterel.specs.Sets.{start_set}
+use Rattle.esterel.specs.Refusal.{Reply, rejects}
 use Rattle.esterel.specs.Table.{passed, refused}
 use Rattle.esterel.specs.Checks.{verdict}
 use Rattle.esterel.specs.Outcome.{statement_at, member}
 use Rattle.esterel.specs.Theorems.{Accepted}
-use Rattle.analysis.specs.Analysis.{Analysis}
-use Rattle.analysis.specs.declared.Analysed.TheVariants.{Done}
+use Rattle.analysis.specs.Analysis.{Analysis, done}
 use Rattle.question.specs.Question.{member_of, nodes_of, max_code, question}
-use Rattle.question.specs.Calls.{question_at, asked_of}
+use Rattle.question.specs.Calls.{question_at, tells, asked_of}
 use Rattle.question.specs.declared.Asked.{Asked}
-use Rattle.question.specs.declared.Asked.TheVariants.{Known, Refused}
 
 -- "The answer equals the full one"
 pub record Answers : Type 0 where
@@ -59,22 +58,22 @@ pub data Refusal (t : List ℕ) (node : ℕ) : (number at : ℕ) → Type 0 wher
 pub record OfAsk : Type 0 where
   -- a node of an accepted table: the answer is that of its start set, and the count is that of the nodes looked at
   pub known :
-      (t : List ℕ) (p : Stmt) (node code : ℕ) (r : Asked) →
+      (t : List ℕ) (p : Stmt) (node code : ℕ) (r : Reply Asked) →
       verdict t ≡ passed p → node < size p → r ≡ asked_of (verdict t) node code →
-      r ≡ Known (start_set (statement_at (nodes p) node) code) (length (nodes_of (question_at p node code)))
+      r ≡ tells (start_set (statement_at (nodes p) node) code) (length (nodes_of (question_at p node code)))
   -- that is at most the size of the node's subtree, at least 1 for a code up to 63, and 0 for one above
   pub counts :
       (t : List ℕ) (p : Stmt) (node code count : ℕ) (answer : Bool) →
-      verdict t ≡ passed p → Known answer count ≡ asked_of (verdict t) node code →
+      verdict t ≡ passed p → tells answer count ≡ asked_of (verdict t) node code →
       (count ≤ size (statement_at (nodes p) node)) × (code ≤ max_code → 1 ≤ count) × (max_code < code → count ≡ 0)
   -- the answer is the bit that `analyse` leaves, in whatever buffers
   pub as_listed :
       (t k a s m k' a' s' m' : List ℕ) (n d node code count : ℕ) (answer : Bool) →
-      Analysis t k a s m k' a' s' m' (Done n d) → Known answer count ≡ asked_of (verdict t) node code →
+      Analysis t k a s m k' a' s' m' (done n d) → tells answer count ≡ asked_of (verdict t) node code →
       (node < n) × (answer ≡ (get_or k' node 0 ∋ code))
-  pub refusals : (t : List ℕ) (node code number at : ℕ) → Refused number at ≡ asked_of (verdict t) node code → Refusal t node number at
+  pub refusals : (t : List ℕ) (node code number at : ℕ) → rejects number at ≡ asked_of (verdict t) node code → Refusal t node number at
   pub of_table :
-      (t : List ℕ) (node code number at : ℕ) (r : Asked) → verdict t ≡ refused number at → r ≡ asked_of (verdict t) node code → r ≡ Refused number at
+      (t : List ℕ) (node code number at : ℕ) (r : Reply Asked) → verdict t ≡ refused number at → r ≡ asked_of (verdict t) node code → r ≡ rejects number at
   pub outside :
-      (t : List ℕ) (p : Stmt) (node code : ℕ) (r : Asked) →
-      verdict t ≡ passed p → size p ≤ node → r ≡ asked_of (verdict t) node code → r ≡ Refused 21 0
+      (t : List ℕ) (p : Stmt) (node code : ℕ) (r : Reply Asked) →
+      verdict t ≡ passed p → size p ≤ node → r ≡ asked_of (verdict t) node code → r ≡ rejects 21 0

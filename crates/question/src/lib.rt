@@ -4,6 +4,7 @@
 ghost use Rattle.std.specs.Prelude.{◌≡◌, true, ◌≤◌, ◌<◌};
 ghost use Rattle.codes.specs.Codes.{word};
 ghost use Rattle.esterel.specs.Limits.{max_nodes};
+ghost use Rattle.esterel.specs.Refusal.{reply};
 ghost use Rattle.esterel.specs.Statement.{size};
 ghost use Rattle.esterel.specs.Sets.{start_set};
 ghost use Rattle.esterel.specs.Checks.{verdict};
@@ -11,40 +12,43 @@ ghost use Rattle.table.specs.Program.{program_of};
 ghost use Rattle.table.specs.Columns.{stmt_at};
 ghost use Rattle.analysis.specs.Analysis.{Sized};
 ghost use Rattle.question.specs.Question.{max_code};
-ghost use Rattle.question.specs.Steps.{said_by, look_at, passed_up, joined_of, looks_at_all, stops_at, passed_code};
-ghost use Rattle.question.specs.Calls.{refusal_of, asked_of};
+ghost use Rattle.question.specs.Steps.{look_at, passed_up, joined_of, looks_at_all, stops_at, passed_code};
+ghost use Rattle.question.specs.Calls.{asked_of};
 
-use table::{Check, Kind};
+use esterel::{Check, Refusal};
+use table::Kind;
 
 // The greatest code that a set can have.
 const MAX_CODE: usize = 63;
 
-// What is found: whether the code is in the set, and how many nodes were looked at.
-#[derive(Drop)]
-struct Answer {
-    member: bool,
-    looked: usize,
+// What a question tells: whether the code is in the node's start set, and how many nodes were looked at.
+#[derive(Clone, Copy, PartialEq, Eq)]
+pub struct Asked {
+    pub answer: bool,
+    pub count: usize,
 }
 
-// The answer of a node one of whose children settles it.
-fn passed_up(inner: Answer) -> Answer
-    requires { inner.looked ≤ max_nodes }
-    ensures { said_by result ≡ passed_up (said_by inner) }
-{
-    Answer {
-        member: inner.member,
-        looked: inner.looked + 1,
+impl Asked {
+    // What is told of a node one of whose children settles it, from what is told of the child.
+    fn passed_up(self) -> Asked
+        requires { self.count ≤ max_nodes }
+        ensures { result ≡ passed_up self }
+    {
+        Asked {
+            answer: self.answer,
+            count: self.count + 1,
+        }
     }
-}
 
-// The answer of a node both of whose children were asked.
-fn joined(first: Answer, second: Answer) -> Answer
-    requires { (first.looked ≤ max_nodes) × (second.looked ≤ max_nodes) }
-    ensures { said_by result ≡ joined_of (said_by first) (said_by second) }
-{
-    Answer {
-        member: first.member | second.member,
-        looked: first.looked + second.looked + 1,
+    // What is told of a node both of whose children were asked.
+    fn joined(self, second: Asked) -> Asked
+        requires { (self.count ≤ max_nodes) × (second.count ≤ max_nodes) }
+        ensures { result ≡ joined_of self second }
+    {
+        Asked {
+            answer: self.answer || second.answer,
+            count: self.count + second.count + 1,
+        }
     }
 }
 
@@ -52,14 +56,14 @@ fn joined(first: Answer, second: Answer) -> Answer
 fn looks_at_all(kind: Kind, code: usize) -> bool
     ensures { result ≡ looks_at_all kind code }
 {
-    (table::arity(kind) == 0) | table::is_parallel(kind) | table::is_trap(kind) & (code == 0)
+    kind.arity() == 0 || kind == Kind::Parallel || kind == Kind::Trap && code == 0
 }
 
 // Whether a node with one child looks no further: a loop asked for 0, and a trap that would pass 64 on.
 fn stops(kind: Kind, code: usize) -> bool
     ensures { result ≡ stops_at kind code }
 {
-    table::is_loop(kind) & (code == 0) | table::is_trap(kind) & (code == MAX_CODE)
+    kind == Kind::Loop && code == 0 || kind == Kind::Trap && code == MAX_CODE
 }
 
 // The code that a node with one child passes on: a trap passes 1 as 1, and k from 2 as k + 1.
@@ -67,20 +71,22 @@ fn passed_code(kind: Kind, code: usize) -> usize
     requires { code ≤ max_code }
     ensures { result ≡ passed_code kind code }
 {
-    if table::is_trap(kind) & (2 <= code) {
+    if kind == Kind::Trap && 2 <= code {
         return code + 1;
     }
     code
 }
 
 // The start set of the statement at a node, from those of the statements beneath it: every node of the subtree is looked at, and no other.
+// The new form is no plainer: one function for this and `set_at` of the crate tied would be handed the way to a child's set, which is a read
+// of a list there and a call of the function itself here.
 fn set_at(table: &[u8], sizes: &[u16], node: usize) -> u64
     requires { Sized true table.now sizes.now × (node < size (program_of table.now)) }
     ensures { result ≡ word (start_set (stmt_at table.now node)) }
 {
     let kind = table::kind_at(table, node);
     let field = table::field_at(table, node);
-    let children = table::arity(kind);
+    let children = kind.arity();
     if children == 0 {
         return analysis::codes_of(false, kind, field, 0, 0);
     }
@@ -93,93 +99,68 @@ fn set_at(table: &[u8], sizes: &[u16], node: usize) -> u64
 }
 
 // The statement at a node is asked for a code. Each call is upon a child, and no node is looked at that the rule does not name.
-fn look_at(table: &[u8], sizes: &[u16], node: usize, code: usize) -> Answer
+fn look_at(table: &[u8], sizes: &[u16], node: usize, code: usize) -> Asked
     requires { Sized true table.now sizes.now × (node < size (program_of table.now)) × (code ≤ max_code) }
-    ensures { said_by result ≡ look_at table.now node code }
+    ensures { result ≡ look_at table.now node code }
 {
     let kind = table::kind_at(table, node);
     if looks_at_all(kind, code) {
         let set = set_at(table, sizes, node);
-        return Answer {
-            member: codes::has(set, code as u32),
-            looked: table::size_at(sizes, node),
+        return Asked {
+            answer: codes::has(set, code as u32),
+            count: table::size_at(sizes, node),
         };
     }
     let last = node - 1;
-    if table::arity(kind) == 1 {
+    if kind.arity() == 1 {
         if stops(kind, code) {
-            return Answer {
-                member: false,
-                looked: 1,
+            return Asked {
+                answer: false,
+                count: 1,
             };
         }
         let inner = look_at(table, sizes, last, passed_code(kind, code));
-        return passed_up(inner);
+        return inner.passed_up();
     }
     let first = last - table::size_at(sizes, last);
-    if table::is_sequence(kind) {
+    if kind == Kind::Sequence {
         let set = set_at(table, sizes, first);
         let stays = codes::has(codes::without_ended(set), code as u32);
-        let own = Answer {
-            member: stays,
-            looked: table::size_at(sizes, first),
+        let own = Asked {
+            answer: stays,
+            count: table::size_at(sizes, first),
         };
         if stays | !codes::has(set, 0) {
-            return passed_up(own);
+            return own.passed_up();
         }
-        return joined(own, look_at(table, sizes, last, code));
+        return own.joined(look_at(table, sizes, last, code));
     }
     let then = look_at(table, sizes, first, code);
-    let has = then.member;
+    let has = then.answer;
     if has {
-        return passed_up(then);
+        return then.passed_up();
     }
-    joined(then, look_at(table, sizes, last, code))
-}
-
-// What a question answers: whether the code is in the node's start set and the number of nodes looked at, or the number and the node of
-// the refusal.
-#[derive(Clone, Copy)]
-pub enum Asked {
-    Known { answer: bool, count: usize },
-    Refused { number: u8, node: usize },
-}
-
-// The refusal that a check answers. It is not asked of one that passed.
-fn refused(check: Check) -> Asked
-    ensures { result ≡ refusal_of check }
-{
-    match check {
-        Check::Passed => Asked::Refused { number: 0, node: 0 },
-        Check::Refused { number, node } => Asked::Refused { number, node },
-    }
+    then.joined(look_at(table, sizes, last, code))
 }
 
 // Whether a code is in the start set of a node of an accepted table: checks 1, 2 and 4 to 11, then 21 for a node outside the table. A
 // code above 63 is in no set, and no node is looked at for it.
-pub fn ask(table: &[u8], node: usize, code: usize) -> Asked
-    ensures { result ≡ asked_of (verdict table.now) node code }
+pub fn ask(table: &[u8], node: usize, code: usize) -> Result<Asked, Refusal>
+    ensures { reply result ≡ asked_of (verdict table.now) node code }
 {
     let mut sizes = [0u16; esterel::MAX_NODES];
-    let check = analysis::check_sized(table, true, &mut sizes);
-    let Check::Passed = check else {
-        return refused(check);
-    };
+    analysis::check_sized(table, true, &mut sizes)?;
     if table.len() / 2 <= node {
-        return Asked::Refused {
-            number: 21,
+        return Err(Refusal {
+            check: Check::NoNode,
             node: 0,
-        };
+        });
     }
     if MAX_CODE < code {
-        return Asked::Known {
+        return Ok(Asked {
             answer: false,
             count: 0,
-        };
+        });
     }
-    let found = look_at(table, &sizes, node, code);
-    Asked::Known {
-        answer: found.member,
-        count: found.looked,
-    }
+    Ok(look_at(table, &sizes, node, code))
 }

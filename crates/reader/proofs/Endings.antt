@@ -17,10 +17,9 @@ use Rattle.sheet.specs.Sheet.{part, Part, name_at, Filled, Adds}
 use Rattle.scan.specs.Scanning.{rest, Lexed, NameAt, Lacks}
 use Rattle.grammar.proofs.Stops.{wants-name, wants-end, body_end, else_end, suspend_when, abort_when, refuses}
 use Rattle.scan.specs.declared.Part.{Part as Part'}
-use Rattle.reader.specs.declared.Strength.{Strength}
 use Rattle.reader.specs.declared.Frame as R
 use Rattle.reader.specs.declared.Frame.TheVariants as F
-use Rattle.reader.specs.Reading.{frame_of, RestIs, RestRead, Plain, PlainEnd, end_of}
+use Rattle.reader.specs.Reading.{frame_of, RestIs, RestRead, PlainEnd, end_of}
 
 -- a loop, which is what is left of the statements that `end` closes
 pub loop-ends : (x : List ℕ) (t t1 : Sheet) (f : R.Frame) → PlainEnd f → ((p : Part') → f ≡ F.Signal p → ⊥) → ((p : Part') → f ≡ F.Else p → ⊥) → ((p : Part') → f ≡ F.Trap p → ⊥) → Adds x t t1 (λ ts g. node 8 0 g) → (ts : List Name) (g : Progress) → Filled x t (traps_within (frame_of x f) ts) g → Filled x t1 ts (end_of (frame_of x f) g)
@@ -32,17 +31,6 @@ loop-ends x t t1 (F.Then p) i ns ne nt a ts g c = absurd i
 loop-ends x t t1 (F.Else p) i ns ne nt a ts g c = absurd (ne p refl)
 loop-ends x t t1 F.Suspend i ns ne nt a ts g c = absurd i
 loop-ends x t t1 (F.Abort w) i ns ne nt a ts g c = absurd i
-
--- what is left of the statements that have one sequence, once a suspend and an abort are gone
-pub plain_end : (f : R.Frame) → (f ≡ F.Suspend → ⊥) → ((w : Strength) → f ≡ F.Abort w → ⊥) → Plain f → PlainEnd f
-plain_end F.Bracket m n i = absurd i
-plain_end (F.Signal p) m n i = tt
-plain_end F.Loop m n i = tt
-plain_end (F.Trap p) m n i = tt
-plain_end (F.Then p) m n i = absurd i
-plain_end (F.Else p) m n i = tt
-plain_end F.Suspend m n i = m refl
-plain_end (F.Abort w) m n i = n w refl
 
 module _ (x : List ℕ) (at : ℕ) (stops : Lacks x at (mark G.semicolon)) (t : Sheet) where
   -- `end`

@@ -29,9 +29,9 @@ use Rattle.packing.specs.Packing.{state_bytes, pack, unpack, admits}
 use Rattle.packing.proofs.Bits.{length-pack, length-unpack}
 use Rattle.packing.proofs.Theorems.{pack-clear, unpack_of, clear_of}
 use Rattle.analysis.proofs.Theorems.{demand2_of_call}
-use Rattle.instant.specs.Calls.{verdict_for, closing, start_call, resume_call, answer_of, state_after, emissions_after, Starting, Resuming}
+use Rattle.instant.specs.Calls.{reacts, verdict_for, closing, start_call, resume_call, answer_of, state_after, emissions_after, Starting, Resuming}
 use Rattle.instant.specs.Theorems.{Lent, Exact}
-use Rattle.esterel.specs.Refusal.{Reply, yields, rejects}
+use Rattle.esterel.specs.Refusal.{rejects}
 use Rattle.instant.proofs.Entering.{admitted-small}
 use Rattle.instant.proofs.Theorems.{starts_as, resumes_as, demand3_of_calls}
 use Rattle.reentry.specs.Theorems.{MarksOf, Left, fresh, onward, Marked, NoUnmarkedReentryOfCalls}

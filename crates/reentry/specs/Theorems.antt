@@ -7,8 +7,7 @@ use Rattle.esterel.specs.Checks.{verdict}
 use Rattle.esterel.specs.Instant.{Result, zeros, start, resume}
 use Rattle.esterel.specs.Reentry.{Reached, Happens, Twice, Holding, Started}
 use Rattle.packing.specs.Packing.{state_bytes, pack, unpack}
-use Rattle.analysis.specs.Analysis.{Analysis}
-use Rattle.analysis.specs.declared.Analysed.TheVariants.{Done}
+use Rattle.analysis.specs.Analysis.{done, Analysis}
 use Rattle.instant.specs.Calls.{reacts, Starting, Resuming}
 use Rattle.instant.specs.Theorems.{Exact}
 
@@ -24,7 +23,7 @@ pub record MarksOf (t : List ℕ) (p : Stmt) (marks' : List ℕ) : Type 0 where
   pub nodes : ℕ
   pub depth : ℕ
   pub program : verdict t ≡ passed p
-  pub analysed : Analysis t starts anys contexts marks starts' anys' contexts' marks' (Done nodes depth)
+  pub analysed : Analysis t starts anys contexts marks starts' anys' contexts' marks' (done nodes depth)
 
 -- What a sequence of calls over t leaves in the 128 bytes of state (F-11): a `start`, then any number of `resume`s, each from what the
 -- call before left, and each answers code 1. The answers and the buffers may be others each time.

@@ -2,11 +2,9 @@
 use mathlib.Core.Path.{◌≡◌, refl, sym, ap, ◌∙◌}
 use mathlib.Core.Bool.{Bool, true, false}
 use mathlib.Core.List.{List, [], ◌∷◌}
-use Prim.Native.Nat.{ℕ, zero, suc, ◌+◌, ◌≤◌, ◌<◌}
+use Prim.Native.Nat.{ℕ, zero, suc, ◌≤◌, ◌<◌}
 use native.Mathlib.Omega.{arith}
-use lib.Dec.{eqb}
 use lib.ListN.{length, get_or}
-use borrow.Author.Tests.{eqb-true, eqb-false}
 use Rattle.grammar.specs.Tokens.{same_bytes}
 use Rattle.grammar.specs.Tree.{Name}
 use Rattle.grammar.specs.Names.{place}
@@ -28,9 +26,6 @@ pub record Without (x : List ℕ) (ks : List Kept) (p : S.Part) (i : ℕ) : Type
   pub others : (ns : List Name) → InText x p → Listed x ks ns → length ns ≡ length ks → (j : ℕ) → j < i → same_bytes (get_or ns j []) (name_at x p) ≡ false
 
 module _ (x : List ℕ) (ks : List Kept) (p : S.Part) where
-  pub without-first : Without x ks p 0
-  without-first = record { others = λ ns v l e j h. absurd (omega arith) }
-
   tested : (i : ℕ) {t : Bool} (q : S.Part) → i < length ks → q.start ≡ (get_or ks i nowhere).start → q.stop ≡ (get_or ks i nowhere).stop → (InText x q → InText x p → t ≡ same_bytes (name_at x q) (name_at x p)) → (ns : List Name) → InText x p → Listed x ks ns → length ns ≡ length ks → same_bytes (get_or ns i []) (name_at x p) ≡ t
   tested i q h a e r ns v l z =
       let k : Entry x (get_or ks i nowhere) (get_or ns i []) = l.at i (omega arith) in
@@ -40,15 +35,6 @@ module _ (x : List ℕ) (ks : List Kept) (p : S.Part) where
   module _ (i : ℕ) {t : Bool} (q : S.Part) (h : i < length ks) (a : q.start ≡ (get_or ks i nowhere).start) (e : q.stop ≡ (get_or ks i nowhere).stop) (r : InText x q → InText x p → t ≡ same_bytes (name_at x q) (name_at x p)) (o : Without x ks p i) where
     pub found_at : t ≡ true → (ns : List Name) → InText x p → Listed x ks ns → length ns ≡ length ks → i ≡ place ns (name_at x p)
     found_at c ns v l z = place_at ns (name_at x p) i (omega arith) (o.others ns v l z) (tested i q h a e r ns v l z ∙ c)
-
-    pub one_more : t ≡ false → Without x ks p (i + 1)
-    one_more c = record {
-      others = λ ns v l z j g. go ns v l z j g (eqb j i) refl;
-    }
-      where
-        go : (ns : List Name) → InText x p → Listed x ks ns → length ns ≡ length ks → (j : ℕ) → j < i + 1 → (d : Bool) → eqb j i ≡ d → same_bytes (get_or ns j []) (name_at x p) ≡ false
-        go ns v l z j g true y = rw (eqb-true j i y) (tested i q h a e r ns v l z ∙ c)
-        go ns v l z j g false y = let ne : j ≡ i → ⊥ = eqb-false j i y in o.others ns v l z j (omega arith)
 
   pub none_found : (i : ℕ) → length ks ≤ i → Without x ks p i → (ns : List Name) → InText x p → Listed x ks ns → length ns ≡ length ks → length ns ≡ place ns (name_at x p)
   none_found i h o ns v l z = place_none ns (name_at x p) (λ j g. o.others ns v l z j (omega arith))

@@ -54,13 +54,6 @@ field-known x w ts g k f f' e c = record {
 }
 
 -- a signal's name
-see-long : (ns : List Name) (s : Name) → length ns ≤ length (see ns s)
-see-long ns s = go (has ns s)
-  where
-    go : (c : Bool) → length ns ≤ length (cond c ns (ns ++ (s ∷ [])))
-    go true = omega arith
-    go false = omega (arith, length-append ns (s ∷ []))
-
 nth_end : (ns : List Name) (s : Name) (i : ℕ) → i < length ns + 1 → (Entry' : Name → Type 0) → (i < length ns → Entry' (get_or ns i [])) → (i ≡ length ns → Entry' s) → Entry' (get_or (ns ++ (s ∷ [])) i [])
 nth_end ns s i h E f g = go (ltb i (length ns)) refl
   where
@@ -97,13 +90,6 @@ module _ (x : List ℕ) (p : S.Part) (w : Sheet) where
         go : (d : Bool) → ltb 256 (length g.seen) ≡ d → length g.seen ≤ 256
         go true e = absurd (omega (arith, c.many (ltb-true 256 (length g.seen) e)))
         go false e = ltb-false 256 (length g.seen) e
-
-    many-signals : 256 < w.signal_count → 256 < length g.seen
-    many-signals h = go (ltb 256 (length g.seen)) refl
-      where
-        go : (d : Bool) → ltb 256 (length g.seen) ≡ d → 256 < length g.seen
-        go true e = ltb-true 256 (length g.seen) e
-        go false e = let l : length g.seen ≤ 256 = ltb-false 256 (length g.seen) e in absurd (omega (arith, c.counted l))
 
     module _ (low : w.signal_count ≤ 256) where
       seen_few : length g.seen ≤ 256

@@ -4,7 +4,9 @@ use mathlib.Core.List.{List, [], ◌∷◌}
 use Prim.Native.Nat.{ℕ, zero, suc, ◌+◌, max}
 use Rattle.esterel.specs.Statement.{nothing, pause, emit, exit, signal, suspend, loop, trap, present, sequence, parallel, Stmt, leaf, one, two, size}
 use Rattle.esterel.specs.Instant.{started, Entry, Result, closed, starved, stuck, enter, onto, zeros_then, then_zeros, and_then, beside, body, catch, start}
-use Rattle.tied.specs.Ties.{Tie, unknown, tied_absent, tied_present, Ties, inside, test, start_tied}
+use Rattle.tied.specs.Ties.{Ties, inside, test, start_tied}
+use Rattle.tied.specs.declared.Tie.{Tie}
+use Rattle.tied.specs.declared.Tie.TheVariants.{Unknown, Absent, Present}
 use Rattle.tied.specs.Theorems.{Answered}
 
 -- where a result is closed, some answers make the run close so, and leave whatever is wanted
@@ -67,11 +69,11 @@ module _ (n s : ℕ) (p q : Stmt) where
 
   module _ {then other : List ℕ → Result} (first : (r : List ℕ) → Reached (start n p) (then r)) (last : (r : List ℕ) → Reached (start (n + size p) q) (other r)) where
     test-reached : (t : Tie) (ans : List ℕ) → Reached (start n (two (present s) p q)) (test t (λ r. enter (n + (size p + size q)) started (then_zeros (then r) (size q))) (λ r. enter (n + (size p + size q)) started (zeros_then (size p) (other r))) ans)
-    test-reached unknown [] = starve
-    test-reached unknown (suc a ∷ ans) = then-branch (first ans)
-    test-reached unknown (zero ∷ ans) = else_branch_lem (last ans)
-    test-reached tied_absent ans = else_branch_lem (last ans)
-    test-reached tied_present ans = then-branch (first ans)
+    test-reached Unknown [] = starve
+    test-reached Unknown (suc a ∷ ans) = then-branch (first ans)
+    test-reached Unknown (zero ∷ ans) = else_branch_lem (last ans)
+    test-reached Absent ans = else_branch_lem (last ans)
+    test-reached Present ans = then-branch (first ans)
 
 reached : (c : Ties) (p : Stmt) (n : ℕ) (ans : List ℕ) → Reached (start n p) (start_tied c n p ans)
 reached c (leaf nothing) n ans = close 0 _ _ ans (λ rest. (rest, refl))

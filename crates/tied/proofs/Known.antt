@@ -2,7 +2,7 @@
 use mathlib.Core.Path.{◌≡◌, refl, sym, ap, subst, ◌∙◌}
 use mathlib.Core.Bool.{Bool, true, false, ◌&&◌, cond}
 use mathlib.Core.List.{List}
-use Prim.Native.Nat.{ℕ, zero, suc, ◌+◌, ◌-◌, ◌*◌, ◌/◌, ◌≤◌, ◌<◌}
+use Prim.Native.Nat.{ℕ, suc, ◌+◌, ◌-◌, ◌*◌, ◌/◌, ◌≤◌, ◌<◌}
 use native.Mathlib.Decide.{dec_le, dec_lt}
 use native.Mathlib.Omega.{arith}
 use borrow.Author.Tests.{eqb-true, eqb-false, le-leb, lt-leb, lt-ltb, le-ltb}
@@ -20,17 +20,12 @@ use Rattle.table.specs.declared.Kind.{Kind}
 use Rattle.table.proofs.Bytes.{table-length, kind_byte, field_byte}
 use Rattle.table.proofs.Surveying.{few-nodes}
 use Rattle.table.proofs.Views.{spans}
-use Rattle.tied.specs.Ties.{tied_present, Ties, tie_of}
+use Rattle.tied.specs.Ties.{Ties}
+use Rattle.tied.specs.declared.Tie.{Tie}
+use Rattle.tied.specs.declared.Tie.TheVariants.{Unknown}
 use Rattle.tied.specs.Narrowed.{ties_at}
 use Rattle.tied.specs.Theorems.{InBody}
-use Rattle.tied.specs.Passes.{Known}
 use Rattle.tied.proofs.Theorems.{places}
-
--- the last of the three bytes
-pub else_present : (b : ℕ) → (b ≡ 0 → ⊥) → (b ≡ 1 → ⊥) → tie_of b ≡ tied_present
-else_present zero z y = absurd (z refl)
-else_present (suc zero) z y = absurd (y refl)
-else_present (suc (suc b)) z y = refl
 
 -- a kind tells a signal statement
 signal_of : (w : Stmt) → is_signal (kind_of (kind w)) ≡ true → (q : Stmt) × (w ≡ one (signal (field w)) q)
@@ -57,14 +52,14 @@ pub record Lowest (p : Stmt) (s i low : ℕ) : Type 0 where
   pub all : (node : ℕ) (body : Stmt) → i ≤ node → statement_at (nodes p) node ≡ one (signal s) body → low ≤ node - size body
 
 -- so that it tells whether node i stands in the body of one of them
-tie_here : (c : Ties) (p : Stmt) (s i low b : ℕ) → i < size p → Lowest p s (suc i) low → tie_of b ≡ c s → tie_of (cond (leb low i) 0 b) ≡ ties_at c p i s
-tie_here c p s i low b h o e = go (dec_le low i)
+tie_here : (c : Ties) (p : Stmt) (s i low : ℕ) → i < size p → Lowest p s (suc i) low → cond (leb low i) Unknown (c s) ≡ ties_at c p i s
+tie_here c p s i low h o = go (dec_le low i)
   where
-    go : Dec (low ≤ i) → tie_of (cond (leb low i) 0 b) ≡ ties_at c p i s
+    go : Dec (low ≤ i) → cond (leb low i) Unknown (c s) ≡ ties_at c p i s
     go (yes l) = rw (le-leb low i l) (sym (places.in_body c p s i (o.within i l (omega arith))))
     go (no l) =
         rw (lt-leb low i (omega arith))
-        (e ∙ sym (places.elsewhere c p s i h (λ x. let y = o.all x.node x.body (omega (arith, x.before)) x.is_signal in omega (arith, x.before, x.after))))
+        (sym (places.elsewhere c p s i h (λ x. let y = o.all x.node x.body (omega (arith, x.before)) x.is_signal in omega (arith, x.before, x.after))))
 
 -- one node more, which may be a signal statement of s: its first node is the lowest if it is below those so far
 module _ (p : Stmt) (s i low first : ℕ) (o : Lowest p s (suc i) low) (ends : first + size (statement_at (nodes p) i) ≡ suc i) where
@@ -122,14 +117,14 @@ module _ (p : Stmt) (s i low first : ℕ) (o : Lowest p s (suc i) low) (ends : f
   keep f ef d = same_low (λ q e. d (sym (ap field e) ∙ sym ef))
 
 -- from node i on, what is known of each node's own signal is in `known`, and the lowest nodes are in `lowest`
-pub record Finding (c : Ties) (t room known lowest : List ℕ) (i : ℕ) : Type 0 where
+pub record Finding (c : Ties) (t : List ℕ) (room known : List Tie) (lowest : List ℕ) (i : ℕ) : Type 0 where
   pub bound : i ≤ size (program_of t)
-  pub tied : (j : ℕ) → i ≤ j → j < size (program_of t) → tie_of (get_or known j 0) ≡ ties_at c (program_of t) j (field (stmt_at t j))
+  pub tied : (j : ℕ) → i ≤ j → j < size (program_of t) → get_or known j Unknown ≡ ties_at c (program_of t) j (field (stmt_at t j))
   pub lows : (s : ℕ) → s < signals → Lowest (program_of t) s i (get_or lowest s 0)
   pub same : length known ≡ length room
   pub long : length lowest ≡ signals
 
-pub begin : (c : Ties) {t : List ℕ} (room : List ℕ) → Readable t → Finding c t room room (replicate signals max_nodes) (length t / 2)
+pub begin : (c : Ties) {t : List ℕ} (room : List Tie) → Readable t → Finding c t room room (replicate signals max_nodes) (length t / 2)
 begin c {t} room ok =
     let nodes-are : length t / 2 ≡ size (program_of t) = omega (arith, table-length t ok) in
     let few = few-nodes t ok in
@@ -142,12 +137,9 @@ begin c {t} room ok =
     }
 
 -- the next node is i - 1
-module _ {c : Ties} {t sizes room known lowest : List ℕ} {i : ℕ} (ok : Measured t sizes) (o : Finding c t room known lowest i) (some : 0 < i) where
+module _ {c : Ties} {t sizes lowest : List ℕ} {room known : List Tie} {i : ℕ} (ok : Measured t sizes) (o : Finding c t room known lowest i) (some : 0 < i) where
   here : i - 1 < size (program_of t)
   here = omega (arith, o.bound)
-
-  pub in_reach : 2 * (i - 1) + 1 < length t
-  in_reach = omega (arith, o.bound, table-length t ok.readable)
 
   low-here : (s : ℕ) → s < signals → Lowest (program_of t) s (suc (i - 1)) (get_or lowest s 0)
   low-here s l = let e : i ≡ suc (i - 1) = omega arith in subst (λ n. Lowest (program_of t) s n (get_or lowest s 0)) e (o.lows s l)
@@ -158,22 +150,22 @@ module _ {c : Ties} {t sizes room known lowest : List ℕ} {i : ℕ} (ok : Measu
   ends : i - 1 + 1 - get_or sizes (i - 1) 0 + size (stmt_at t (i - 1)) ≡ suc (i - 1)
   ends = omega (arith, ok.sized (i - 1) here, fits)
 
-  -- with its kind and its field, and what the code makes of them: b is its signal's own byte
-  module _ {k : Kind} {f : ℕ} (ek : k ≡ kind_of (get_or t (2 * (i - 1)) 0)) (ef : f ≡ get_or t (2 * (i - 1) + 1) 0) (low : f < signals) (b : ℕ) {v v' : ℕ} (eb : tie_of b ≡ c f) (ev : v ≡ cond (leb (get_or lowest f 0) (i - 1)) 0 b) (ev' : v' ≡ cond (is_signal k && ltb (i - 1 + 1 - get_or sizes (i - 1) 0) (get_or lowest f 0)) (i - 1 + 1 - get_or sizes (i - 1) 0) (get_or lowest f 0)) where
+  -- with its kind and its field, and what the code makes of them
+  module _ {k : Kind} {f : ℕ} (ek : k ≡ kind_of (get_or t (2 * (i - 1)) 0)) (ef : f ≡ get_or t (2 * (i - 1) + 1) 0) (low : f < signals) {v : Tie} {v' : ℕ} (ev : v ≡ cond (leb (get_or lowest f 0) (i - 1)) Unknown (c f)) (ev' : v' ≡ cond (is_signal k && ltb (i - 1 + 1 - get_or sizes (i - 1) 0) (get_or lowest f 0)) (i - 1 + 1 - get_or sizes (i - 1) 0) (get_or lowest f 0)) where
     is-kind : k ≡ kind_of (kind (stmt_at t (i - 1)))
     is-kind = ek ∙ ap kind_of (kind_byte t ok.readable (i - 1) here)
 
     is_field : f ≡ field (stmt_at t (i - 1))
     is_field = ef ∙ field_byte t ok.readable (i - 1) here
 
-    own : tie_of v ≡ ties_at c (program_of t) (i - 1) (field (stmt_at t (i - 1)))
-    own = ap tie_of ev ∙ tie_here c (program_of t) f (i - 1) (get_or lowest f 0) b here (low-here f low) eb ∙ ap (ties_at c (program_of t) (i - 1)) is_field
+    own : v ≡ ties_at c (program_of t) (i - 1) (field (stmt_at t (i - 1)))
+    own = ev ∙ tie_here c (program_of t) f (i - 1) (get_or lowest f 0) here (low-here f low) ∙ ap (ties_at c (program_of t) (i - 1)) is_field
 
-    tied : size (program_of t) ≤ length room → (j : ℕ) → i - 1 ≤ j → j < size (program_of t) → Dec (i ≤ j) → tie_of (get_or (set known (i - 1) v) j 0) ≡ ties_at c (program_of t) j (field (stmt_at t j))
-    tied holds j lo hi (yes l) = ap tie_of (get_or-set_other known (i - 1) j v 0 (λ z. omega arith)) ∙ o.tied j l hi
+    tied : size (program_of t) ≤ length room → (j : ℕ) → i - 1 ≤ j → j < size (program_of t) → Dec (i ≤ j) → get_or (set known (i - 1) v) j Unknown ≡ ties_at c (program_of t) j (field (stmt_at t j))
+    tied holds j lo hi (yes l) = get_or-set_other known (i - 1) j v Unknown (λ z. omega arith) ∙ o.tied j l hi
     tied holds j lo hi (no l) =
         let z : j ≡ i - 1 = omega arith in
-        rw z (ap tie_of (get_or-set_same known (i - 1) v 0 (omega (arith, o.same, o.bound))) ∙ own)
+        rw z (get_or-set_same known (i - 1) v Unknown (omega (arith, o.same, o.bound)) ∙ own)
 
     lows : (s : ℕ) → s < signals → (e : Bool) → eqb s f ≡ e → Lowest (program_of t) s (i - 1) (get_or (set lowest f v') s 0)
     lows s l true e =
@@ -193,6 +185,3 @@ module _ {c : Ties} {t sizes room known lowest : List ℕ} {i : ℕ} (ok : Measu
           same = length-set known (i - 1) v ∙ o.same;
           long = length-set lowest f v' ∙ o.long;
         }
-
-pub finding-end : {c : Ties} {t room known lowest : List ℕ} {i : ℕ} → i ≤ 0 → Finding c t room known lowest i → Known c t known
-finding-end z o = record { at = λ j h. o.tied j (omega arith) h }

@@ -6,6 +6,7 @@ pub mod Some
 pub mod Theorems
 pub mod Known
 pub mod Words
+pub mod Reading
 pub mod Narrows
 pub mod OfNarrow
 pub mod Examples

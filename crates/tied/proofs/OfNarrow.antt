@@ -17,6 +17,7 @@ use Rattle.codes.proofs.Bools.{both, left, right, cannot_pass}
 use Rattle.esterel.specs.Limits.{max_nodes, signals}
 use Rattle.esterel.specs.Statement.{Stmt, size, nodes}
 use Rattle.esterel.specs.Sets.{start_set}
+use Rattle.esterel.specs.Refusal.{Reply, yields, rejects}
 use Rattle.esterel.specs.Table.{Verdict, passed, refused}
 use Rattle.esterel.specs.Checks.{verdict}
 use Rattle.esterel.specs.Outcome.{statement_at}
@@ -28,15 +29,14 @@ use Rattle.table.specs.Columns.{onto}
 use Rattle.analysis.specs.Analysis.{checked}
 use Rattle.analysis.proofs.Theorems.{verdict-nodes, checked-room, checked-passed, checked-told}
 use Rattle.analysis.proofs.Analyses.{checked-program}
-use Rattle.tied.specs.Ties.{unknown, Ties, tie_of, ties_of, none_tied}
+use Rattle.tied.specs.Ties.{Ties, tie_of, ties_of, none_tied}
+use Rattle.tied.specs.declared.Tie.TheVariants.{Unknown}
 use Rattle.tied.specs.Narrowed.{narrowed_at, words_of}
 use Rattle.tied.specs.Calls.{room_for, are_ties, check_ties, verdict_for, answer_of, sets_after, Narrowing}
 use Rattle.tied.specs.Theorems.{Lent, TieBytes, NarrowedSets, OfNarrow}
-use Rattle.tied.specs.declared.Narrowed.{Narrowed}
-use Rattle.tied.specs.declared.Narrowed.TheVariants.{Done, Refused}
 use Rattle.tied.proofs.Theorems.{exact, untied, fewer, never_empty, none_lost}
 use Rattle.tied.proofs.Words.{length-words, words-at}
-use Rattle.tied.proofs.Narrows.{are-ties}
+use Rattle.tied.proofs.Reading.{are-ties}
 
 -- ---- the bytes
 
@@ -61,17 +61,17 @@ module _ (ties : List ℕ) (room : signals ≤ length ties) where
 tie-at : (l : List ℕ) (s : ℕ) → s < signals → ties_of (take signals l) s ≡ tie_of (get_or l s 0)
 tie-at l s h = ap tie_of (get_or-take signals l s 0 h)
 
-tie_past : (l : List ℕ) (s : ℕ) → (s < signals → ⊥) → ties_of (take signals l) s ≡ unknown
+tie_past : (l : List ℕ) (s : ℕ) → (s < signals → ⊥) → ties_of (take signals l) s ≡ Unknown
 tie_past l s h = ap tie_of (get_or-eq_default (take signals l) 0 (omega (arith, length-take signals l)))
 
 -- ---- an answer is of one verdict
 
-refused_of : (v : Verdict) (number node : ℕ) → Refused number node ≡ answer_of v → v ≡ refused number node
+refused_of : (v : Verdict) (number node : ℕ) → rejects number node ≡ answer_of v → v ≡ refused number node
 unfolding answer_of
 refused_of (passed p) number node e = cc
 refused_of (refused a b) number node e = cc
 
-done_of : (v : Verdict) (n : ℕ) → Done n ≡ answer_of v → (p : Stmt) × (v ≡ passed p) × (n ≡ size p)
+done_of : (v : Verdict) (n : ℕ) → yields n ≡ answer_of v → (p : Stmt) × (v ≡ passed p) × (n ≡ size p)
 unfolding answer_of
 done_of (passed p) n e = (p, refl, cc)
 done_of (refused a b) n e = let z : ◌≡◌ {A = ℕ} 0 1 = cc in absurd (omega arith)
@@ -106,39 +106,39 @@ lent_of t ties old p e =
       },
     )
 
-module _ {t ties old new : List ℕ} {r : Narrowed} (o : Narrowing t ties old new r) where
+module _ {t ties old new : List ℕ} {r : Reply ℕ} (o : Narrowing t ties old new r) where
   module _ (l : Lent t ties old) where
     answer-is : r ≡ answer_of (check_ties ties (verdict t))
     answer-is =
         let room : room_for (length t / 2) (length old) (length ties) ≡ true = both (le-leb _ _ l.sets_room) (le-leb _ _ l.ties_room) in
         o.answer ∙ ap (λ b. answer_of (check_ties ties (checked b t))) room ∙ ap (λ v. answer_of (check_ties ties v)) (checked-room t)
 
-    table-own : (number node : ℕ) → verdict t ≡ refused number node → r ≡ Refused number node
+    table-own : (number node : ℕ) → verdict t ≡ refused number node → r ≡ rejects number node
     unfolding answer_of
     table-own number node e = answer-is ∙ ap (λ v. answer_of (check_ties ties v)) e
 
     by-ties : (p : Stmt) → verdict t ≡ passed p → (b : Bool) → are_ties (take signals ties) ≡ b → r ≡ answer_of (cond b (passed p) (refused 19 0))
     by-ties p e b z = answer-is ∙ ap (λ v. answer_of (check_ties ties v)) e ∙ ap (λ a. answer_of (cond a (passed p) (refused 19 0))) z
 
-  is-done : (n : ℕ) → (r ≡ Done n) ↔ ((p : Stmt) × (n ≡ size p) × (verdict t ≡ passed p) × Lent t ties old × TieBytes ties)
+  is-done : (n : ℕ) → (r ≡ yields n) ↔ ((p : Stmt) × (n ≡ size p) × (verdict t ≡ passed p) × Lent t ties old × TieBytes ties)
   unfolding answer_of
   is-done n = (there, back)
     where
-      there : r ≡ Done n → (p : Stmt) × (n ≡ size p) × (verdict t ≡ passed p) × Lent t ties old × TieBytes ties
+      there : r ≡ yields n → (p : Stmt) × (n ≡ size p) × (verdict t ≡ passed p) × Lent t ties old × TieBytes ties
       there e =
           let (p, v, en) = done_of (verdict_for t ties old) n (sym e ∙ o.answer) in
           let (z, x) = tied-passed ties (checked (room_for (length t / 2) (length old) (length ties)) t) p v in
           let (accepted, lent) = lent_of t ties old p z in
           (p, en, accepted, lent, all-ties ties x)
 
-      back : (p : Stmt) × (n ≡ size p) × (verdict t ≡ passed p) × Lent t ties old × TieBytes ties → r ≡ Done n
-      back (p, en, e, l, f) = by-ties l p e true (bytes-are ties l.ties_room f) ∙ ap Done (sym en)
+      back : (p : Stmt) × (n ≡ size p) × (verdict t ≡ passed p) × Lent t ties old × TieBytes ties → r ≡ yields n
+      back (p, en, e, l, f) = by-ties l p e true (bytes-are ties l.ties_room f) ∙ ap yields (sym en)
 
-  is_bad : (r ≡ Refused 19 0) ↔ ((p : Stmt) × (verdict t ≡ passed p) × Lent t ties old × ((s : ℕ) × (s < signals) × (2 < get_or ties s 0)))
+  is_bad : (r ≡ rejects 19 0) ↔ ((p : Stmt) × (verdict t ≡ passed p) × Lent t ties old × ((s : ℕ) × (s < signals) × (2 < get_or ties s 0)))
   unfolding answer_of
   is_bad = (there, back)
     where
-      there : r ≡ Refused 19 0 → (p : Stmt) × (verdict t ≡ passed p) × Lent t ties old × ((s : ℕ) × (s < signals) × (2 < get_or ties s 0))
+      there : r ≡ rejects 19 0 → (p : Stmt) × (verdict t ≡ passed p) × Lent t ties old × ((s : ℕ) × (s < signals) × (2 < get_or ties s 0))
       there e =
           let v = refused_of (verdict_for t ties old) 19 0 (sym e ∙ o.answer) in
           go (tied-refused ties (checked (room_for (length t / 2) (length old) (length ties)) t) 19 0 v)
@@ -147,7 +147,7 @@ module _ {t ties old new : List ℕ} {r : Narrowed} (o : Narrowing t ties old ne
           go (inl x) = absurd (omega (arith, (told-numbered (subst (Told 11) x (checked-told _ t))).known))
           go (inr (p, x, f, a, b)) = let (accepted, lent) = lent_of t ties old p x in (p, accepted, lent, no_tie ties lent.ties_room f)
 
-      back : (p : Stmt) × (verdict t ≡ passed p) × Lent t ties old × ((s : ℕ) × (s < signals) × (2 < get_or ties s 0)) → r ≡ Refused 19 0
+      back : (p : Stmt) × (verdict t ≡ passed p) × Lent t ties old × ((s : ℕ) × (s < signals) × (2 < get_or ties s 0)) → r ≡ rejects 19 0
       back (p, e, l, (s, h, f)) = by-ties l p e false (cannot_pass (are_ties (take signals ties)) (λ z. omega (arith, all-ties ties z s h)))
 
 -- ---- the sets
@@ -178,7 +178,7 @@ module _ (p : Stmt) (a : Accepted p) (c : Ties) (old : List ℕ) (room : size p 
         long = ap length is ∙ simp (length-append, length-drop) (omega (arith, length-words c p));
       }
 
-module _ {t ties old new : List ℕ} {n : ℕ} (o : Narrowing t ties old new (Done n)) where
+module _ {t ties old new : List ℕ} {n : ℕ} (o : Narrowing t ties old new (yields n)) where
   done-sets : (p : Stmt) × (verdict t ≡ passed p) × (n ≡ size p) × NarrowedSets p (ties_of (take signals ties)) old new
   unfolding sets_after
   done-sets =
@@ -194,34 +194,34 @@ module _ {t ties old new : List ℕ} {n : ℕ} (o : Narrowing t ties old new (Do
       let same : q ≡ p = cc in
       rw (← same) (sets.words i (omega arith))
 
-untied_sets : {t ties old new : List ℕ} {n : ℕ} → Narrowing t ties old new (Done n) → ((s : ℕ) → s < signals → get_or ties s 0 ≡ 0) → (p : Stmt) → verdict t ≡ passed p → (i : ℕ) → i < n → Represents (get_or new i 0) (start_set (statement_at (nodes p) i))
+untied_sets : {t ties old new : List ℕ} {n : ℕ} → Narrowing t ties old new (yields n) → ((s : ℕ) → s < signals → get_or ties s 0 ≡ 0) → (p : Stmt) → verdict t ≡ passed p → (i : ℕ) → i < n → Represents (get_or new i 0) (start_set (statement_at (nodes p) i))
 untied_sets {ties = ties} {new = new} o f p e i h =
     subst (Represents (get_or new i 0)) (ap (λ c. narrowed_at c p i) (fun_ext none) ∙ fun_ext (λ k. untied.sets p i k)) (done-set o p e i h)
   where
     none : (s : ℕ) → ties_of (take signals ties) s ≡ none_tied s
     none s = go (dec_lt s signals)
       where
-        go : Dec (s < signals) → ties_of (take signals ties) s ≡ unknown
+        go : Dec (s < signals) → ties_of (take signals ties) s ≡ Unknown
         go (yes l) = tie-at ties s l ∙ ap tie_of (f s l)
         go (no l) = tie_past ties s l
 
-fewer_codes : (t ties old new old' new' : List ℕ) (n s b : ℕ) → get_or ties s 0 ≡ 0 → Narrowing t ties old new (Done n) → Narrowing t (set ties s b) old' new' (Done n) → (i k : ℕ) → i < n → (get_or new' i 0 ∋ k) ≡ true → (get_or new i 0 ∋ k) ≡ true
+fewer_codes : (t ties old new old' new' : List ℕ) (n s b : ℕ) → get_or ties s 0 ≡ 0 → Narrowing t ties old new (yields n) → Narrowing t (set ties s b) old' new' (yields n) → (i k : ℕ) → i < n → (get_or new' i 0 ∋ k) ≡ true → (get_or new i 0 ∋ k) ≡ true
 fewer_codes t ties old new old' new' n s b z o o' i k h e =
     let (p, v, en, sets) = done-sets o in
     let more = (done-set o' p v i h).bits k in
     (done-set o p v i h).bits k ∙ fewer.several (ties_of (take signals ties)) (ties_of (take signals (set ties s b))) freer p i k (sym more ∙ e)
   where
-    freer : (x : ℕ) → (ties_of (take signals (set ties s b)) x ≡ ties_of (take signals ties) x) ⊎ (ties_of (take signals ties) x ≡ unknown)
+    freer : (x : ℕ) → (ties_of (take signals (set ties s b)) x ≡ ties_of (take signals ties) x) ⊎ (ties_of (take signals ties) x ≡ Unknown)
     freer x = go (dec_lt x signals) (eqb x s) refl
       where
-        go : Dec (x < signals) → (c : Bool) → eqb x s ≡ c → (ties_of (take signals (set ties s b)) x ≡ ties_of (take signals ties) x) ⊎ (ties_of (take signals ties) x ≡ unknown)
+        go : Dec (x < signals) → (c : Bool) → eqb x s ≡ c → (ties_of (take signals (set ties s b)) x ≡ ties_of (take signals ties) x) ⊎ (ties_of (take signals ties) x ≡ Unknown)
         go (no l) c w = inr (tie_past ties x l)
         go (yes l) true w = inr (tie-at ties x l ∙ ap (λ y. tie_of (get_or ties y 0)) (eqb-true x s w) ∙ ap tie_of z)
         go (yes l) false w = inl (tie-at (set ties s b) x l ∙ ap tie_of (get_or-set_other ties s x b 0 (eqb-false x s w)) ∙ sym (tie-at ties x l))
 
 -- ---- refusals
 
-refusal-known : (t ties old new : List ℕ) (number node : ℕ) → Narrowing t ties old new (Refused number node) → (1 ≤ number) × ((number ≤ 11) ⊎ (number ≡ 19)) × (node < max_nodes) × (new ≡ old)
+refusal-known : (t ties old new : List ℕ) (number node : ℕ) → Narrowing t ties old new (rejects number node) → (1 ≤ number) × ((number ≤ 11) ⊎ (number ≡ 19)) × (node < max_nodes) × (new ≡ old)
 unfolding sets_after
 refusal-known t ties old new number node o =
     let v = refused_of (verdict_for t ties old) number node o.answer in

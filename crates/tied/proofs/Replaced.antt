@@ -6,7 +6,9 @@ use Rattle.esterel.specs.Codes.{Codes, union, given, without_ended, larger, caug
 use Rattle.esterel.specs.Statement.{nothing, pause, emit, exit, signal, suspend, loop, trap, present, sequence, parallel, Stmt, leaf, one, two, size}
 use Rattle.esterel.specs.Sets.{start_set}
 use Rattle.esterel.specs.Instant.{started, Entry, entry, Result, zeros, single, enter, onto, zeros_then, then_zeros, and_then, beside, body, catch, start}
-use Rattle.tied.specs.Ties.{Tie, unknown, tied_absent, tied_present, Ties, inside, test, start_tied, by_tie}
+use Rattle.tied.specs.Ties.{Ties, inside, test, start_tied, by_tie}
+use Rattle.tied.specs.declared.Tie.{Tie}
+use Rattle.tied.specs.declared.Tie.TheVariants.{Unknown, Absent, Present}
 use Rattle.tied.specs.Narrowed.{tested, narrowed, ties_under}
 use Rattle.tied.specs.Theorems.{replaced, Alike, close, starve, stick}
 use Rattle.tied.proofs.Spots.{under_stays}
@@ -14,9 +16,9 @@ use Rattle.tied.proofs.Spots.{under_stays}
 -- ---- the sets
 
 tested_as : (t : Tie) (a b : Codes) (w p q : Stmt) → a ≡ start_set p → b ≡ start_set q → union a b ≡ start_set w → tested t a b ≡ start_set (by_tie t w q p)
-tested_as unknown a b w p q ea eb e = e
-tested_as tied_absent a b w p q ea eb e = eb
-tested_as tied_present a b w p q ea eb e = ea
+tested_as Unknown a b w p q ea eb e = e
+tested_as Absent a b w p q ea eb e = eb
+tested_as Present a b w p q ea eb e = ea
 
 pub narrowed_as : (c : Ties) (p : Stmt) → narrowed c p ≡ start_set (replaced c p)
 narrowed_as c (leaf nothing) = refl
@@ -33,7 +35,7 @@ narrowed_as c (one (signal s) p) = narrowed_as (inside s c) p
 narrowed_as c (one (suspend s) p) = narrowed_as c p
 
 -- where nothing is known, none is replaced
-pub none-replaced : (c : Ties) → ((s : ℕ) → c s ≡ unknown) → (p : Stmt) → replaced c p ≡ p
+pub none-replaced : (c : Ties) → ((s : ℕ) → c s ≡ Unknown) → (p : Stmt) → replaced c p ≡ p
 none-replaced c o (leaf l) = refl
 none-replaced c o (one u p) = ap (one u) (none-replaced (ties_under u c) (λ s. under_stays u c s (o s)) p)
 none-replaced c o (two (present s) p q) =
@@ -109,11 +111,11 @@ module _ {next next' : List ℕ → Result} (go : (r : List ℕ) → Alike (next
 -- a test, from its branches, for any answers
 module _ (n m s : ℕ) (p q p' q' : Stmt) {then other : List ℕ → Result} (first : (k : ℕ) (r : List ℕ) → Alike (then r) (start k p' r)) (last : (k : ℕ) (r : List ℕ) → Alike (other r) (start k q' r)) where
   test-alike : (t : Tie) (ans : List ℕ) → Alike (test t (λ r. enter (n + (size p + size q)) started (then_zeros (then r) (size q))) (λ r. enter (n + (size p + size q)) started (zeros_then (size p) (other r))) ans) (start m (by_tie t (two (present s) p' q') q' p') ans)
-  test-alike unknown [] = starve
-  test-alike unknown (suc a ∷ ans) = enter-alike _ _ (alike-zeros (size q) (size q') (first m ans))
-  test-alike unknown (zero ∷ ans) = enter-alike _ _ (zeros-alike (size p) (size p') (last (m + size p') ans))
-  test-alike tied_absent ans = enter-left _ (zeros-left (size p) (last m ans))
-  test-alike tied_present ans = enter-left _ (left-zeros (size q) (first m ans))
+  test-alike Unknown [] = starve
+  test-alike Unknown (suc a ∷ ans) = enter-alike _ _ (alike-zeros (size q) (size q') (first m ans))
+  test-alike Unknown (zero ∷ ans) = enter-alike _ _ (zeros-alike (size p) (size p') (last (m + size p') ans))
+  test-alike Absent ans = enter-left _ (zeros-left (size p) (last m ans))
+  test-alike Present ans = enter-left _ (left-zeros (size q) (first m ans))
 
 pub start-alike : (c : Ties) (p : Stmt) (n m : ℕ) (ans : List ℕ) → Alike (start_tied c n p ans) (start m (replaced c p) ans)
 start-alike c (leaf nothing) n m ans = leaf-alike n m 0 0 ans
@@ -134,12 +136,12 @@ start-alike c (one (suspend s) p) n m ans = enter-alike _ _ (start-alike c p n m
 -- ---- where nothing is known, the start is that of document 01
 
 module _ (n : ℕ) (s : ℕ) (p q : Stmt) {then other : List ℕ → Result} (first : (r : List ℕ) → then r ≡ start n p r) (last : (r : List ℕ) → other r ≡ start (n + size p) q r) where
-  test_untied : (ans : List ℕ) → test unknown (λ r. enter (n + (size p + size q)) started (then_zeros (then r) (size q))) (λ r. enter (n + (size p + size q)) started (zeros_then (size p) (other r))) ans ≡ start n (two (present s) p q) ans
+  test_untied : (ans : List ℕ) → test Unknown (λ r. enter (n + (size p + size q)) started (then_zeros (then r) (size q))) (λ r. enter (n + (size p + size q)) started (zeros_then (size p) (other r))) ans ≡ start n (two (present s) p q) ans
   test_untied [] = refl
   test_untied (suc a ∷ ans) = ap (λ x. enter (n + (size p + size q)) started (then_zeros x (size q))) (first ans)
   test_untied (zero ∷ ans) = ap (λ x. enter (n + (size p + size q)) started (zeros_then (size p) x)) (last ans)
 
-pub start_untied : (c : Ties) → ((s : ℕ) → c s ≡ unknown) → (p : Stmt) (n : ℕ) (ans : List ℕ) → start_tied c n p ans ≡ start n p ans
+pub start_untied : (c : Ties) → ((s : ℕ) → c s ≡ Unknown) → (p : Stmt) (n : ℕ) (ans : List ℕ) → start_tied c n p ans ≡ start n p ans
 start_untied c o (leaf nothing) n ans = refl
 start_untied c o (leaf pause) n ans = refl
 start_untied c o (leaf (exit level)) n ans = refl

@@ -9,7 +9,9 @@ use Rattle.esterel.specs.Statement.{nothing, pause, emit, exit, signal, suspend,
 use Rattle.esterel.specs.Sets.{start_set}
 use Rattle.esterel.specs.Outcome.{statement_at}
 use Rattle.esterel.proofs.Subtrees.{only_child_lem, two-children}
-use Rattle.tied.specs.Ties.{Tie, unknown, tied_absent, tied_present, Ties, inside}
+use Rattle.tied.specs.Ties.{Ties, inside}
+use Rattle.tied.specs.declared.Tie.{Tie}
+use Rattle.tied.specs.declared.Tie.TheVariants.{Unknown, Absent, Present}
 use Rattle.tied.specs.Narrowed.{tested, narrowed}
 
 abbrev Some : Codes → Type 0
@@ -24,9 +26,9 @@ followed-some a b (zero, e) (l, d) = (l, sequence-second a b l e d)
 followed-some a b (suc k, e) d = (suc k, sequence-first a b k e)
 
 tested-some : (t : Tie) (a b : Codes) → Some a → Some b → Some (tested t a b)
-tested-some unknown a b (k, e) d = (k, inl_true (a k) (b k) e)
-tested-some tied_absent a b x d = d
-tested-some tied_present a b x d = x
+tested-some Unknown a b (k, e) d = (k, inl_true (a k) (b k) e)
+tested-some Absent a b x d = d
+tested-some Present a b x d = x
 
 -- a program whose loops go on, of whose sets under ties K says so too
 module _ (p : Stmt) (sound : (i : ℕ) (b : Stmt) → statement_at (nodes p) i ≡ one loop b → start_set b 0 ≡ true → ⊥) (in_k : (c : Ties) (q : Stmt) (k : ℕ) → narrowed c q k ≡ true → start_set q k ≡ true) where

@@ -16,7 +16,8 @@ use Rattle.esterel.proofs.Postorder.{Part, part-whole, Postorder, length-listed,
 use Rattle.esterel.proofs.Ranges.{Over, over-join, over_last}
 use Rattle.esterel.proofs.Sizes.{size_pos}
 use Rattle.esterel.proofs.Subtrees.{inside}
-use Rattle.tied.specs.Ties.{unknown, Ties}
+use Rattle.tied.specs.Ties.{Ties}
+use Rattle.tied.specs.declared.Tie.TheVariants.{Unknown}
 use Rattle.tied.specs.Narrowed.{ties_under, Spot, at, ties_in, narrowed_in, narrowed, spots, outside, spot_at, ties_at, narrowed_at}
 use Rattle.tied.specs.Theorems.{InBody}
 
@@ -78,22 +79,22 @@ module _ (c : Ties) (p : Stmt) (i : ℕ) (h : i < size p) where
 -- ---- in a body it is unknown
 
 -- what is unknown around a statement is unknown in it
-pub under_stays : (u : Unary) (c : Ties) (s : ℕ) → c s ≡ unknown → ties_under u c s ≡ unknown
+pub under_stays : (u : Unary) (c : Ties) (s : ℕ) → c s ≡ Unknown → ties_under u c s ≡ Unknown
 under_stays (signal x) c s e = go (eqb s x)
   where
-    go : (t : Bool) → cond t unknown (c s) ≡ unknown
+    go : (t : Bool) → cond t Unknown (c s) ≡ Unknown
     go true = refl
     go false = e
 under_stays (suspend x) c s e = e
 under_stays loop c s e = e
 under_stays trap c s e = e
 
-stays : (s : ℕ) (c : Ties) (p : Stmt) → c s ≡ unknown → Every (λ x. ties_in x s ≡ unknown) (spots c p)
+stays : (s : ℕ) (c : Ties) (p : Stmt) → c s ≡ Unknown → Every (λ x. ties_in x s ≡ Unknown) (spots c p)
 stays s c (leaf l) e = also e none
 stays s c (one u p) e = every_join (stays s (ties_under u c) p (under_stays u c s e)) (also e none)
 stays s c (two b p q) e = every_join (every_join (stays s c p e) (stays s c q e)) (also e none)
 
-pub unknown_in : (s : ℕ) (c : Ties) (p : Stmt) (i : ℕ) → c s ≡ unknown → ties_at c p i s ≡ unknown
+pub unknown_in : (s : ℕ) (c : Ties) (p : Stmt) (i : ℕ) → c s ≡ Unknown → ties_at c p i s ≡ Unknown
 unknown_in s c p i e = every_at outside refl (stays s c p e) i
 
 -- a node of a part is one of the list
@@ -101,7 +102,7 @@ part_at : (xs l : List Spot) (n j : ℕ) → Part xs n l → j < length l → ge
 part_at xs l n j c h =
     ap (λ y. get_or y (n + j) outside) c.is ∙ ap (λ m. get_or (c.pre ++ (l ++ c.post)) (m + j) outside) (sym c.at) ∙ get_or-append-add c.pre (l ++ c.post) j outside ∙ get_or-append l c.post outside j h
 
-pub in_body_lem : (p : Stmt) (c : Ties) (s i : ℕ) → InBody p s i → ties_at c p i s ≡ unknown
+pub in_body_lem : (p : Stmt) (c : Ties) (s i : ℕ) → InBody p s i → ties_at c p i s ≡ Unknown
 in_body_lem p c s i b =
     let h = inside p b.node _ b.is_signal (λ z. let y : ◌≡◌ {A = ℕ} 0 1 = cc in omega arith) in
     let (first, x, z) = own c p b.node h b.is_signal in
@@ -110,7 +111,7 @@ in_body_lem p c s i b =
     let e : i ≡ first + (i - first) = omega (arith, b.after) in
     let there : get_or (spots c p) (first + (i - first)) outside ≡ spot_at d b.body (i - first) =
     part_at (spots c p) (spots d b.body) first (i - first) (part-child in_spots (spots c p) (ties_at c p b.node) (signal s) b.body x) (omega (arith, b.before, b.after)) in
-    ap (λ j. ties_in (get_or (spots c p) j outside) s) e ∙ ap (λ y. ties_in y s) there ∙ unknown_in s d b.body (i - first) (ap (λ t. cond t unknown (ties_at c p b.node s)) (only_in s))
+    ap (λ j. ties_in (get_or (spots c p) j outside) s) e ∙ ap (λ y. ties_in y s) there ∙ unknown_in s d b.body (i - first) (ap (λ t. cond t Unknown (ties_at c p b.node s)) (only_in s))
 
 -- ---- in a body, or as it was tied
 
@@ -118,7 +119,7 @@ in_body_lem p c s i b =
 under-free : (u : Unary) (s : ℕ) (c : Ties) → (u ≡ signal s) ⊎ (ties_under u c s ≡ c s)
 under-free (signal x) s c = go (eqb s x) refl
   where
-    go : (t : Bool) → eqb s x ≡ t → (signal x ≡ signal s) ⊎ (cond (eqb s x) unknown (c s) ≡ c s)
+    go : (t : Bool) → eqb s x ≡ t → (signal x ≡ signal s) ⊎ (cond (eqb s x) Unknown (c s) ≡ c s)
     go true e = inl (ap signal (sym (only_out s x e)))
     go false e = inr (rw e refl)
 under-free (suspend x) s c = inr refl

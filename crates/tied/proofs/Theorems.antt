@@ -21,7 +21,9 @@ use Rattle.esterel.proofs.Accepted.{passes, ends-not}
 use Rattle.esterel.proofs.Caught.{codes-few}
 use Rattle.esterel.proofs.Low.{start-pause}
 use Rattle.esterel.proofs.Subtrees.{inside as within}
-use Rattle.tied.specs.Ties.{Tie, unknown, Ties, none_tied, tie, start_tied}
+use Rattle.tied.specs.Ties.{Ties, none_tied, tie, start_tied}
+use Rattle.tied.specs.declared.Tie.{Tie}
+use Rattle.tied.specs.declared.Tie.TheVariants.{Unknown}
 use Rattle.tied.specs.Narrowed.{narrowed_in, narrowed, ties_under, spots, outside, spot_at, ties_at, narrowed_at}
 use Rattle.tied.specs.Theorems.{Exact, InBody, Places, Untied, Fewer, of_child, of_children, ByNodes, NeverEmpty, NoneLost, replaced, Alike, close, starve, stick, Replacing}
 use Rattle.tied.proofs.Replaced.{narrowed_as, none-replaced, start-alike, start_untied}
@@ -79,13 +81,13 @@ looser_at : (p : Stmt) (i : ℕ) (c d : Ties) → ((s : ℕ) → Looser (c s) (d
 looser_at p i c d o s = go (dec_lt i (size p))
   where
     there : InBody p s i ⊎ (ties_at c p i s ≡ c s) → InBody p s i ⊎ (ties_at d p i s ≡ d s) → Looser (ties_at c p i s) (ties_at d p i s)
-    there (inl b) x = rw (in_body_lem p c s i b, in_body_lem p d s i b) (same unknown)
-    there (inr e) (inl b) = rw (in_body_lem p c s i b, in_body_lem p d s i b) (same unknown)
+    there (inl b) x = rw (in_body_lem p c s i b, in_body_lem p d s i b) (same Unknown)
+    there (inr e) (inl b) = rw (in_body_lem p c s i b, in_body_lem p d s i b) (same Unknown)
     there (inr e) (inr f) = rw (e, f) (o s)
 
     go : Dec (i < size p) → Looser (ties_at c p i s) (ties_at d p i s)
     go (yes h) = there (in_body_or_tied c p s i h) (in_body_or_tied d p s i h)
-    go (no h) = rw (at-outside c p i h, at-outside d p i h) (same unknown)
+    go (no h) = rw (at-outside c p i h, at-outside d p i h) (same Unknown)
 
 narrowed_fewer : (c d : Ties) → ((s : ℕ) → Looser (c s) (d s)) → (p : Stmt) (i k : ℕ) → narrowed_at c p i k ≡ true → narrowed_at d p i k ≡ true
 narrowed_fewer c d o p i k e =
@@ -109,13 +111,13 @@ fewer =
       in_k = λ c p i k e. sym (narrowed_untied p i k) ∙ several none_tied c (λ s. inr refl) p i k e;
     }
   where
-    several : (c d : Ties) → ((s : ℕ) → (d s ≡ c s) ⊎ (c s ≡ unknown)) → (p : Stmt) (i k : ℕ) → narrowed_at d p i k ≡ true → narrowed_at c p i k ≡ true
+    several : (c d : Ties) → ((s : ℕ) → (d s ≡ c s) ⊎ (c s ≡ Unknown)) → (p : Stmt) (i k : ℕ) → narrowed_at d p i k ≡ true → narrowed_at c p i k ≡ true
     several c d o = narrowed_fewer d c (λ s. ⊎_elim (λ e. rw e (same (c s))) (λ e. rw e (free (d s))) (o s))
 
-    freed : (c : Ties) (s : ℕ) (t : Tie) → c s ≡ unknown → (x : ℕ) → (tie s t c x ≡ c x) ⊎ (c x ≡ unknown)
+    freed : (c : Ties) (s : ℕ) (t : Tie) → c s ≡ Unknown → (x : ℕ) → (tie s t c x ≡ c x) ⊎ (c x ≡ Unknown)
     freed c s t e x = go (eqb x s) refl
       where
-        go : (b : Bool) → eqb x s ≡ b → (cond b t (c x) ≡ c x) ⊎ (c x ≡ unknown)
+        go : (b : Bool) → eqb x s ≡ b → (cond b t (c x) ≡ c x) ⊎ (c x ≡ Unknown)
         go true z = inr (rw (only_out x s z) e)
         go false z = inl refl
 

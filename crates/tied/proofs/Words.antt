@@ -19,7 +19,9 @@ use Rattle.table.proofs.Filling.{map_at, Filling, filling-at, filling-next, fill
 use Rattle.table.proofs.Views.{leaf_of_lem, one_of, two_of_lem, has_last}
 use Rattle.analysis.specs.Steps.{codes_of}
 use Rattle.analysis.proofs.Nodes.{leaf-step, one-step, two-step, few, kind-is, field_is}
-use Rattle.tied.specs.Ties.{Tie, unknown, tied_absent, tied_present, Ties, tie_of, by_tie}
+use Rattle.tied.specs.Ties.{Ties, by_tie}
+use Rattle.tied.specs.declared.Tie.{Tie}
+use Rattle.tied.specs.declared.Tie.TheVariants.{Unknown, Absent, Present}
 use Rattle.tied.specs.Narrowed.{ties_under, at, narrowed_in, spots, outside, spot_at, ties_at, narrowed_at, word_in, words_of}
 use Rattle.tied.specs.Theorems.{replaced}
 use Rattle.tied.specs.Passes.{tested_of, codes_under, Sound, Known, NextSet, SetsFilled}
@@ -28,9 +30,9 @@ use Rattle.tied.proofs.Spots.{length-spots, narrowed_at_lem, under_one, under-tw
 use Rattle.tied.proofs.Theorems.{fewer}
 
 test_word : (t : Tie) (q r : Stmt) (s : ℕ) → tested_of t (word (start_set q)) (word (start_set r)) ≡ word (start_set (by_tie t (two (present s) q r) r q))
-test_word unknown q r s = union-word (start_set q) (start_set r)
-test_word tied_absent q r s = refl
-test_word tied_present q r s = refl
+test_word Unknown q r s = union-word (start_set q) (start_set r)
+test_word Absent q r s = refl
+test_word Present q r s = refl
 
 two-word : (d : Ties) (b : Binary) (q r : Stmt) → codes_under (d (field (two b q r))) (kind_of (kind (two b q r))) (word (start_set (replaced d q))) (word (start_set (replaced d r))) ≡ word (start_set (replaced d (two b q r)))
 unfolding kind_of
@@ -67,12 +69,12 @@ module _ {t sizes : List ℕ} (ok : Sound t sizes) {node : ℕ} (h : node < size
   no_64 : (c : Ties) (j : ℕ) (q : Stmt) → narrowed_at c (program_of t) j ≡ start_set q → start_set q 64 ≡ false
   no_64 c j q e = cannot_pass (start_set q 64) (λ z. omega (arith, few ok.placed false j 64 (fewer.in_k c (program_of t) j 64 (ap (λ a. a 64) e ∙ z))))
 
-  pub leaf-set : {known words : List ℕ} {r : ℕ} → n ≡ 0 → r ≡ codes_of false k f 0 0 → NextSet t known words node r
+  pub leaf-set : {known : List Tie} {words : List ℕ} {r : ℕ} → n ≡ 0 → r ≡ codes_of false k f 0 0 → NextSet t known words node r
   leaf-set z er =
       let (l, e) = leaf_of_lem ok.measured h ek en z in
       record { is = λ c o words_are. er ∙ ap₂ (λ a b. codes_of false a b 0 0) (kind_of_lem e) (field_of e) ∙ leaf-step false l 0 0 ∙ sym (ap word (own-set c (program_of t) node (leaf l) e)) }
 
-  pub one_set : {known words : List ℕ} {r : ℕ} → n ≡ 1 → r ≡ codes_of false k f (get_or words (node - 1) 0) 0 → NextSet t known words node r
+  pub one_set : {known : List Tie} {words : List ℕ} {r : ℕ} → n ≡ 1 → r ≡ codes_of false k f (get_or words (node - 1) 0) 0 → NextSet t known words node r
   one_set {known} {words} z er =
       let (u, q, v) = one_of ok.measured h ek en refl z in
       let pos = has_last ok.measured h ek en (λ y. omega arith) in
@@ -86,7 +88,7 @@ module _ {t sizes : List ℕ} (ok : Sound t sizes) {node : ℕ} (h : node < size
             ∙ sym (ap word (own-set c (program_of t) node (one u q) v.is));
       }
 
-  pub two-set : {known words : List ℕ} {r s : ℕ} → s ≡ get_or sizes (node - 1) 0 → (n ≡ 0 → ⊥) → (n ≡ 1 → ⊥) → r ≡ codes_under (tie_of (get_or known node 0)) k (get_or words (node - 1 - s) 0) (get_or words (node - 1) 0) → NextSet t known words node r
+  pub two-set : {known : List Tie} {words : List ℕ} {r s : ℕ} → s ≡ get_or sizes (node - 1) 0 → (n ≡ 0 → ⊥) → (n ≡ 1 → ⊥) → r ≡ codes_under (get_or known node Unknown) k (get_or words (node - 1 - s) 0) (get_or words (node - 1) 0) → NextSet t known words node r
   two-set {known} {words} {s = s} es z y er =
       let (b, q, w, v) = two_of_lem ok.measured h ek en es z y in
       let pos = has_last ok.measured h ek en z in
@@ -103,14 +105,11 @@ module _ {t sizes : List ℕ} (ok : Sound t sizes) {node : ℕ} (h : node < size
       }
 
 -- the sets of the nodes before i are filled in, whatever the ties are that the bytes in `known` come from
-pub record SetsTo (t known old now : List ℕ) (i : ℕ) : Type 0 where
+pub record SetsTo (t : List ℕ) (known : List Tie) (old now : List ℕ) (i : ℕ) : Type 0 where
   pub long : length now ≡ length old
   pub is : (c : Ties) → Known c t known → Filling (words_of c (program_of t)) old now (size (program_of t)) i
 
-pub none_yet : (t known old : List ℕ) → SetsTo t known old old 0
-none_yet t known old = record { long = refl; is = λ c o. record { bound = omega arith; is = refl } }
-
-module _ {t known old now : List ℕ} {i : ℕ} (room : size (program_of t) ≤ length old) (o : SetsTo t known old now i) where
+module _ {t : List ℕ} {known : List Tie} {old now : List ℕ} {i : ℕ} (room : size (program_of t) ≤ length old) (o : SetsTo t known old now i) where
   abbrev has : (c : Ties) → size (program_of t) ≤ length (words_of c (program_of t))
   has c = omega (arith, length-words c (program_of t))
 

@@ -2,14 +2,12 @@
 use Rattle.std.specs.Prelude.{ℕ, ◌/◌, ◌≡◌, Bool, true, ◌&&◌, cond, List, [], ◌∷◌, leb, length, take}
 use Rattle.esterel.specs.Limits.{signals}
 use Rattle.esterel.specs.Statement.{size}
+use Rattle.esterel.specs.Refusal.{Reply, yields, rejects}
 use Rattle.esterel.specs.Table.{Verdict, passed, refused}
 use Rattle.table.specs.Columns.{onto}
-use Rattle.table.specs.declared.Check.{Check}
 use Rattle.analysis.specs.Analysis.{checked}
 use Rattle.tied.specs.Ties.{ties_of}
 use Rattle.tied.specs.Narrowed.{words_of}
-use Rattle.tied.specs.declared.Narrowed.{Narrowed}
-use Rattle.tied.specs.declared.Narrowed.TheVariants.{Done, Refused}
 
 -- check 3: a set for each of n nodes, and a byte for each signal
 abbrev pub room_for : (n sets ties : ℕ) → Bool
@@ -30,9 +28,9 @@ abbrev pub verdict_for : (t ties sets : List ℕ) → Verdict
 verdict_for t ties sets = check_ties ties (checked (room_for (length t / 2) (length sets) (length ties)) t)
 
 -- the number and values of this paper for each case of the answer
-unfoldable pub answer_of : Verdict → Narrowed
-answer_of (passed p) = Done (size p)
-answer_of (refused number node) = Refused number node
+unfoldable pub answer_of : Verdict → Reply ℕ
+answer_of (passed p) = yields (size p)
+answer_of (refused number node) = rejects number node
 
 -- the sets after the call: those of all nodes in postorder and the old entries past them; after a refusal all as they were
 unfoldable pub sets_after : Verdict → (ties old : List ℕ) → List ℕ
@@ -40,11 +38,6 @@ sets_after (passed p) ties old = onto (words_of (ties_of (take signals ties)) p)
 sets_after (refused number node) ties old = old
 
 -- the contract of `narrow`: the answer, and the whole content of the lent sets
-pub record Narrowing (t ties sets sets' : List ℕ) (r : Narrowed) : Type 0 where
+pub record Narrowing (t ties sets sets' : List ℕ) (r : Reply ℕ) : Type 0 where
   pub answer : r ≡ answer_of (verdict_for t ties sets)
   pub sets_are : sets' ≡ sets_after (verdict_for t ties sets) ties sets
-
--- a check's answer where it refuses
-abbrev pub refusal_of : Check → Narrowed
-refusal_of Check.Passed = Refused 0 0  -- never asked
-refusal_of (Check.Refused number node) = Refused number node

@@ -2,7 +2,8 @@
 use Rattle.std.specs.Prelude.{ℕ, ◌+◌, List, [], ◌∷◌, ◌++◌, map, get_or}
 use Rattle.esterel.specs.Codes.{Codes, only, union, given, without_ended, larger, caught, word}
 use Rattle.esterel.specs.Statement.{nothing, pause, emit, exit, Unary, signal, suspend, loop, trap, present, sequence, parallel, Stmt, leaf, one, two}
-use Rattle.tied.specs.Ties.{Tie, Ties, none_tied, inside, by_tie}
+use Rattle.tied.specs.Ties.{Ties, none_tied, inside, by_tie}
+use Rattle.tied.specs.declared.Tie.{Tie}
 
 -- the codes of a test from those of its then branch and its else branch
 abbrev pub tested : Tie → Codes → Codes → Codes

@@ -5,16 +5,17 @@ use Rattle.esterel.specs.Limits.{max_nodes, signals}
 use Rattle.esterel.specs.Codes.{Codes, union, given, without_ended, larger, caught, word, Represents}
 use Rattle.esterel.specs.Statement.{Unary, signal, suspend, loop, trap, Binary, present, sequence, parallel, Stmt, leaf, one, two, field, size, nodes}
 use Rattle.esterel.specs.Sets.{start_set}
+use Rattle.esterel.specs.Refusal.{Reply, yields, rejects}
 use Rattle.esterel.specs.Table.{passed, refused}
 use Rattle.esterel.specs.Checks.{verdict}
 use Rattle.esterel.specs.Instant.{Entry, Result, closed, starved, stuck, start}
 use Rattle.esterel.specs.Outcome.{statement_at}
 use Rattle.esterel.specs.Theorems.{Finishes, Accepted}
-use Rattle.tied.specs.Ties.{Tie, unknown, Ties, ties_of, none_tied, tie, by_tie, start_tied}
+use Rattle.tied.specs.Ties.{Ties, ties_of, none_tied, tie, by_tie, start_tied}
+use Rattle.tied.specs.declared.Tie.{Tie}
+use Rattle.tied.specs.declared.Tie.TheVariants.{Unknown}
 use Rattle.tied.specs.Narrowed.{tested, narrowed, ties_under, ties_at, narrowed_at}
 use Rattle.tied.specs.Calls.{Narrowing}
-use Rattle.tied.specs.declared.Narrowed.{Narrowed}
-use Rattle.tied.specs.declared.Narrowed.TheVariants.{Done, Refused}
 
 -- A code is in the narrowed set of a node exactly if some answers make the node, started alone under the ties of its place, finish with it.
 abbrev pub Exact : Type 0
@@ -32,7 +33,7 @@ pub record InBody (p : Stmt) (s i : ℕ) : Type 0 where
 
 -- there s is unknown, and elsewhere it is as it was tied
 pub record Places : Type 0 where
-  pub in_body : (c : Ties) (p : Stmt) (s i : ℕ) → InBody p s i → ties_at c p i s ≡ unknown
+  pub in_body : (c : Ties) (p : Stmt) (s i : ℕ) → InBody p s i → ties_at c p i s ≡ Unknown
   pub elsewhere : (c : Ties) (p : Stmt) (s i : ℕ) → i < size p → (InBody p s i → ⊥) → ties_at c p i s ≡ c s
 
 -- With none tied the set is K, and the start is that of document 01.
@@ -43,10 +44,10 @@ pub record Untied : Type 0 where
 -- Tying one more unknown signal never adds a code, nor does tying several. So each narrowed set is a part of K.
 pub record Fewer : Type 0 where
   pub one_more :
-      (c : Ties) (s : ℕ) (t : Tie) → c s ≡ unknown →
+      (c : Ties) (s : ℕ) (t : Tie) → c s ≡ Unknown →
       (p : Stmt) (i k : ℕ) → narrowed_at (tie s t c) p i k ≡ true → narrowed_at c p i k ≡ true
   pub several :
-      (c d : Ties) → ((s : ℕ) → (d s ≡ c s) ⊎ (c s ≡ unknown)) →
+      (c d : Ties) → ((s : ℕ) → (d s ≡ c s) ⊎ (c s ≡ Unknown)) →
       (p : Stmt) (i k : ℕ) → narrowed_at d p i k ≡ true → narrowed_at c p i k ≡ true
   pub in_k : (c : Ties) (p : Stmt) (i k : ℕ) → narrowed_at c p i k ≡ true → start_set (statement_at (nodes p) i) k ≡ true
 
@@ -113,7 +114,7 @@ pub record Lent (t ties sets : List ℕ) : Type 0 where
 abbrev pub TieBytes : List ℕ → Type 0
 TieBytes ties = (s : ℕ) → s < signals → get_or ties s 0 ≤ 2
 
--- after Done, of the program p: bit k of entry i is 1 exactly if some answers make node i, started alone under the ties of its place, finish
+-- where it is done, of the program p: bit k of entry i is 1 exactly if some answers make node i, started alone under the ties of its place, finish
 -- with code k; each entry represents the node's narrowed set, which is a part of K and has a code; the entries past them are as they were
 pub record NarrowedSets (p : Stmt) (c : Ties) (old new : List ℕ) : Type 0 where
   pub bits :
@@ -128,29 +129,29 @@ pub record NarrowedSets (p : Stmt) (c : Ties) (old new : List ℕ) : Type 0 wher
 pub record OfNarrow : Type 0 where
   -- done exactly if the buffers suffice, the table is accepted, which goes by K, and the bytes are ties
   pub done :
-      (t ties old new : List ℕ) (r : Narrowed) (n : ℕ) → Narrowing t ties old new r →
-      (r ≡ Done n) ↔ ((p : Stmt) × (n ≡ size p) × (verdict t ≡ passed p) × Lent t ties old × TieBytes ties)
+      (t ties old new : List ℕ) (r : Reply ℕ) (n : ℕ) → Narrowing t ties old new r →
+      (r ≡ yields n) ↔ ((p : Stmt) × (n ≡ size p) × (verdict t ≡ passed p) × Lent t ties old × TieBytes ties)
   -- 19 exactly if all is so but that a byte is another
   pub bad_ties :
-      (t ties old new : List ℕ) (r : Narrowed) → Narrowing t ties old new r →
-      (r ≡ Refused 19 0) ↔ ((p : Stmt) × (verdict t ≡ passed p) × Lent t ties old × ((s : ℕ) × (s < signals) × (2 < get_or ties s 0)))
+      (t ties old new : List ℕ) (r : Reply ℕ) → Narrowing t ties old new r →
+      (r ≡ rejects 19 0) ↔ ((p : Stmt) × (verdict t ≡ passed p) × Lent t ties old × ((s : ℕ) × (s < signals) × (2 < get_or ties s 0)))
   -- where the table is not accepted, the refusal is its own, whatever the bytes
   pub table :
-      (t ties old new : List ℕ) (r : Narrowed) (number node : ℕ) → Lent t ties old → verdict t ≡ refused number node →
-      Narrowing t ties old new r → r ≡ Refused number node
+      (t ties old new : List ℕ) (r : Reply ℕ) (number node : ℕ) → Lent t ties old → verdict t ≡ refused number node →
+      Narrowing t ties old new r → r ≡ rejects number node
   pub sets :
-      (t ties old new : List ℕ) (n : ℕ) → Narrowing t ties old new (Done n) →
+      (t ties old new : List ℕ) (n : ℕ) → Narrowing t ties old new (yields n) →
       (p : Stmt) × (verdict t ≡ passed p) × (n ≡ size p) × NarrowedSets p (ties_of (take signals ties)) old new
   -- with 256 bytes 0 the sets are K
   pub untied :
-      (t ties old new : List ℕ) (n : ℕ) → Narrowing t ties old new (Done n) → ((s : ℕ) → s < signals → get_or ties s 0 ≡ 0) →
+      (t ties old new : List ℕ) (n : ℕ) → Narrowing t ties old new (yields n) → ((s : ℕ) → s < signals → get_or ties s 0 ≡ 0) →
       (p : Stmt) → verdict t ≡ passed p → (i : ℕ) → i < n → Represents (get_or new i 0) (start_set (statement_at (nodes p) i))
   -- with a byte that was 0 changed to b, no set has a code more
   pub one_more :
       (t ties old new old' new' : List ℕ) (n s b : ℕ) → get_or ties s 0 ≡ 0 →
-      Narrowing t ties old new (Done n) → Narrowing t (set ties s b) old' new' (Done n) →
+      Narrowing t ties old new (yields n) → Narrowing t (set ties s b) old' new' (yields n) →
       (i k : ℕ) → i < n → (get_or new' i 0 ∋ k) ≡ true → (get_or new i 0 ∋ k) ≡ true
   -- a refusal has a number from 1 to 11, or 19, and a node that a table can have, and changes nothing
   pub refusals :
-      (t ties old new : List ℕ) (number node : ℕ) → Narrowing t ties old new (Refused number node) →
+      (t ties old new : List ℕ) (number node : ℕ) → Narrowing t ties old new (rejects number node) →
       (1 ≤ number) × ((number ≤ 11) ⊎ (number ≡ 19)) × (node < max_nodes) × (new ≡ old)

@@ -2,9 +2,8 @@
 use Rattle.std.specs.Prelude.{ℕ, zero, suc, ◌+◌, cond, List, [], ◌∷◌, eqb, get_or}
 use Rattle.esterel.specs.Statement.{nothing, pause, emit, exit, signal, suspend, loop, trap, present, sequence, parallel, Stmt, leaf, one, two, size}
 use Rattle.esterel.specs.Instant.{started, Result, starved, single, enter, zeros_then, then_zeros, and_then, beside, body, catch}
-
-pub data Tie : Type 0 where
-  unknown tied_absent tied_present : Tie
+use Rattle.tied.specs.declared.Tie.{Tie}
+use Rattle.tied.specs.declared.Tie.TheVariants.{Unknown, Absent, Present}
 
 -- of each signal
 abbrev pub Ties : Type 0
@@ -12,16 +11,16 @@ Ties = ℕ → Tie
 
 -- "0 unknown, 1 absent, 2 present"; check 19 refuses any other byte
 abbrev pub tie_of : ℕ → Tie
-tie_of zero = unknown
-tie_of (suc zero) = tied_absent
-tie_of (suc (suc b)) = tied_present
+tie_of zero = Unknown
+tie_of (suc zero) = Absent
+tie_of (suc (suc b)) = Present
 
 -- by a byte for each signal
 abbrev pub ties_of : List ℕ → Ties
 ties_of bytes s = tie_of (get_or bytes s 0)
 
 abbrev pub none_tied : Ties
-none_tied s = unknown
+none_tied s = Unknown
 
 -- c, but for the signal s
 abbrev pub tie : ℕ → Tie → Ties → Ties
@@ -29,13 +28,13 @@ tie s t c x = cond (eqb x s) t (c x)
 
 -- "inside the body of a signal statement that number is unknown"
 abbrev pub inside : ℕ → Ties → Ties
-inside s c = tie s unknown c
+inside s c = tie s Unknown c
 
 -- of three that which is for the tie
 abbrev pub by_tie : {A : Type 0} → Tie → (free absent present : A) → A
-by_tie unknown x y z = x
-by_tie tied_absent x y z = y
-by_tie tied_present x y z = z
+by_tie Unknown x y z = x
+by_tie Absent x y z = y
+by_tie Present x y z = z
 
 -- a test, with its then branch and its else branch, that is answered from the list
 abbrev pub asked : (then other : List ℕ → Result) → List ℕ → Result

@@ -2,69 +2,79 @@
 // the nodes: from the last to the first, what is known of each node's own signal there; then from the first to the last, the sets.
 #![tactic(auto)]
 
-ghost use Rattle.std.specs.Prelude.{◌≡◌, cond, ◌&&◌, ◌<◌, ◌≤◌, leb, ltb, length, get_or, take};
+ghost use Rattle.std.specs.Prelude.{◌≡◌, cond, ◌&&◌, ◌<◌, ◌≤◌, leb, ltb, length, get_or};
 ghost use Rattle.esterel.specs.Limits.{signals};
+ghost use Rattle.esterel.specs.Refusal.{reply};
 ghost use Rattle.esterel.specs.Statement.{size};
 ghost use Rattle.table.specs.Kinds.{is_signal};
 ghost use Rattle.table.specs.Program.{program_of};
 ghost use Rattle.table.specs.Columns.{Measured};
-ghost use Rattle.table.specs.Check.{pass_if};
-ghost use Rattle.tied.specs.Ties.{tie_of, ties_of};
-ghost use Rattle.tied.specs.Passes.{tested_of, codes_under, Known, Sound, NextSet, SetsFilled};
-ghost use Rattle.tied.specs.Calls.{are_ties, room_for, refusal_of, Narrowing};
+ghost use Rattle.tied.specs.declared.Tie.TheVariants.{Unknown};
+ghost use Rattle.tied.specs.Passes.{TieRead, TiesRead, tied_by, tested_of, codes_under, Known, Sound, NextSet, SetsFilled};
+ghost use Rattle.tied.specs.Calls.{room_for, Narrowing};
 
-use table::{Check, Kind};
-
-// What `narrow` answers: the number of nodes, or the number and the node of the refusal.
-#[derive(Clone, Copy)]
-pub enum Narrowed {
-    Done { nodes: usize },
-    Refused { number: u8, node: usize },
-}
-
-// The refusal that a check answers. It is not asked of one that passed.
-fn refused(check: Check) -> Narrowed
-    ensures { result ≡ refusal_of check }
-{
-    match check {
-        Check::Passed => Narrowed::Refused { number: 0, node: 0 },
-        Check::Refused { number, node } => Narrowed::Refused { number, node },
-    }
-}
+use esterel::{Check, Refusal};
+use table::Kind;
 
 // Whether there is a set for each of n nodes, and a byte for each signal.
 fn has_room(n: usize, sets: usize, ties: usize) -> bool
     ensures { result ≡ room_for n sets ties }
 {
-    (n <= sets) & (esterel::SIGNALS <= ties)
+    n <= sets && esterel::SIGNALS <= ties
 }
 
-// Check 19: each signal's byte is 0, 1 or 2. Further bytes are not looked at.
-fn check_ties(ties: &[u8]) -> Check
-    requires { signals ≤ length ties.now }
-    ensures { result ≡ pass_if 19 (are_ties (take signals ties.now)) }
-{
-    let mut s: usize = 0;
-    while s < esterel::SIGNALS {
-        if 2 < ties[s] {
-            return Check::Refused {
-                number: 19,
+// What is known of a signal.
+#[derive(Clone, Copy, PartialEq, Eq)]
+enum Tie {
+    Unknown,
+    Absent,
+    Present,
+}
+
+// A byte that says none is refused by check 19.
+impl TryFrom<u8> for Tie {
+    type Error = Refusal;
+
+    ghost try_from_gives = { TieRead };
+
+    fn try_from(byte: u8) -> Result<Tie, Refusal> {
+        match byte {
+            0 => Ok(Tie::Unknown),
+            1 => Ok(Tie::Absent),
+            2 => Ok(Tie::Present),
+            3..=255 => Err(Refusal {
+                check: Check::BadTie,
                 node: 0,
-            };
+            }),
         }
-        s += 1;
     }
-    Check::Passed
+}
+
+// Check 19: what is known of each signal, by its byte. Further bytes are not looked at.
+fn read_ties(bytes: &[u8]) -> Result<[Tie; esterel::SIGNALS], Refusal>
+    requires { signals ≤ length bytes.now }
+    ensures { TiesRead bytes.now result }
+{
+    let mut ties = [Tie::Unknown; esterel::SIGNALS];
+    for (signal, tie) in ties.iter_mut().enumerate() {
+        *tie = Tie::try_from(bytes[signal])?;
+    }
+    Ok(ties)
 }
 
 // What is known of a signal at a node: nothing, if the node is in a signal statement of its number, that is, not below the lowest node of
-// those that come after it; else its byte.
-fn tie_at(ties: &[u8], lowest: &[usize; esterel::SIGNALS], signal: usize, node: usize) -> u8
-    requires { (signal < signals) × (signals ≤ length ties.now) }
-    ensures { result ≡ cond (leb (get_or lowest.now signal 0) node) 0 (get_or ties.now signal 0) }
+// those that come after it; else what is tied.
+fn tie_at(
+    ties: &[Tie; esterel::SIGNALS],
+    lowest: &[usize; esterel::SIGNALS],
+    signal: usize,
+    node: usize,
+) -> Tie
+    requires { signal < signals }
+    ensures { result ≡ cond (leb (get_or lowest.now signal 0) node) Unknown (tied_by ties.now signal) }
 {
     if lowest[signal] <= node {
-        return 0;
+        return Tie::Unknown;
     }
     ties[signal]
 }
@@ -73,7 +83,7 @@ fn tie_at(ties: &[u8], lowest: &[usize; esterel::SIGNALS], signal: usize, node: 
 fn reach(kind: Kind, lowest: usize, first: usize) -> usize
     ensures { result ≡ cond (is_signal kind && ltb first lowest) first lowest }
 {
-    if table::is_signal(kind) & (first < lowest) {
+    if kind == Kind::Signal && first < lowest {
         return first;
     }
     lowest
@@ -82,14 +92,12 @@ fn reach(kind: Kind, lowest: usize, first: usize) -> usize
 // What is known of each node's own signal. From the last node to the first, `lowest` keeps for each signal the lowest node of the
 // signal statements of its number so far. A subtree is a run of nodes, so a node still to come is in one of them exactly if its number is
 // at least that one: no test looks for the signal statements around it.
-fn find_known(table: &[u8], sizes: &[u16], ties: &[u8], known: &mut [u8])
-    requires { Measured table.now sizes.now × (signals ≤ length ties.now) × (size (program_of table.now) ≤ length known.old) }
-    ensures { Known (ties_of (take signals ties.now)) table.now known.new }
+fn find_known(table: &[u8], sizes: &[u16], ties: &[Tie; esterel::SIGNALS], known: &mut [Tie])
+    requires { Measured table.now sizes.now × (size (program_of table.now) ≤ length known.old) }
+    ensures { Known (tied_by ties.now) table.now known.new }
 {
     let mut lowest = [esterel::MAX_NODES; esterel::SIGNALS];
-    let mut i = table.len() / 2;
-    while 0 < i {
-        i -= 1;
+    for i in (0..table.len() / 2).rev() {
         let kind = table::kind_at(table, i);
         let signal = table::field_at(table, i);
         known[i] = tie_at(ties, &lowest, signal, i);
@@ -98,23 +106,21 @@ fn find_known(table: &[u8], sizes: &[u16], ties: &[u8], known: &mut [u8])
 }
 
 // The codes of a test from those of its branches: that of a tied signal has one branch only.
-fn tested(tie: u8, first: u64, second: u64) -> u64
-    ensures { result ≡ tested_of (tie_of tie) first second }
+fn tested(tie: Tie, first: u64, second: u64) -> u64
+    ensures { result ≡ tested_of tie first second }
 {
-    if tie == 0 {
-        return codes::union(first, second);
+    match tie {
+        Tie::Unknown => codes::union(first, second),
+        Tie::Absent => second,
+        Tie::Present => first,
     }
-    if tie == 1 {
-        return second;
-    }
-    first
 }
 
 // The codes of a statement of two children from theirs, with what is known of its own signal: but for a test, those of K.
-fn codes_under(tie: u8, kind: Kind, first: u64, second: u64) -> u64
-    ensures { result ≡ codes_under (tie_of tie) kind first second }
+fn codes_under(tie: Tie, kind: Kind, first: u64, second: u64) -> u64
+    ensures { result ≡ codes_under tie kind first second }
 {
-    if table::is_present(kind) {
+    if kind == Kind::Present {
         return tested(tie, first, second);
     }
     analysis::codes_of(false, kind, 0, first, second)
@@ -124,7 +130,7 @@ fn codes_under(tie: u8, kind: Kind, first: u64, second: u64) -> u64
 fn set_at(
     table: &[u8],
     sizes: &[u16],
-    known: &[u8; esterel::MAX_NODES],
+    known: &[Tie; esterel::MAX_NODES],
     sets: &[u64],
     node: usize,
 ) -> u64
@@ -133,7 +139,7 @@ fn set_at(
 {
     let kind = table::kind_at(table, node);
     let field = table::field_at(table, node);
-    let children = table::arity(kind);
+    let children = kind.arity();
     if children == 0 {
         return analysis::codes_of(false, kind, field, 0, 0);
     }
@@ -146,38 +152,27 @@ fn set_at(
 }
 
 // The sets of all nodes, children before parents.
-fn fill_narrowed(table: &[u8], sizes: &[u16], known: &[u8; esterel::MAX_NODES], sets: &mut [u64])
+fn fill_narrowed(table: &[u8], sizes: &[u16], known: &[Tie; esterel::MAX_NODES], sets: &mut [u64])
     requires { Sound table.now sizes.now × (size (program_of table.now) ≤ length sets.old) }
     ensures { SetsFilled table.now known.now sets.old sets.new }
 {
-    let n = table.len() / 2;
-    let mut i: usize = 0;
-    while i < n {
-        let set = set_at(table, sizes, known, sets, i);
-        sets[i] = set;
-        i += 1;
+    for i in 0..table.len() / 2 {
+        sets[i] = set_at(table, sizes, known, sets, i);
     }
 }
 
 // The narrowed start sets of all nodes in postorder: checks 1, 2, 3, 4 to 11, by K as ever, then 19. A refusal changes nothing that
 // is lent.
-pub fn narrow(table: &[u8], ties: &[u8], sets: &mut [u64]) -> Narrowed
-    ensures { Narrowing table.now ties.now sets.old sets.new result }
+pub fn narrow(table: &[u8], ties: &[u8], sets: &mut [u64]) -> Result<usize, Refusal>
+    ensures { Narrowing table.now ties.now sets.old sets.new (reply result) }
 {
+    let nodes = table.len() / 2;
     let mut sizes = [0u16; esterel::MAX_NODES];
-    let room = has_room(table.len() / 2, sets.len(), ties.len());
-    let check = analysis::check_sized(table, room, &mut sizes);
-    let Check::Passed = check else {
-        return refused(check);
-    };
-    let tied = check_ties(ties);
-    let Check::Passed = tied else {
-        return refused(tied);
-    };
-    let mut known = [0u8; esterel::MAX_NODES];
-    find_known(table, &sizes, ties, &mut known);
+    let room = has_room(nodes, sets.len(), ties.len());
+    analysis::check_sized(table, room, &mut sizes)?;
+    let tied = read_ties(ties)?;
+    let mut known = [Tie::Unknown; esterel::MAX_NODES];
+    find_known(table, &sizes, &tied, &mut known);
     fill_narrowed(table, &sizes, &known, sets);
-    Narrowed::Done {
-        nodes: table.len() / 2,
-    }
+    Ok(nodes)
 }

@@ -1,20 +1,21 @@
 -- The presents of a statement, counted over its nodes.
 use mathlib.Core.Path.{◌≡◌, refl, sym, ap, ap₂, ◌∙◌}
+use mathlib.Core.Bool.{Bool, true, false, cond}
 use mathlib.Core.List.{List, [], ◌∷◌, ◌++◌}
-use Prim.Native.Nat.{ℕ, suc, ◌+◌, ◌-◌, ◌*◌, ◌≤◌, ◌<◌}
+use Prim.Native.Nat.{ℕ, zero, suc, ◌+◌, ◌-◌, ◌*◌, ◌≤◌, ◌<◌}
+use native.Mathlib.Numerals.{add-one}
 use native.Mathlib.Omega.{arith}
-use lib.ListN.{length, get_or, take, drop, length-drop}
-use lib.Seq.{take-suc, get_or-drop, take_at, drop_at}
+use lib.ListN.{length, get_or, take, drop}
+use lib.Seq.{drop-cons, take_at, drop_at}
+use Rattle.std.specs.List.{range_with_len, filter}
 use Rattle.codes.specs.Codes.{bit}
 use Rattle.esterel.specs.Limits.{max_nodes}
 use Rattle.esterel.specs.Statement.{Leaf, nothing, pause, emit, exit, Unary, signal, suspend, loop, trap, Binary, present, sequence, parallel, Stmt, leaf, one, two, kind, size, nodes}
-use Rattle.esterel.specs.Outcome.{statement_at}
 use Rattle.esterel.proofs.Sizes.{length-nodes}
 use Rattle.esterel.proofs.Subtrees.{subtrees}
 use Rattle.table.specs.Kinds.{kind_of, is_present}
-use Rattle.table.specs.Program.{program_of}
+use Rattle.table.specs.Program.{program_of, Readable}
 use Rattle.table.specs.Columns.{stmt_at, first_at}
-use Rattle.table.specs.declared.Kind.{Kind}
 use Rattle.table.proofs.Bytes.{kind_byte, table-length}
 use Rattle.table.proofs.Said.{bit-small}
 use Rattle.table.proofs.Surveying.{few-nodes as few-in}
@@ -71,12 +72,25 @@ own-few : (w : Stmt) → own w ≤ 1
 unfolding own
 own-few w = bit-small (is_present (kind_of (kind w)))
 
--- the nodes from the first of the statement at `node` up to i are counted
-pub record Counting (t : List ℕ) (node i count : ℕ) : Type 0 where
-  pub from : first_at t node ≤ i
-  pub to : i ≤ node + 1
-  pub is : count ≡ tests (take (i - first_at t node) (drop (first_at t node) (nodes (program_of t))))
-  pub few : count ≤ i
+-- whether node i of a table is a present
+abbrev pub is_present_at : List ℕ → ℕ → Bool
+is_present_at t i = is_present (kind_of (get_or t (2 * i) 0))
+
+kept : (b : Bool) (i : ℕ) (is : List ℕ) → length (cond b (i ∷ is) is) ≡ bit b + length is
+kept true i is = omega arith
+kept false i is = omega arith
+
+-- of n nodes from i on
+counted : (t : List ℕ) → Readable t → (n i : ℕ) → i + n ≤ size (program_of t) → length (filter (is_present_at t) (range_with_len i n)) ≡ tests (take n (drop i (nodes (program_of t))))
+unfolding tests own
+counted t ok zero i h = refl
+counted t ok (suc n) i h =
+    let ns = nodes (program_of t) in
+    let inside : i < length ns = omega (arith, length-nodes (program_of t)) in
+    let mine : is_present_at t i ≡ is_present (kind_of (kind (get_or ns i (leaf nothing)))) = ap (λ k. is_present (kind_of k)) (kind_byte t ok i (omega arith)) in
+    kept (is_present_at t i) i _ ∙ ap₂ ◌+◌ (ap bit mine) (counted t ok n (i + 1) (omega arith))
+    ∙ ap (λ j. own (get_or ns i (leaf nothing)) + tests (take n (drop j ns))) (add-one i)
+    ∙ sym (ap (λ l. tests (take (suc n) l)) (drop-cons ns i (leaf nothing) inside))
 
 module _ {t : List ℕ} {first node : ℕ} (w : Countable t first node) where
   -- the nodes of the statement are those from its first on
@@ -89,33 +103,11 @@ module _ {t : List ℕ} {first node : ℕ} (w : Countable t first node) where
   pub few-nodes : node < max_nodes
   few-nodes = omega (arith, w.within, few-in t w.readable)
 
-  pub counting_starts : Counting t node first 0
-  unfolding tests
-  counting_starts =
-      let none : first - first_at t node ≡ 0 = omega (arith, w.starts) in
-      record { from = omega (arith, w.starts); to = omega (arith, w.starts, spans t node w.within); is = sym (ap (λ n. tests (take n (drop (first_at t node) (nodes (program_of t))))) none); few = omega arith }
+  pub in_reach : (i : ℕ) → i < node + 1 → 2 * i + 1 < length t
+  in_reach i h = omega (arith, w.within, table-length t w.readable)
 
-  module _ {i count : ℕ} (o : Counting t node i count) (h : i ≤ node) where
-    in_program : i < size (program_of t)
-    in_program = omega (arith, w.within)
-
-    pub in_table : 2 * i + 1 < length t
-    in_table = omega (arith, in_program, table-length t w.readable)
-
-    pub counting_next : {k : Kind} {n : ℕ} → k ≡ kind_of (get_or t (2 * i) 0) → n ≡ bit (is_present k) → Counting t node (i + 1) (count + n)
-    unfolding own
-    counting_next {k} {n} ek en =
-        let f = first_at t node in
-        let l = drop f (nodes (program_of t)) in
-        let inside : i - f < length l = omega (arith, o.from, in_program, length-drop f (nodes (program_of t)), length-nodes (program_of t)) in
-        let more : i + 1 - f ≡ suc (i - f) = omega (arith, o.from) in
-        let at : f + (i - f) ≡ i = omega (arith, o.from) in
-        let there : get_or l (i - f) (leaf nothing) ≡ stmt_at t i = get_or-drop f (nodes (program_of t)) (i - f) (leaf nothing) ∙ ap (statement_at (nodes (program_of t))) at in
-        let mine : n ≡ own (stmt_at t i) = en ∙ ap (λ j. bit (is_present j)) (ek ∙ ap kind_of (kind_byte t w.readable i in_program)) in
-        let whole : tests (take (i + 1 - f) l) ≡ tests (take (i - f) l) + own (stmt_at t i) = ap (λ j. tests (take j l)) more ∙ ap tests (take-suc l (i - f) (leaf nothing) inside) ∙ tests-last (take (i - f) l) (get_or l (i - f) (leaf nothing)) ∙ ap (λ x. tests (take (i - f) l) + own x) there in
-        record { from = omega (arith, o.from); to = omega arith; is = ap₂ ◌+◌ o.is mine ∙ sym whole; few = omega (arith, o.few, own-few (stmt_at t i)) }
-
-  pub counting_ends : {i count : ℕ} → Counting t node i count → node < i → count ≡ presents (stmt_at t node)
-  counting_ends {i} o h =
-      let all : i - first_at t node ≡ size (stmt_at t node) = omega (arith, o.to, spans t node w.within) in
-      o.is ∙ ap (λ n. tests (take n (drop (first_at t node) (nodes (program_of t))))) all ∙ ap tests its_nodes ∙ tests-nodes (stmt_at t node)
+  pub presents_are : length (filter (is_present_at t) (range_with_len first (node + 1 - first))) ≡ presents (stmt_at t node)
+  presents_are =
+      let all : node + 1 - first ≡ size (stmt_at t node) = omega (arith, w.starts, spans t node w.within) in
+      counted t w.readable (node + 1 - first) first (omega (arith, w.starts, spans t node w.within, w.within))
+      ∙ ap₂ (λ n i. tests (take n (drop i (nodes (program_of t))))) all w.starts ∙ ap tests its_nodes ∙ tests-nodes (stmt_at t node)

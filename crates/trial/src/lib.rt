@@ -26,13 +26,9 @@ fn count_presents(table: &[u8], first: usize, node: usize) -> usize
     requires { Countable table.now first node }
     ensures { result ≡ presents (stmt_at table.now node) }
 {
-    let mut count: usize = 0;
-    let mut i = first;
-    while i <= node {
-        count += table::is_present(table::kind_at(table, i)) as usize;
-        i += 1;
-    }
-    count
+    (first..node + 1)
+        .filter(|i| table::is_present(table::kind_at(table, *i)))
+        .count()
 }
 
 // The answers of a list by its number: they are the digits of the number in base 2, the lowest first.
@@ -42,11 +38,9 @@ fn answers_of(number: usize) -> [u8; ANSWERS]
 {
     let mut answers = [0u8; ANSWERS];
     let mut rest = number;
-    let mut i: usize = 0;
-    while i < ANSWERS {
-        answers[i] = (rest % 2) as u8;
-        rest = rest / 2;
-        i += 1;
+    for answer in answers.iter_mut() {
+        *answer = (rest % 2) as u8;
+        rest /= 2;
     }
     answers
 }
@@ -94,9 +88,8 @@ fn gather(table: &[u8], sizes: &[u16; esterel::MAX_NODES], first: usize, node: u
 {
     let mut held = [0u8; esterel::MAX_NODES];
     let mut emissions = [0u8; esterel::SIGNALS];
-    let mut set: u64 = 0;
-    let mut number: usize = 0;
-    while number < LISTS {
+    let mut set = 0;
+    for number in 0..LISTS {
         let answers = answers_of(number);
         let own = try_list(
             table,
@@ -108,7 +101,6 @@ fn gather(table: &[u8], sizes: &[u16; esterel::MAX_NODES], first: usize, node: u
             &mut emissions,
         );
         set = codes::union(set, own);
-        number += 1;
     }
     set
 }

@@ -3,52 +3,44 @@
 #![tactic(auto)]
 
 use input::LARGE_BUFFER;
+use std::io;
 use std::io::{Read, Write};
-use trial::Tried;
 
 // The bytes of the head of a case: the table's length and the node.
 const HEAD: usize = 10;
 
-// Reads the table that follows the head, tries the node, and writes what came of it; false at the end of the input.
+// Reads the table that follows the head, tries the node, and writes what came of it.
 fn run_case<R: Read, W: Write>(
     reader: &mut R,
     writer: &mut W,
     table: &mut [u8],
     node: usize,
-) -> bool {
-    if !input::read_full(reader, table) {
-        return false;
-    }
-    let tried = trial::trial(table, node);
-    let told = match tried {
-        Tried::Gathered { set, presents } => {
-            output::write_word(writer, b"tried")
-                && output::write_number(writer, set as usize)
-                && output::write_number(writer, presents)
+) -> io::Result<()> {
+    input::read_full(reader, table)?;
+    match trial::trial(table, node) {
+        Ok(tried) => writeln!(writer, "tried {} {}", tried.set, tried.presents),
+        Err(refusal) => {
+            output::write_refusal(writer, refusal)?;
+            writeln!(writer)
         }
-        Tried::Refused { number, node: at } => output::write_refusal(writer, number, at),
-    };
-    told && output::write_word(writer, b"\n")
-}
-
-// Runs the next case; false at the end of the input.
-fn run_next<R: Read, W: Write>(reader: &mut R, writer: &mut W) -> bool {
-    let mut head = [0u8; HEAD];
-    if !input::read_full(reader, &mut head) {
-        return false;
     }
-    let t = input::length_at(&head, 0);
-    let node = input::number_at(&head, 2);
-    let mut table = [0u8; LARGE_BUFFER];
-    run_case(reader, writer, &mut table[..t], node)
 }
 
-// A proved loop has to end, so the cases are counted down from more than there are.
+// Runs the next case.
+fn run_next<R: Read, W: Write>(reader: &mut R, writer: &mut W) -> io::Result<()> {
+    let mut head = [0u8; HEAD];
+    input::read_full(reader, &mut head)?;
+    let mut table = [0u8; LARGE_BUFFER];
+    run_case(
+        reader,
+        writer,
+        &mut table[..input::length_at(&head, 0)],
+        input::number_at(&head, 2),
+    )
+}
+
 fn main(rt: HostRuntime) {
     let mut reader = rt.stdin();
     let mut writer = rt.stdout();
-    let mut left: usize = 65536;
-    while left > 0 && run_next(&mut reader, &mut writer) {
-        left -= 1;
-    }
+    input::for_each_case(|| run_next(&mut reader, &mut writer));
 }

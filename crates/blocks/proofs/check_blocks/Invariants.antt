@@ -1,10 +1,6 @@
 -- The blocks before `i` are checked.
-use Rattle.std.proofs.Common.{◌-◌}
 use Rattle.blocks.proofs.Blocks.{Checking}
 use Rattle.blocks.proofs.check_blocks.Given as goal
 
 abbrev pub invariant-loop-i : goal.invariant-loop-i
 invariant-loop-i l = Checking l.file l.program l.good l.i
-
-abbrev pub decreases-loop-i : goal.decreases-loop-i
-decreases-loop-i l = l.n - l.i

@@ -2,7 +2,7 @@ use Rattle.std.proofs.Common.{sym, ap, ◌∙◌, arith}
 use Rattle.blocks.specs.Block.{edition_in}
 use Rattle.blocks.specs.Editions.{parts_of}
 use Rattle.blocks.proofs.Blocks.{block_within, few_blocks}
-use Rattle.blocks.proofs.Choosing.{bad_block, unbeaten, elsewhere, surpassed, retained}
+use Rattle.blocks.proofs.Choosing.{bad_block, unbeaten, unheld, elsewhere, considered}
 use Rattle.blocks.proofs.consider.Goals as goal
 
 pub bounds-good-i : goal.bounds-good-i
@@ -17,15 +17,15 @@ block_at-requires c = block_within c.args.file.now c.args.i c.requires.1
 pub returns-then-not-is_higher : goal.returns-then-not-is_higher
 returns-then-not-is_higher c = unbeaten c.requires.2 (c.word-edition.ensures ∙ ap edition_in c.block_at.ensures.0) (sym c.is_higher.ensures ∙ c.if-not-is_higher.true)
 
-pub returns-then-first-i : goal.returns-then-first-i
-returns-then-first-i c = elsewhere c.requires.2 (c.word-edition.ensures ∙ ap edition_in c.block_at.ensures.0) c.find-first.ensures c.if-first-i.true
-
-pub check_edition-next-requires : goal.check_edition-next-requires
-unfolding parts_of
-check_edition-next-requires c = (c.requires.0, c.find-first.ensures.place.parts)
-
 pub returns-in_default : goal.returns-in_default
-returns-in_default c = surpassed c.requires.2 (c.word-edition.ensures ∙ ap edition_in c.block_at.ensures.0) c.check_edition-next.ensures (sym c.is_higher.ensures ∙ c.if-not-is_higher.false) c.in_default.is
+returns-in_default c = unheld c.requires.2 (c.word-edition.ensures ∙ ap edition_in c.block_at.ensures.0) (rw c.in_default.is at c.find.ensures)
+
+pub returns-then-first-i : goal.returns-then-first-i
+returns-then-first-i c = elsewhere c.requires.2 (c.word-edition.ensures ∙ ap edition_in c.block_at.ensures.0) c.in-Some.ensures c.if-first-i.true
+
+pub check_edition-requires : goal.check_edition-requires
+unfolding parts_of
+check_edition-requires c = (c.requires.0, c.in-Some.ensures.place.parts)
 
 pub returns : goal.returns
-returns c = retained c.requires.2 (c.word-edition.ensures ∙ ap edition_in c.block_at.ensures.0) c.check_edition-next.ensures c.in-None.is
+returns c = rw c.or.ensures (considered c.requires.2 (c.word-edition.ensures ∙ ap edition_in c.block_at.ensures.0) c.check_edition.ensures (sym c.is_higher.ensures ∙ c.if-not-is_higher.false))

@@ -1,11 +1,6 @@
--- None of the last `seen` blocks counts.
-use Rattle.std.proofs.Common.{◌-◌}
-use Rattle.blocks.specs.Editions.{blocks_in}
+-- None of the blocks from `last` on counts.
 use Rattle.blocks.proofs.Finding.{Searching}
 use Rattle.blocks.proofs.locate.Given as goal
 
-abbrev pub invariant-loop-seen : goal.invariant-loop-seen
-invariant-loop-seen l = Searching l.file l.program l.edition l.number (blocks_in l.file - l.seen)
-
-abbrev pub decreases-loop-seen : goal.decreases-loop-seen
-decreases-loop-seen l = l.n - l.seen
+abbrev pub invariant-loop-last : goal.invariant-loop-last
+invariant-loop-last l = Searching l.file l.program l.edition l.number l.last

@@ -4,16 +4,12 @@ use Rattle.blocks.proofs.Choosing.{best_none, best-is}
 use Rattle.blocks.proofs.newest.Goals as goal
 
 pub loop-i-init : goal.loop-i-init
-loop-i-init c = (omega arith, best_none c.args.file.now c.args.program)
+loop-i-init c = best_none c.args.file.now c.args.program
 
 pub consider-best-requires : goal.consider-best-requires
 unfolding blocks_in
-consider-best-requires c = (c.requires, omega arith, c.loop-i.invariant.1)
-
-pub loop-i-preserved : goal.loop-i-preserved
-unfolding blocks_in
-loop-i-preserved c = (omega arith, c.consider-best.ensures)
+consider-best-requires c = (c.requires, omega arith, c.loop-i.invariant)
 
 pub returns : goal.returns
 unfolding blocks_in
-returns c = let all : c.loop-i.i ≡ blocks_in c.args.file.now = omega arith in best-is c.args.file.now c.args.program (λ j. omega (arith, c.type_inv.file j)) (rw all at c.loop-i.invariant.1)
+returns c = let all : c.loop-i.i ≡ blocks_in c.args.file.now = omega arith in best-is c.args.file.now c.args.program (λ j. omega (arith, c.type_inv.file j)) (rw all at c.loop-i.invariant)

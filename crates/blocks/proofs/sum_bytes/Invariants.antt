@@ -1,10 +1,6 @@
--- The bytes before `i` are summed.
-use Rattle.std.proofs.Common.{length, ◌-◌}
+-- The bytes so far are summed.
 use Rattle.blocks.proofs.Running.{Summing}
 use Rattle.blocks.proofs.sum_bytes.Given as goal
 
-abbrev pub invariant-loop-i : goal.invariant-loop-i
-invariant-loop-i l = Summing l.bytes l.first l.second l.i
-
-abbrev pub decreases-loop-i : goal.decreases-loop-i
-decreases-loop-i l = length l.bytes - l.i
+abbrev pub invariant-loop-byte : goal.invariant-loop-byte
+invariant-loop-byte l = Summing l.bytes l.first l.second l.byte-index

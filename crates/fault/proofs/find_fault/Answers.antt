@@ -1,11 +1,10 @@
 -- Each token leads on, or the text stops there.
-use Rattle.std.proofs.Common.{refl}
 use Rattle.fault.proofs.Reaching.{going-first, can-go, token-taken}
 use Rattle.fault.proofs.Faults.{way_first, way_ends, way_stops, way_goes}
 use Rattle.fault.proofs.find_fault.Goals as goal
 
 pub loop-scanned-init : goal.loop-scanned-init
-loop-scanned-init c = way_first _ _ c.requires refl refl (going-first c.into_iter-scanned-iterator.ensures.into_iter_gives c.new-scanned-items.ensures)
+loop-scanned-init c = way_first _ _ c.requires c.new-stack.ensures (going-first c.into_iter-scanned-iterator.ensures.into_iter_gives c.new-scanned-items.ensures)
 
 pub next-requires : goal.next-requires
 next-requires c = can-go c.loop-scanned.invariant.going

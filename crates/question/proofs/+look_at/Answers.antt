@@ -1,6 +1,8 @@
 -- One law for each call and each return.
-use Rattle.std.proofs.Common.{arith}
+use Rattle.std.proofs.Common.{◌∙◌, arith}
+use Rattle.table.proofs.Comparing.{same-is}
 use Rattle.table.proofs.Views.{in_table}
+use Rattle.table.specs.declared.Kind.TheVariants.{Sequence}
 use Rattle.question.proofs.Looking.{looked-few, own-few, all_looks, after-child, stop_looks, pass-low, pass_looks, first_below, first_settles, second-asked, then-has, else_asked}
 use Rattle.question.proofs.+look_at.Goals as goal
 
@@ -47,13 +49,13 @@ overflow_sub-first t c =
 pub passed_up-requires-then-stays-has : goal.passed_up-requires-then-stays-has
 passed_up-requires-then-stays-has t c =
     let (ok, h, low) = c.requires in
-    own-few ok (omega (arith, h)) c.size_at-then-is_sequence.ensures
+    own-few ok (omega (arith, h)) c.size_at-then-eq.ensures
 
 pub returns-then-stays-has : goal.returns-then-stays-has
 returns-then-stays-has t c =
     let (ok, h, low) = c.requires in
     first_settles ok h c.kind_at-kind.ensures low c.looks_at_all.ensures c.if-looks_at_all.false c.arity.ensures c.if-arity-eq1.false c.size_at-2.ensures
-    c.is_sequence.ensures c.if-is_sequence.true c.set_at-set-then-is_sequence.ensures c.size_at-then-is_sequence.ensures c.without_ended.ensures c.has-stays.ensures c.has-then-is_sequence.ensures c.if-stays-has.true c.passed_up-then-stays-has.ensures
+    (c.eq.ensures ∙ same-is c.kind_at-kind.result Sequence) c.if-eq.true c.set_at-set-then-eq.ensures c.size_at-then-eq.ensures c.without_ended.ensures c.has-stays.ensures c.has-then-eq.ensures c.if-stays-has.true c.passed_up-then-stays-has.ensures
 
 pub look_at-requires : goal.look_at-requires
 look_at-requires t c =
@@ -63,13 +65,13 @@ look_at-requires t c =
 pub joined-requires : goal.joined-requires
 joined-requires t c =
     let (ok, h, low) = c.requires in
-    (own-few ok (omega (arith, h)) c.size_at-then-is_sequence.ensures, looked-few ok (omega (arith, h)) _ c.look_at.ensures)
+    (own-few ok (omega (arith, h)) c.size_at-then-eq.ensures, looked-few ok (omega (arith, h)) _ c.look_at.ensures)
 
-pub returns-then-is_sequence : goal.returns-then-is_sequence
-returns-then-is_sequence t c =
+pub returns-then-eq : goal.returns-then-eq
+returns-then-eq t c =
     let (ok, h, low) = c.requires in
     second-asked ok h c.kind_at-kind.ensures low c.looks_at_all.ensures c.if-looks_at_all.false c.arity.ensures c.if-arity-eq1.false c.size_at-2.ensures
-    c.is_sequence.ensures c.if-is_sequence.true c.set_at-set-then-is_sequence.ensures c.size_at-then-is_sequence.ensures c.without_ended.ensures c.has-stays.ensures c.has-then-is_sequence.ensures c.if-stays-has.false c.look_at.ensures c.joined.ensures
+    (c.eq.ensures ∙ same-is c.kind_at-kind.result Sequence) c.if-eq.true c.set_at-set-then-eq.ensures c.size_at-then-eq.ensures c.without_ended.ensures c.has-stays.ensures c.has-then-eq.ensures c.if-stays-has.false c.look_at.ensures c.joined.ensures
 
 pub look_at-then-requires : goal.look_at-then-requires
 look_at-then-requires t c =
@@ -85,7 +87,7 @@ pub returns-then-has : goal.returns-then-has
 returns-then-has t c =
     let (ok, h, low) = c.requires in
     then-has ok h c.kind_at-kind.ensures low c.looks_at_all.ensures c.if-looks_at_all.false c.arity.ensures c.if-arity-eq1.false c.size_at-2.ensures
-    c.is_sequence.ensures c.if-is_sequence.false c.look_at-then.ensures c.if-has.true c.passed_up-then-has.ensures
+    (c.eq.ensures ∙ same-is c.kind_at-kind.result Sequence) c.if-eq.false c.look_at-then.ensures c.if-has.true c.passed_up-then-has.ensures
 
 pub look_at-requires-2 : goal.look_at-requires-2
 look_at-requires-2 t c =
@@ -101,4 +103,4 @@ pub returns : goal.returns
 returns t c =
     let (ok, h, low) = c.requires in
     else_asked ok h c.kind_at-kind.ensures low c.looks_at_all.ensures c.if-looks_at_all.false c.arity.ensures c.if-arity-eq1.false c.size_at-2.ensures
-    c.is_sequence.ensures c.if-is_sequence.false c.look_at-then.ensures c.if-has.false c.look_at-2.ensures c.joined-2.ensures
+    (c.eq.ensures ∙ same-is c.kind_at-kind.result Sequence) c.if-eq.false c.look_at-then.ensures c.if-has.false c.look_at-2.ensures c.joined-2.ensures

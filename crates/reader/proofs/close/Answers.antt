@@ -1,5 +1,4 @@
 -- By the statement.
-use Rattle.reader.proofs.Endings.{plain_end}
 use Rattle.reader.proofs.close.Goals as goal
 
 pub returns-in-Suspend : goal.returns-in-Suspend
@@ -7,6 +6,3 @@ returns-in-Suspend c = λ depth v. rw c.in-Suspend.is (c.close_when.ensures dept
 
 pub returns-in-Abort : goal.returns-in-Abort
 returns-in-Abort c = λ depth v. rw c.in-Abort.is (c.close_abort.ensures depth)
-
-pub close_end-requires-clause-plain : goal.close_end-requires-clause-plain
-close_end-requires-clause-plain c = plain_end c.args.frame c.in_default.not-Suspend c.in_default.not-Abort c.requires.plain

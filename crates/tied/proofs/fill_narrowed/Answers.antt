@@ -4,8 +4,8 @@ use Rattle.table.proofs.Bytes.{table-length}
 use Rattle.tied.proofs.Words.{next-set, all_set}
 use Rattle.tied.proofs.fill_narrowed.Goals as goal
 
-pub set_at-set-requires : goal.set_at-set-requires
-set_at-set-requires c =
+pub set_at-requires : goal.set_at-requires
+set_at-requires c =
     let nodes = table-length c.args.table.now c.requires.0.measured.readable in
     (c.requires.0, omega arith, omega (arith, c.requires.1))
 
@@ -17,7 +17,7 @@ bounds-sets-i c =
 pub loop-i-preserved : goal.loop-i-preserved
 loop-i-preserved c =
     let nodes = table-length c.args.table.now c.requires.0.measured.readable in
-    next-set c.requires.1 c.loop-i.invariant (omega arith) c.set_at-set.ensures
+    next-set c.requires.1 c.loop-i.invariant (omega arith) c.set_at.ensures
 
 pub returns : goal.returns
 returns c =

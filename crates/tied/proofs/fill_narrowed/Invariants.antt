@@ -1,10 +1,6 @@
 -- The entries before `i` are the sets of the nodes before it.
-use Rattle.std.proofs.Common.{◌-◌}
 use Rattle.tied.proofs.Words.{SetsTo}
 use Rattle.tied.proofs.fill_narrowed.Given as goal
 
 abbrev pub invariant-loop-i : goal.invariant-loop-i
 invariant-loop-i l = SetsTo l.table l.known l.fn.sets l.sets l.i
-
-abbrev pub decreases-loop-i : goal.decreases-loop-i
-decreases-loop-i l = l.n - l.i

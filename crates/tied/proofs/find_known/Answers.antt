@@ -1,25 +1,15 @@
 -- Each turn finds what is known of one more node's signal (proofs/Known.antt).
-use Rattle.std.proofs.Common.{sym, ap, arith}
-use Rattle.std.proofs.Math.Seq.{get_or-take}
-use Rattle.esterel.specs.Limits.{signals}
-use Rattle.tied.specs.Ties.{tie_of}
-use Rattle.tied.proofs.Known.{begin, in_reach, fits, finding-next}
+use Rattle.std.proofs.Common.{arith}
+use Rattle.tied.proofs.Known.{begin, fits, finding-next}
 use Rattle.tied.proofs.find_known.Goals as goal
 
 pub loop-i-init : goal.loop-i-init
 loop-i-init c = begin _ _ c.requires.0.readable
 
-pub kind_at-kind-requires : goal.kind_at-kind-requires
-kind_at-kind-requires c = in_reach c.requires.0 c.loop-i.invariant (omega arith)
-
-pub field_at-signal-requires : goal.field_at-signal-requires
-field_at-signal-requires c = in_reach c.requires.0 c.loop-i.invariant (omega arith)
-
-pub overflow_sub-i-in-loop-i : goal.overflow_sub-i-in-loop-i
-overflow_sub-i-in-loop-i c = omega (arith, c.size_at.ensures, fits c.requires.0 c.loop-i.invariant (omega arith))
+pub overflow_sub-i : goal.overflow_sub-i
+overflow_sub-i c = omega (arith, c.size_at.ensures, fits c.requires.0 c.loop-i.invariant (omega arith))
 
 pub loop-i-preserved : goal.loop-i-preserved
 loop-i-preserved c =
     let (field, low) = c.field_at-signal.ensures in
-    let own = ap tie_of (sym (get_or-take signals c.args.ties.now c.field_at-signal.result 0 low)) in
-    finding-next c.requires.0 c.loop-i.invariant (omega arith) c.kind_at-kind.ensures field low _ own c.tie_at.ensures (rw (← c.size_at.ensures) c.reach.ensures) c.requires.2
+    finding-next c.requires.0 c.loop-i.invariant (omega arith) c.kind_at-kind.ensures field low c.tie_at.ensures (rw (← c.size_at.ensures) c.reach.ensures) c.requires.1

@@ -1,22 +1,26 @@
 -- One law for each return.
-use Rattle.std.proofs.Common.{refl}
-use Rattle.tied.proofs.Narrows.{table-refused, sound, ties-lent, sets-lent, ties-refused, narrowed}
+use Rattle.std.proofs.Common.{◌∙◌, refl, sym, ap, subst}
+use Rattle.esterel.proofs.Replies.{handed}
+use Rattle.esterel.specs.Refusal.{rejects, number_of}
+use Rattle.tied.specs.Calls.{Narrowing}
+use Rattle.tied.proofs.Narrows.{table-refused, sound, sets-lent, ties-refused, narrowed}
 use Rattle.tied.proofs.narrow.Goals as goal
 
-pub returns-in_default : goal.returns-in_default
-returns-in_default c = table-refused c.args.ties.now c.args.sets.now c.has_room-room.ensures c.check_sized-check.ensures _ _ c.in_default.is c.refused.ensures
+pub returns-in_err-check_sized : goal.returns-in_err-check_sized
+returns-in_err-check_sized c =
+    subst (Narrowing _ _ _ _) (sym (handed c.from_residual.result _ c.from_residual.ensures.1))
+    (table-refused c.args.ties.now c.args.sets.now c.has_room-room.ensures c.in_err-check_sized.ensures)
 
-pub check_ties-tied-requires : goal.check_ties-tied-requires
-check_ties-tied-requires c = ties-lent c.args.ties.now c.args.sets.now c.has_room-room.ensures c.check_sized-check.ensures c.in-Passed.is
-
-pub returns-in_default-tied : goal.returns-in_default-tied
-returns-in_default-tied c =
-    ties-refused c.args.ties.now c.args.sets.now c.has_room-room.ensures c.check_sized-check.ensures c.in-Passed.is c.check_ties-tied.ensures _ _ c.in_default-tied.is c.refused-in_default-tied.ensures
+pub returns-in_err-tied : goal.returns-in_err-tied
+returns-in_err-tied c =
+    let refusal = ap (λ r. rejects (number_of r.check) r.node) c.in_err-tied.ensures.1 in
+    subst (Narrowing _ _ _ _) (sym (handed c.from_residual-in_err-tied.result _ c.from_residual-in_err-tied.ensures.1 ∙ refusal))
+    (ties-refused c.args.ties.now c.args.sets.now c.has_room-room.ensures c.in_ok-check_sized.ensures c.in_err-tied.ensures.0)
 
 pub fill_narrowed-requires : goal.fill_narrowed-requires
 fill_narrowed-requires c =
-    (sound c.args.ties.now c.args.sets.now c.has_room-room.ensures c.check_sized-check.ensures c.in-Passed.is, sets-lent c.args.ties.now c.args.sets.now c.has_room-room.ensures c.check_sized-check.ensures c.in-Passed.is)
+    (sound c.args.ties.now c.args.sets.now c.has_room-room.ensures c.in_ok-check_sized.ensures, sets-lent c.args.ties.now c.args.sets.now c.has_room-room.ensures c.in_ok-check_sized.ensures)
 
 pub returns : goal.returns
 returns c =
-    narrowed c.args.ties.now c.args.sets.now c.has_room-room.ensures c.check_sized-check.ensures c.in-Passed.is c.check_ties-tied.ensures c.in-Passed-tied.is refl c.find_known.ensures c.fill_narrowed.ensures
+    narrowed c.args.ties.now c.args.sets.now c.has_room-room.ensures c.in_ok-check_sized.ensures _ c.in_ok-tied.ensures refl c.find_known.ensures c.fill_narrowed.ensures

@@ -1,26 +1,21 @@
--- One node more is counted: proofs/Presents.antt.
-use Rattle.std.proofs.Common.{ap, arith}
-use Rattle.codes.specs.Codes.{bit}
-use Rattle.trial.proofs.Presents.{counting_starts, few-nodes, in_table, counting_next, counting_ends}
+-- The nodes that are counted are the statement's presents: proofs/Presents.antt.
+use Rattle.std.proofs.Common.{refl, ◌∙◌, ◌+◌, ap, arith, length, rules, tests}
+use Rattle.std.proofs.lemmas.Iterator.{serves_from_Range, YieldsList-from_range}
+use Rattle.std.proofs.lemmas.Iterator.Consumers.{count_from_yields_List, YieldsList-from_filter}
+use Rattle.trial.proofs.Presents.{is_present_at, few-nodes, in_reach, presents_are}
 use Rattle.trial.proofs.count_presents.Goals as goal
 
-pub loop-i-init : goal.loop-i-init
-loop-i-init c = counting_starts c.requires
+pub overflow_add-node : goal.overflow_add-node
+overflow_add-node c = let few = few-nodes c.requires in omega arith
 
-pub kind_at-requires : goal.kind_at-requires
-kind_at-requires c = in_table c.requires c.loop-i.invariant c.loop-i-test.true
-
-pub overflow_add-count : goal.overflow_add-count
-overflow_add-count c =
-    let next = counting_next c.requires c.loop-i.invariant c.loop-i-test.true c.kind_at.ensures (ap bit c.is_present.ensures) in
-    let few = few-nodes c.requires in
-    omega (arith, next.few)
-
-pub overflow_add-i : goal.overflow_add-i
-overflow_add-i c = let few = few-nodes c.requires in omega arith
-
-pub loop-i-preserved : goal.loop-i-preserved
-loop-i-preserved c = counting_next c.requires c.loop-i.invariant c.loop-i-test.true c.kind_at.ensures (ap bit c.is_present.ensures)
+pub count-requires-clause-can : goal.count-requires-clause-can
+count-requires-clause-can c =
+    let end = ap (λ r. r.end) c.filter.ensures.source in
+    let same = ap (λ p. length p.0.now) c.filter.ensures.closure in
+    (tt, tt, serves_from_Range (λ x q k. search (rules, tests)) (λ x low high y e _ _ _ _ _ _ _ _. omega (arith, in_reach c.requires x (omega arith))))
 
 pub returns : goal.returns
-returns c = counting_ends c.requires c.loop-i.invariant c.loop-i-test.false
+returns c =
+    count_from_yields_List _ _ c.count.ensures.ran
+    (YieldsList-from_filter _ (is_present_at c.args.table.now) (YieldsList-from_range c.args.first (c.args.node + 1) _ c.filter.ensures.source refl) c.filter.ensures.closure (λ x b q k. search (rules, tests)))
+    ∙ presents_are c.requires

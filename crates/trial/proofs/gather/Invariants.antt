@@ -1,4 +1,4 @@
-use Rattle.std.proofs.Common.{◌≡◌, ◌-◌, ◌^◌, ◌≤◌, length}
+use Rattle.std.proofs.Common.{◌≡◌, ◌≤◌, length}
 use Rattle.esterel.specs.Limits.{signals}
 use Rattle.esterel.specs.Instant.{start}
 use Rattle.table.specs.Columns.{stmt_at, first_at}
@@ -10,6 +10,3 @@ use Rattle.trial.proofs.gather.Given as goal
 abbrev pub invariant-loop-number : goal.invariant-loop-number
 invariant-loop-number l =
     (signals ≤ length l.emissions) × (l.set ≡ gathered_to (start (first_at l.table l.node) (stmt_at l.table l.node)) trial_answers l.number)
-
-abbrev pub decreases-loop-number : goal.decreases-loop-number
-decreases-loop-number l = 2 ^ trial_answers - l.number

@@ -51,23 +51,23 @@ overflow_sub-first t c =
 
 pub returns-in_err-answer : goal.returns-in_err-answer
 returns-in_err-answer t c =
-    rw c.from_residual-in_err-answer.ensures (present-starves c.requires.0 c.requires.1 c.requires.2 c.kind_at-kind.ensures c.arity-children.ensures c.size_at-size.ensures c.if-children-eq0.false c.if-children-eq1.false (sym (same-is _ Present) ∙ sym c.eq.ensures ∙ c.if-eq.true) c.in_err-answer.ensures.lookup.3)
+    rw c.from_residual-in_err-answer.ensures (present-starves c.requires.0 c.requires.1 c.requires.2 c.kind_at-kind.ensures c.arity-children.ensures c.size_at-size.ensures c.if-children-eq0.false c.if-children-eq1.false (sym (same-is _ Present) ∙ sym c.eq.ensures ∙ c.if-eq.true) c.in_err-answer.ensures)
 
 pub start_at-requires-then-eq : goal.start_at-requires-then-eq
 start_at-requires-then-eq t c =
-    (omega (arith, branch_lt c.requires.0 c.requires.1 c.requires.2 c.kind_at-kind.ensures c.arity-children.ensures c.size_at-size.ensures c.if-children-eq0.false c.if-children-eq1.false (sym (same-is _ Present) ∙ sym c.eq.ensures ∙ c.if-eq.true) c.in_ok-answer.ensures.lookup.3 c.branch-chosen.ensures), branch_call c.requires.0 c.requires.1 c.requires.2 c.kind_at-kind.ensures c.arity-children.ensures c.size_at-size.ensures c.if-children-eq0.false c.if-children-eq1.false (sym (same-is _ Present) ∙ sym c.eq.ensures ∙ c.if-eq.true) c.in_ok-answer.ensures.lookup.3 c.branch-chosen.ensures)
+    (omega (arith, branch_lt c.requires.0 c.requires.1 c.requires.2 c.kind_at-kind.ensures c.arity-children.ensures c.size_at-size.ensures c.if-children-eq0.false c.if-children-eq1.false (sym (same-is _ Present) ∙ sym c.eq.ensures ∙ c.if-eq.true) c.in_ok-answer.ensures c.branch-chosen.ensures), branch_call c.requires.0 c.requires.1 c.requires.2 c.kind_at-kind.ensures c.arity-children.ensures c.size_at-size.ensures c.if-children-eq0.false c.if-children-eq1.false (sym (same-is _ Present) ∙ sym c.eq.ensures ∙ c.if-eq.true) c.in_ok-answer.ensures c.branch-chosen.ensures)
 
 pub returns-in_err-inner-2 : goal.returns-in_err-inner-2
 returns-in_err-inner-2 t c =
-    rw c.from_residual-in_err-inner-2.ensures (present-returns c.requires.0 c.requires.1 c.requires.2 c.kind_at-kind.ensures c.arity-children.ensures c.size_at-size.ensures c.if-children-eq0.false c.if-children-eq1.false (sym (same-is _ Present) ∙ sym c.eq.ensures ∙ c.if-eq.true) c.in_ok-answer.ensures.lookup.3 c.branch-chosen.ensures c.in_err-inner-2.ensures refl)
+    rw c.from_residual-in_err-inner-2.ensures (present-returns c.requires.0 c.requires.1 c.requires.2 c.kind_at-kind.ensures c.arity-children.ensures c.size_at-size.ensures c.if-children-eq0.false c.if-children-eq1.false (sym (same-is _ Present) ∙ sym c.eq.ensures ∙ c.if-eq.true) c.in_ok-answer.ensures c.branch-chosen.ensures c.in_err-inner-2.ensures refl)
 
 pub one_more-requires : goal.one_more-requires
 one_more-requires t c =
-    omega (arith, few-entries c.branch-chosen.result (c.args.taken + 1) c.requires.0 (omega (arith, c.requires.1.within, branch_lt c.requires.0 c.requires.1 c.requires.2 c.kind_at-kind.ensures c.arity-children.ensures c.size_at-size.ensures c.if-children-eq0.false c.if-children-eq1.false (sym (same-is _ Present) ∙ sym c.eq.ensures ∙ c.if-eq.true) c.in_ok-answer.ensures.lookup.3 c.branch-chosen.ensures)) c.in_ok-inner-2.ensures)
+    omega (arith, few-entries c.branch-chosen.result (c.args.taken + 1) c.requires.0 (omega (arith, c.requires.1.within, branch_lt c.requires.0 c.requires.1 c.requires.2 c.kind_at-kind.ensures c.arity-children.ensures c.size_at-size.ensures c.if-children-eq0.false c.if-children-eq1.false (sym (same-is _ Present) ∙ sym c.eq.ensures ∙ c.if-eq.true) c.in_ok-answer.ensures c.branch-chosen.ensures)) c.in_ok-inner-2.ensures)
 
 pub returns-then-eq : goal.returns-then-eq
 returns-then-eq t c =
-    present-returns c.requires.0 c.requires.1 c.requires.2 c.kind_at-kind.ensures c.arity-children.ensures c.size_at-size.ensures c.if-children-eq0.false c.if-children-eq1.false (sym (same-is _ Present) ∙ sym c.eq.ensures ∙ c.if-eq.true) c.in_ok-answer.ensures.lookup.3 c.branch-chosen.ensures c.in_ok-inner-2.ensures (ap Some c.one_more.ensures)
+    present-returns c.requires.0 c.requires.1 c.requires.2 c.kind_at-kind.ensures c.arity-children.ensures c.size_at-size.ensures c.if-children-eq0.false c.if-children-eq1.false (sym (same-is _ Present) ∙ sym c.eq.ensures ∙ c.if-eq.true) c.in_ok-answer.ensures c.branch-chosen.ensures c.in_ok-inner-2.ensures (ap Some c.one_more.ensures)
 
 pub start_at-requires-2 : goal.start_at-requires-2
 start_at-requires-2 t c =

@@ -1,5 +1,0 @@
--- Each turn counts one less.
-use Rattle.plans.proofs.main.Given as goal
-
-abbrev pub decreases-loop-left : goal.decreases-loop-left
-decreases-loop-left l = l.left
