@@ -1,12 +1,20 @@
 -- The step of the walk over the contexts, from a node to the node before it, with the contexts xs and the traps ys of the other subtrees
--- that wait on the stacks.
-use Rattle.std.specs.Prelude.{ℕ, ◌+◌, ◌-◌, ◌≡◌, List, get_or, set}
+-- that wait on the stack.
+use Rattle.std.specs.Prelude.{ℕ, ◌+◌, ◌-◌, ◌≡◌, List, map, get_or, set}
 use Rattle.codes.specs.Codes.{bit}
 use Rattle.table.specs.Kinds.{arity_of, is_trap}
 use Rattle.table.specs.Stacks.{Moves}
 use Rattle.table.specs.declared.Kind.{Kind}
 use Rattle.analysis.specs.Steps.{first_of, last_of}
+use Rattle.analysis.specs.declared.Pending.{Pending}
 use Rattle.analysis.specs.declared.Surroundings.{Surroundings}
+
+-- what is on the stack, as two
+abbrev pub contexts_in : List Pending → List ℕ
+contexts_in = map (λ x. x.context)
+
+abbrev pub traps_in : List Pending → List ℕ
+traps_in = map (λ x. x.traps)
 
 -- past a leaf: what is on top
 pub record TopOf (xs ys : List ℕ) (waiting : ℕ) (r : Surroundings) : Type 0 where

@@ -11,7 +11,7 @@ ghost use Rattle.table.specs.Kinds.{is_loop, is_sequence};
 ghost use Rattle.table.specs.Program.{program_of};
 ghost use Rattle.table.specs.Check.{WellSized};
 ghost use Rattle.analysis.specs.Steps.{pause_set, sequence_of, codes_of, under_first_of, under_second_of};
-ghost use Rattle.analysis.specs.Contexts.{TopOf, OnlyOf, SecondOf, Descended};
+ghost use Rattle.analysis.specs.Contexts.{contexts_in, traps_in, TopOf, OnlyOf, SecondOf, Descended};
 ghost use Rattle.analysis.specs.Passes.{Placed, onto, loops_check, words_of, flags_of, Fillable, contexts_of, marks_of, Walkable, Accepting};
 ghost use Rattle.analysis.specs.Analysis.{TableChecked, SizesChecked, room_for, Analysis};
 
@@ -170,20 +170,23 @@ struct Surroundings {
     waiting: usize,
 }
 
+// What a subtree that waits needs: its context, and the traps around it.
+#[derive(Clone, Copy)]
+struct Pending {
+    context: u64,
+    traps: u32,
+}
+
 // Past a leaf: the subtree that waits next.
-fn next_waiting(
-    pending: &[u64; esterel::MAX_DEPTH + 1],
-    counts: &[u32; esterel::MAX_DEPTH + 1],
-    waiting: usize,
-) -> Surroundings
+fn next_waiting(stack: &[Pending; esterel::MAX_DEPTH + 1], waiting: usize) -> Surroundings
     requires { (0 < waiting) × (waiting ≤ max_depth) }
-    ensures { TopOf pending.now counts.now waiting result }
+    ensures { TopOf (contexts_in stack.now) (traps_in stack.now) waiting result }
 {
-    let top = waiting - 1;
+    let next = stack[waiting - 1];
     Surroundings {
-        context: pending[top],
-        traps: counts[top],
-        waiting: top,
+        context: next.context,
+        traps: next.traps,
+        waiting: waiting - 1,
     }
 }
 
@@ -200,55 +203,54 @@ fn only_child(node: Surroundings, context: u64, traps: u32) -> Surroundings
 
 // Into the second of two children, with the contexts of both. The first waits.
 fn second_child(
-    pending: &mut [u64; esterel::MAX_DEPTH + 1],
-    counts: &mut [u32; esterel::MAX_DEPTH + 1],
+    stack: &mut [Pending; esterel::MAX_DEPTH + 1],
     node: Surroundings,
     first: u64,
     second: u64,
 ) -> Surroundings
     requires { node.waiting ≤ max_depth }
-    ensures { SecondOf node first second pending.old counts.old pending.new counts.new result }
+    ensures { SecondOf node first second (contexts_in stack.old) (traps_in stack.old) (contexts_in stack.new) (traps_in stack.new) result }
 {
-    let place = node.waiting;
-    pending[place] = first;
-    counts[place] = node.traps;
+    stack[node.waiting] = Pending {
+        context: first,
+        traps: node.traps,
+    };
     Surroundings {
         context: second,
         traps: node.traps,
-        waiting: place + 1,
+        waiting: node.waiting + 1,
     }
 }
 
-// From a node to the node before it, with the contexts of the other subtrees that wait in `pending` and the traps around them in
-// `counts`. `last` is the start set of the last child, if there is one, and `ends` says whether a sequence's first child may end at once.
+// From a node to the node before it; on the stack are the other subtrees that wait. `last` is the start set of the last child, if
+// there is one, and `ends` says whether a sequence's first child may end at once.
 fn descend(
     kind: Kind,
-    pending: &mut [u64; esterel::MAX_DEPTH + 1],
-    counts: &mut [u32; esterel::MAX_DEPTH + 1],
+    stack: &mut [Pending; esterel::MAX_DEPTH + 1],
     node: Surroundings,
     last: u64,
     ends: u8,
 ) -> Surroundings
     requires { (node.traps ≤ max_traps) × (0 < node.waiting) × (node.waiting ≤ max_depth) }
-    ensures { Descended kind node last ends pending.old counts.old pending.new counts.new result }
+    ensures { Descended kind node last ends (contexts_in stack.old) (traps_in stack.old) (contexts_in stack.new) (traps_in stack.new) result }
 {
     let context = node.context;
     let traps = node.traps;
     match kind {
         Kind::Nothing | Kind::Pause | Kind::Emit | Kind::Exit | Kind::Unknown => {
-            next_waiting(pending, counts, node.waiting)
+            next_waiting(stack, node.waiting)
         }
         Kind::Signal | Kind::Suspend => only_child(node, context, traps),
         Kind::Loop => only_child(node, codes::union(context, codes::singleton(0)), traps),
         Kind::Trap => only_child(node, codes::under_trap(context), traps + 1),
-        Kind::Present => second_child(pending, counts, node, context, context),
+        Kind::Present => second_child(stack, node, context, context),
         Kind::Sequence => {
             let first = first_context(context, last);
-            second_child(pending, counts, node, first, second_context(context, ends))
+            second_child(stack, node, first, second_context(context, ends))
         }
         Kind::Parallel => {
             let branch = codes::under_parallel(context, traps);
-            second_child(pending, counts, node, branch, branch)
+            second_child(stack, node, branch, branch)
         }
     }
 }
@@ -272,15 +274,18 @@ fn last_set(sets: &[u64], node: usize) -> u64
 }
 
 // The contexts and the marks, in one walk from the last node to the first. What waits are the subtrees that end right before the nodes
-// done. The context of the one that ends next, and the traps around it, are at hand, and those of the others are on two stacks, the next
-// one on top.
+// done. The context of the one that ends next, and the traps around it, are at hand, and those of the others are on a stack, the next one
+// on top.
 fn fill_contexts(table: &[u8], sets: &[u64], anys: &[u64], contexts: &mut [u64], marks: &mut [u8])
     requires { Walkable table.now sets.now anys.now contexts.old marks.old }
     ensures contexts { contexts.new ≡ onto (contexts_of (program_of table.now)) contexts.old }
     ensures marks { marks.new ≡ onto (marks_of (program_of table.now)) marks.old }
 {
-    let mut pending = [0u64; esterel::MAX_DEPTH + 1];
-    let mut counts = [0u32; esterel::MAX_DEPTH + 1];
+    let nothing = Pending {
+        context: 0,
+        traps: 0,
+    };
+    let mut stack = [nothing; esterel::MAX_DEPTH + 1];
     let mut node = Surroundings {
         context: 0,
         traps: 0,
@@ -291,14 +296,7 @@ fn fill_contexts(table: &[u8], sets: &[u64], anys: &[u64], contexts: &mut [u64],
         let ends = marks[i];
         contexts[i] = node.context;
         marks[i] = mark(anys[i], node.context);
-        node = descend(
-            kind,
-            &mut pending,
-            &mut counts,
-            node,
-            last_set(sets, i),
-            ends,
-        );
+        node = descend(kind, &mut stack, node, last_set(sets, i), ends);
     }
 }
 

@@ -1,13 +1,17 @@
 -- What a run over a program's last node makes of the call's buffers.
 use mathlib.Core.Path.{◌≡◌, refl, sym, ap, ap₂, subst, ◌∙◌}
 use Rattle.codes.proofs.Bools.{left, right}
-use mathlib.Core.Bool.{true}
+use mathlib.Core.Bool.{Bool, true, false}
 use mathlib.Core.List.{List, ◌++◌}
 use Prim.Native.Nat.{ℕ, zero, suc, ◌+◌, ◌-◌, ◌/◌, ◌≤◌, ◌<◌}
 use native.Mathlib.Omega.{arith}
 use lib.ListN.{length, get_or, take, drop, length-drop, length-replicate, length-append}
-use lib.Seq.{sets, sets-eq, take_all, take_at, length-take-le}
+use lib.Seq.{sets, sets-eq, take_at}
+use Rattle.std.specs.Prelude.{Option, Some, None, Ok}
+use Rattle.std.specs.Option.{ok_or}
 use Rattle.esterel.specs.Limits.{signals}
+use Rattle.esterel.specs.Refusal.{Reply, yields, rejects}
+use Rattle.esterel.specs.declared.Refusal.{Refusal}
 use Rattle.esterel.specs.Statement.{Stmt, size, nodes}
 use Rattle.esterel.specs.Table.{passed, refused}
 use Rattle.esterel.specs.Instant.{Entry, Result, zeros, holds, at_pauses, one_branch, start, resume, admitted}
@@ -21,23 +25,14 @@ use Rattle.esterel.proofs.Theorems.{demand3}
 use Rattle.packing.specs.Packing.{state_bytes, pack, unpack, is_clear_from, admits}
 use Rattle.packing.proofs.Zeros.{none-at}
 use Rattle.packing.proofs.Bits.{length-pack}
-use Rattle.instant.proofs.Algebra.{length_marked}
 use Rattle.table.specs.Program.{program_of}
-use Rattle.table.specs.Check.{pass_if}
 use Rattle.table.specs.Check.{answer_of as check_of}
-use Rattle.table.specs.declared.Check.{Check}
-use Rattle.table.specs.declared.Check.TheVariants.{Passed}
-use Rattle.table.specs.declared.Check.TheVariants.{Refused as RefusedCheck}
-use Rattle.table.proofs.Found.{pass-true, pass-false}
 use Rattle.table.proofs.Bytes.{table-length}
 use Rattle.analysis.proofs.Analyses.{verdict-refused}
 use Rattle.instant.specs.Run.{stmt_at, first_at, bytes_at, Clear, Holding, RanIs, ran, starves, Started, Resumed}
-use Rattle.instant.specs.declared.Ran.{Ran}
-use Rattle.instant.specs.declared.Ran.TheVariants.{Closed as ClosedRan}
 use Rattle.instant.specs.declared.Reaction.{Reaction}
-use Rattle.instant.specs.declared.Reaction.TheVariants.{Closed as ClosedReaction}
 use Rattle.instant.specs.Admission.{Counted}
-use Rattle.instant.specs.Calls.{Call, closing, handed, Reacts, Ready, start_call, resume_call, verdict_for, refusal_of}
+use Rattle.instant.specs.Calls.{Call, closing, handed, Reacts, Ready, start_call, resume_call, verdict_for}
 use Rattle.instant.proofs.Emissions.{marks-are}
 use Rattle.instant.proofs.Entering.{counts_rise, admitted-small}
 use Rattle.instant.proofs.Nodes.{accepted}
@@ -74,42 +69,44 @@ held_small {p} {k = zero} o i = let e = ap (λ l. get_or l i 0) (o.ended refl) �
 held_small {p} {h = h} {k = suc zero} o i = admitted-small p h (o.paused refl) i
 held_small {k = suc (suc k)} o i = absurd (omega (arith, o.code))
 
+pub closed-of : (x : Option Reaction) (r : Reaction) (e : Refusal) → Ok r ≡ ok_or x e → x ≡ Some r
+closed-of (Some s) r e h = cc
+closed-of None r e h = cc
+
 -- what a closed run hands over
-pub handed-over : (held marks state emissions : List ℕ) (n : ℕ) {r : Ran} {state' emissions' : List ℕ} {code k entries : ℕ} → r ≡ ClosedRan code k entries → signals ≤ length marks → state' ≡ pack (take n held) ++ drop state_bytes state → emissions' ≡ take signals marks ++ drop signals emissions → Reacts (handed r (take n held) (take signals marks)) state emissions state' emissions' (ClosedReaction code k entries)
+pub handed-over : (held marks state emissions : List ℕ) (n : ℕ) {x : Option Reaction} {r : Reaction} {state' emissions' : List ℕ} → x ≡ Some r → signals ≡ length marks → state' ≡ pack (take n held) ++ drop state_bytes state → emissions' ≡ marks ++ drop signals emissions → Reacts (handed x (take n held) marks) state emissions state' emissions' (yields r)
 handed-over held marks state emissions n e wide s m =
     rw e
     (record {
       answer = refl;
       state_is = s ∙ ap (λ i. pack (take n held) ++ drop i state) (sym (length-pack (take n held)));
-      emissions_are = m ∙ ap (λ i. take signals marks ++ drop i emissions) (sym (length-take-le signals marks wide));
+      emissions_are = m ∙ ap (λ i. marks ++ drop i emissions) wide;
     })
 
-pub reacts_as : {call call' : Call} {state emissions state' emissions' : List ℕ} {r : Reaction} → call ≡ call' → Reacts call state emissions state' emissions' r → Reacts call' state emissions state' emissions' r
+pub reacts_as : {call call' : Call} {state emissions state' emissions' : List ℕ} {r : Reply Reaction} → call ≡ call' → Reacts call state emissions state' emissions' r → Reacts call' state emissions state' emissions' r
 reacts_as {state = state} {emissions = emissions} {state' = state'} {emissions' = emissions'} {r = r} e = subst (λ c. Reacts c state emissions state' emissions' r) e
 
 -- a run over the last node hands over the rules' outcome
 module _ (t answers held held' marks' : List ℕ) {n : ℕ} (long : size (program_of t) ≤ length held) (en : n ≡ size (program_of t)) where
-  pub hands : {x : Result} {r : Ran} → Closes (program_of t) answers x → RanIs t answers 0 held held' (zeros signals) marks' x r → handed r (take n held') (take signals marks') ≡ closing (outcome (program_of t) x)
+  pub hands : {x : Result} {r : Option Reaction} → Closes (program_of t) answers x → RanIs t answers 0 held held' (zeros signals) marks' x r → handed r (take n held') marks' ≡ closing (outcome (program_of t) x)
   hands sure (ran c k u h le es em) =
       let bytes : marks' ≡ emission_bytes (emitted (nodes (program_of t)) u) 0 signals = em ∙ marks-are (emitted (nodes (program_of t)) u) signals in
-      let wide : length marks' ≡ signals = ap length em ∙ length_marked (emitted (nodes (program_of t)) u) _ ∙ length-replicate {A = ℕ} signals 0 in
       let left : take n held' ≡ h = ap (take n) es ∙ sets-front held h n (held-length sure ∙ sym en) (omega arith) in
-      let right : take signals marks' ≡ emission_bytes (emitted (nodes (program_of t)) u) 0 signals = take_all signals marks' (omega arith) ∙ bytes in
-      rw (left, right, same_taken (program_of t) answers c k u h le sure)
+      rw (left, bytes, same_taken (program_of t) answers c k u h le sure)
   hands sure starves = refl
 
 -- a refusal by checks 1 to 11
-module _ (t state emissions answers : List ℕ) {c : Check} {r : Reaction} (number node : ℕ) (e : c ≡ check_of (verdict_for t (length state) (length emissions))) (z : c ≡ RefusedCheck number node) (y : r ≡ refusal_of c) where
+module _ (t state emissions answers : List ℕ) {number node : ℕ} (e : rejects number node ≡ check_of (verdict_for t (length state) (length emissions))) where
   is-refused : verdict_for t (length state) (length emissions) ≡ refused number node
-  is-refused = verdict-refused (verdict_for t (length state) (length emissions)) _ number node e z
+  is-refused = verdict-refused (verdict_for t (length state) (length emissions)) number node e
 
-  pub start-refused : Reacts (start_call (verdict_for t (length state) (length emissions)) answers) state emissions state emissions r
+  pub start-refused : Reacts (start_call (verdict_for t (length state) (length emissions)) answers) state emissions state emissions (rejects number node)
   unfolding start_call
-  start-refused = rw is-refused (record { answer = y ∙ ap refusal_of z; state_is = refl; emissions_are = refl })
+  start-refused = rw is-refused (record { answer = refl; state_is = refl; emissions_are = refl })
 
-  pub resume-refused : Reacts (resume_call (verdict_for t (length state) (length emissions)) state answers) state emissions state emissions r
+  pub resume-refused : Reacts (resume_call (verdict_for t (length state) (length emissions)) state answers) state emissions state emissions (rejects number node)
   unfolding resume_call
-  resume-refused = rw is-refused (record { answer = y ∙ ap refusal_of z; state_is = refl; emissions_are = refl })
+  resume-refused = rw is-refused (record { answer = refl; state_is = refl; emissions_are = refl })
 
 module _ {t sizes : List ℕ} {a b : ℕ} (o : Ready t a b sizes) where
   pub nodes-are : length t / 2 ≡ size (program_of t)
@@ -123,11 +120,9 @@ module _ {t sizes : List ℕ} {a b : ℕ} (o : Ready t a b sizes) where
     is-passed : verdict_for t (length state) (length emissions) ≡ passed (program_of t)
     is-passed = ap₂ (verdict_for t) (sym ea) (sym eb) ∙ o.verdict
 
-    pub not-admitted : {x : Check} {r : Reaction} → x ≡ pass_if 12 (admits (program_of t) state) → (number node : ℕ) → x ≡ RefusedCheck number node → r ≡ refusal_of x → Reacts (resume_call (verdict_for t (length state) (length emissions)) state answers) state emissions state emissions r
+    pub not-admitted : {x : Bool} → x ≡ admits (program_of t) state → x ≡ false → Reacts (resume_call (verdict_for t (length state) (length emissions)) state answers) state emissions state emissions (rejects 12 0)
     unfolding resume_call
-    not-admitted {x} ex number node e y =
-        let fails = pass-false 12 (admits (program_of t) state) number node (sym ex ∙ e) in
-        rw (is-passed, fails) (record { answer = y ∙ ap refusal_of (ex ∙ ap (pass_if 12) fails); state_is = refl; emissions_are = refl })
+    not-admitted {x} ex fails = rw (is-passed, sym ex ∙ fails) (record { answer = refl; state_is = refl; emissions_are = refl })
 
     module _ {n : ℕ} (en : n ≡ size (program_of t)) (held : List ℕ) (room : size (program_of t) ≤ length held) where
       -- a fact about the statement at the last node is one about the program
@@ -137,7 +132,7 @@ module _ {t sizes : List ℕ} {a b : ℕ} (o : Ready t a b sizes) where
       in_table : n - 1 < size (program_of t)
       in_table = omega (arith, size_pos (program_of t))
 
-      pub start-hands : {held' marks' : List ℕ} {r : Ran} → Started t answers held held' (zeros signals) marks' (n - 1) 0 r → handed r (take n held') (take signals marks') ≡ start_call (verdict_for t (length state) (length emissions)) answers
+      pub start-hands : {held' marks' : List ℕ} {r : Option Reaction} → Started t answers held held' (zeros signals) marks' (n - 1) 0 r → handed r (take n held') marks' ≡ start_call (verdict_for t (length state) (length emissions)) answers
       unfolding start_call
       start-hands {held'} {marks'} {r} w =
           rw is-passed
@@ -145,9 +140,9 @@ module _ {t sizes : List ℕ} {a b : ℕ} (o : Ready t a b sizes) where
           (at-root (λ i q. RanIs t answers i held held' (zeros signals) marks' (start i q answers) r) w))
 
       -- an admitted state, whose bits are the bytes that are resumed
-      module _ {x : Check} (ex : x ≡ pass_if 12 (admits (program_of t) state)) (e : x ≡ Passed) (own : take (size (program_of t)) held ≡ unpack (size (program_of t)) state) where
+      module _ {x : Bool} (ex : x ≡ admits (program_of t) state) (e : x ≡ true) (own : take (size (program_of t)) held ≡ unpack (size (program_of t)) state) where
         passes : admits (program_of t) state ≡ true
-        passes = pass-true 12 _ (sym ex ∙ e)
+        passes = sym ex ∙ e
 
         fits : admitted (program_of t) (take (size (program_of t)) held) ≡ true
         fits = rw own (right (is_clear_from (size (program_of t)) state) passes)
@@ -163,7 +158,7 @@ module _ {t sizes : List ℕ} {a b : ℕ} (o : Ready t a b sizes) where
               counted = λ j lo hi. counts_rise (program_of t) held counts room c fits j (omega (arith, size_pos (program_of t)));
             }
 
-        pub resume-hands : {held' marks' : List ℕ} {r : Ran} → Resumed t answers held held' (zeros signals) marks' (n - 1) 0 r → handed r (take n held') (take signals marks') ≡ resume_call (verdict_for t (length state) (length emissions)) state answers
+        pub resume-hands : {held' marks' : List ℕ} {r : Option Reaction} → Resumed t answers held held' (zeros signals) marks' (n - 1) 0 r → handed r (take n held') marks' ≡ resume_call (verdict_for t (length state) (length emissions)) state answers
         unfolding resume_call
         resume-hands {held'} {marks'} {r} w =
             rw (is-passed, passes, ← own)

@@ -1,12 +1,17 @@
 -- The prefix counts of held pauses, node by node.
 use mathlib.Core.Path.{◌≡◌, refl, sym, ap, ◌∙◌}
+use mathlib.Core.Bool.{not}
 use mathlib.Core.List.{List, [], ◌∷◌, ◌++◌}
 use Prim.Native.Nat.{ℕ, zero, suc, ◌+◌, ◌≤◌, ◌<◌}
 use native.Mathlib.Decide.{dec_lt}
 use native.Mathlib.Numerals.{add-one}
 use native.Mathlib.Omega.{arith}
+use borrow.Author.Tests.{ne_eqb}
+use lib.Dec.{eqb}
 use lib.ListN.{length, get_or, take, set, length-set}
 use lib.Seq.{take-suc, get_or-set_same, get_or-set_other}
+use Rattle.codes.specs.Codes.{bit}
+use Rattle.packing.proofs.Bits.{bit_le}
 use Rattle.instant.specs.Admission.{count_held}
 use Rattle.instant.proofs.Admits.{count-append}
 
@@ -17,10 +22,6 @@ pub record Counting (state counts₀ counts : List ℕ) (n held i : ℕ) : Type 
   pub low : held ≤ i
   pub entry : (j : ℕ) → j ≤ i → get_or counts j 0 ≡ count_held (take j state)
   pub same : length counts ≡ length counts₀
-
-pub counting_begin : {state : List ℕ} (counts : List ℕ) {n : ℕ} → n < length counts → Counting state (set counts 0 0) (set counts 0 0) n 0 0
-counting_begin counts room =
-    record { bound = omega arith; own = refl; low = omega arith; entry = λ j h. let e : j ≡ 0 = omega arith in rw e (get_or-set_same counts 0 0 0 (omega arith)); same = refl }
 
 module _ {state counts₀ : List ℕ} {n : ℕ} (room : n < length counts₀) where
   module _ {counts : List ℕ} {held i : ℕ} (o : Counting state counts₀ counts n held i) (h : i < n) (long : n ≤ length state) where
@@ -37,9 +38,10 @@ module _ {state counts₀ : List ℕ} {n : ℕ} (room : n < length counts₀) wh
         go j k (yes c) = get_or-set_other counts (i + 1) j held' 0 (omega arith) ∙ o.entry j (omega arith)
         go j k (no c) = let z : j ≡ i + 1 = omega arith in rw z (get_or-set_same counts (i + 1) held' 0 (omega (arith, o.same)) ∙ e)
 
-    pub counting_next : {b : ℕ} → b ≡ count_held (get_or state i 0 ∷ []) → Counting state counts₀ (set counts (i + 1) (held + b)) n (held + b) (i + 1)
-    counting_next {b} e = next (sym (one_more refl ∙ ap (λ x. held + x) (sym e))) (omega (arith, o.low, at_most (get_or state i 0), e))
+    pub counting_next : {b : ℕ} → b ≡ bit (not (eqb (get_or state i 0) 0)) → Counting state counts₀ (set counts (i + 1) (held + b)) n (held + b) (i + 1)
+    counting_next {b} e =
+        next (sym (one_more refl ∙ ap (λ x. held + x) (sym (e ∙ own-count (get_or state i 0))))) (omega (arith, o.low, bit_le (not (eqb (get_or state i 0) 0)), e))
       where
-        at_most : (x : ℕ) → count_held (x ∷ []) ≤ 1
-        at_most zero = omega arith
-        at_most (suc x) = omega arith
+        own-count : (x : ℕ) → bit (not (eqb x 0)) ≡ count_held (x ∷ [])
+        own-count zero = refl
+        own-count (suc x) = ap (λ y. bit (not y)) (ne_eqb (suc x) 0 (λ q. omega arith))

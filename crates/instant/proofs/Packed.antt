@@ -28,15 +28,15 @@ use Rattle.packing.proofs.Theorems.{unpack_of, clear_of, zero_held, same-unpacke
 use Rattle.analysis.specs.Analysis.{checked}
 use Rattle.analysis.proofs.Theorems.{verdict-nodes, checked-room, checked-passed}
 use Rattle.instant.specs.declared.Reaction.{Reaction}
-use Rattle.instant.specs.declared.Reaction.TheVariants.{Closed, Refused}
+use Rattle.esterel.specs.Refusal.{Reply, rejects}
 use Rattle.instant.specs.Admission.{byte_fits}
-use Rattle.instant.specs.Calls.{verdict_for, Call, refuses, closes, closing, answer_of, state_after, emissions_after, start_call, resume_call, Reacts}
+use Rattle.instant.specs.Calls.{reacts, verdict_for, Call, refuses, closes, closing, answer_of, state_after, emissions_after, start_call, resume_call, Reacts}
 use Rattle.instant.specs.Theorems.{Ends, Instant}
 use Rattle.instant.specs.Packed.{verdict_before, closing_before, start_before, resume_before, ResumingBefore, Rooms, IsPacked, PackedCalls}
 use Rattle.instant.proofs.Admits.{byte_of}
 use Rattle.instant.proofs.Entering.{admitted-small}
 use Rattle.instant.proofs.Closing.{held-length, reacts_as}
-use Rattle.instant.proofs.Theorems.{demand3_of_calls}
+use Rattle.instant.proofs.Theorems.{reacts-once, demand3_of_calls}
 
 -- ---- which bits
 
@@ -57,13 +57,13 @@ module _ (p : Stmt) (s : List ℕ) (e : admits p s ≡ true) (i : ℕ) (hi : i <
       let here : byte_fits (statement_at (nodes p) i) 1 ≡ true = ap (byte_fits (statement_at (nodes p) i)) (sym byte) ∙ fits in
       eqb→eq (kind (statement_at (nodes p) i)) 2 (to_t (eqb (kind (statement_at (nodes p) i)) 2) here)
 
-left-pauses : {answers state emissions state' emissions' : List ℕ} (p : Stmt) {run : List ℕ → Result} {r : Reaction} (code k entries i : ℕ) → r ≡ Closed code k entries → Ends r → Instant p run answers state emissions state' emissions' r → i < max_nodes → held_bit state' i ≡ 1 → (i < size p) × (kind (statement_at (nodes p) i) ≡ 2)
+left-pauses : {answers state emissions state' emissions' : List ℕ} (p : Stmt) {run : List ℕ → Result} {r : Reply Reaction} (code k entries i : ℕ) → r ≡ reacts code k entries → Ends r → Instant p run answers state emissions state' emissions' r → i < max_nodes → held_bit state' i ≡ 1 → (i < size p) × (kind (statement_at (nodes p) i) ≡ 2)
 left-pauses {state' = state'} p zero k entries i e x o hi one =
     absurd (let z = zero_held state' (o.ended k entries e) i hi in omega arith)
 left-pauses {state' = state'} p (suc zero) k entries i e x o hi one =
     let a = o.paused k entries e in
     (inside p state' a i hi one, at_pause p state' a i hi one)
-left-pauses p (suc (suc c)) k entries i e (Ends.closes code m n le) o hi one = absurd (let z : code ≡ suc (suc c) = cc in omega arith)
+left-pauses p (suc (suc c)) k entries i e (Ends.closes code m n le) o hi one = absurd (let z = (reacts-once e).0 in omega arith)
 left-pauses p (suc (suc c)) k entries i e Ends.starves o hi one = let z : ◌≡◌ {A = ℕ} 0 1 = cc in absurd (omega arith)
 
 -- ---- two calls beside each other
@@ -79,12 +79,12 @@ data Places (n : ℕ) : Call → Type 0 where
   some : (code taken entries : ℕ) (held emissions : List ℕ) → length held ≡ n → Places n (closes code taken entries held emissions)
 
 -- what each leaves, where both are lent the same emissions
-module _ {n : ℕ} {bytes state emissions bytes' state' emissions' emissions'' : List ℕ} {r s : Reaction} where
+module _ {n : ℕ} {bytes state emissions bytes' state' emissions' emissions'' : List ℕ} {r s : Reply Reaction} where
   alike : {c : Call} → Places n c → Reacts c bytes emissions bytes' emissions' r → Reacts (packed c) state emissions state' emissions'' s → (r ≡ s) × (emissions' ≡ emissions'')
   alike (none number node) o w = (o.answer ∙ sym w.answer, o.emissions_are ∙ sym w.emissions_are)
   alike (some code taken entries held m long) o w = (o.answer ∙ sym w.answer, o.emissions_are ∙ sym w.emissions_are)
 
-  left-packed : {c : Call} → Places n c → Reacts c bytes emissions bytes' emissions' r → Reacts (packed c) state emissions state' emissions'' s → (code k entries : ℕ) → r ≡ Closed code k entries → take state_bytes state' ≡ pack (take n bytes')
+  left-packed : {c : Call} → Places n c → Reacts c bytes emissions bytes' emissions' r → Reacts (packed c) state emissions state' emissions'' s → (code k entries : ℕ) → r ≡ reacts code k entries → take state_bytes state' ≡ pack (take n bytes')
   left-packed (none number node) o w code k entries e = let a = o.answer in let y : ◌≡◌ {A = ℕ} 0 1 = cc in absurd (omega arith)
   left-packed (some code taken entries held m long) o w c k e z =
       ap (take state_bytes) w.state_is
@@ -199,7 +199,7 @@ module _ (state other : List ℕ) (same : take state_bytes state ≡ take state_
   same_call (refused a b) f = refl
 
 -- a byte above 1 was refused
-above-one : (t answers bytes emissions bytes' emissions' : List ℕ) (p : Stmt) (r : Reaction) (i : ℕ) → verdict t ≡ passed p → size p ≤ length bytes → signals ≤ length emissions → i < size p → 1 < get_or bytes i 0 → ResumingBefore t answers bytes emissions bytes' emissions' r → r ≡ Refused 12 0
+above-one : (t answers bytes emissions bytes' emissions' : List ℕ) (p : Stmt) (r : Reply Reaction) (i : ℕ) → verdict t ≡ passed p → size p ≤ length bytes → signals ≤ length emissions → i < size p → 1 < get_or bytes i 0 → ResumingBefore t answers bytes emissions bytes' emissions' r → r ≡ rejects 12 0
 unfolding resume_before
 above-one t answers bytes emissions bytes' emissions' p r i v room wide hi one o =
     let fails : admitted p (take (size p) bytes) ≡ false = cannot_pass (admitted p (take (size p) bytes)) (λ e. omega (arith, admitted-small p (take (size p) bytes) e i, get_or-take (size p) bytes i 0 hi)) in

@@ -1,14 +1,15 @@
 -- `resume_at` in its own terms: what each of its calls asks, and one law for each of its returns.
 use mathlib.Core.Path.{◌≡◌, refl, sym, ap, ap₂, ◌∙◌}
-use mathlib.Core.Bool.{Bool, true, false, ◌&&◌, false≢true}
+use mathlib.Core.Bool.{Bool, true, false}
 use mathlib.Core.List.{List, [], ◌∷◌}
 use Prim.Native.Nat.{ℕ, suc, ◌+◌, ◌-◌, ◌*◌, ◌<◌, ◌≤◌}
 use native.Mathlib.Omega.{arith}
 use lib.Dec.{ltb}
 use lib.ListN.{length, get_or, set, take, drop}
 use lib.Seq.{take-take}
-use borrow.Author.Tests.{eqb-true, not-true, not-false}
-use Rattle.codes.proofs.Bools.{right}
+use borrow.Author.Tests.{not-true}
+use Rattle.std.specs.Prelude.{Option, Some, None}
+use Rattle.std.specs.Option.{option_map}
 use Rattle.esterel.specs.Statement.{pause, Unary, Binary, present, sequence, parallel, Stmt, leaf, one, two, kind, size}
 use Rattle.esterel.specs.Instant.{resumed, entry, first, second, holds, apart, resume, admitted}
 use Rattle.esterel.proofs.Sizes.{load}
@@ -19,22 +20,21 @@ use Rattle.table.specs.Kinds.{kind_of, arity_of, is_loop, is_sequence, is_suspen
 use Rattle.table.specs.Program.{program_of}
 use Rattle.table.specs.declared.Kind.{Kind}
 use Rattle.table.proofs.Surveying.{few-nodes}
-use Rattle.instant.specs.Steps.{entries_of, has_ended, taken_after, alone, one_more, Left, both, asked, holds_beneath, done_after}
+use Rattle.instant.specs.Steps.{alone, one_more, Left, both, asked, holds_beneath}
 use Rattle.instant.specs.Run.{stmt_at, first_at, bytes_at, Runnable, Room, Clear, Holding, RanIs, ran, Started, Resumed}
-use Rattle.instant.specs.declared.Ran.{Ran}
-use Rattle.instant.specs.declared.Ran.TheVariants.{Closed, Starved}
+use Rattle.instant.specs.declared.Reaction.{Reaction}
 use Rattle.instant.proofs.Sets.{Zero}
 use Rattle.instant.proofs.Bytes.{sets_same, zero-part, own-one-at, own-two-at, holds-counted}
 use Rattle.instant.proofs.Algebra.{Sized, Quiet, entries_le, held-behind, drop-behind, ended-zero}
 use Rattle.instant.proofs.Nodes.{load_le, start-sized, resume-sized, resume-few, resume_quiet}
 use Rattle.table.proofs.Views.{spans, Over, Both, kind-is, leaf_of_lem, one_of, two_of_lem}
 use Rattle.instant.proofs.Starts.{start_as, sized_as}
-use Rattle.instant.proofs.Returns.{closed_of, left_as, room_after}
-use Rattle.instant.proofs.Again.{around, Asking, asking, asked_le, goes_in, stays_out, one_left, loop-again, right-only, left-done, sequence-both, parallel-both}
+use Rattle.instant.proofs.Returns.{left_as, room_after}
+use Rattle.instant.proofs.Again.{around, Asking, asking, asked_le, goes_in, stays_out, asks-more, one_left, one-starves, loop-again, right-only, left-starves, left-stops, left-alone, sequence-both, parallel-both}
 
 -- the same resumption, by its statement, first node and bytes
 module _ {f f' : ℕ} {w w' : Stmt} {b b' : List ℕ} (ef : f ≡ f') (ew : w ≡ w') (eb : b ≡ b') (ans : List ℕ) where
-  resume_as : {t answers h h' e e' : List ℕ} {r : Ran} → RanIs t answers f h h' e e' (resume f w b ans) r → RanIs t answers f' h h' e e' (resume f' w' b' ans) r
+  resume_as : {t answers h h' e e' : List ℕ} {r : Option Reaction} → RanIs t answers f h h' e e' (resume f w b ans) r → RanIs t answers f' h h' e e' (resume f' w' b' ans) r
   resume_as o = rw (ef, ew, eb) at o
 
   resized : Sized (size w) (resume f w b ans) → Sized (size w') (resume f' w' b' ans)
@@ -66,16 +66,8 @@ sequence-none (present g) p q x a s = cc
 sequence-none sequence p q x a s = not-true x a
 sequence-none parallel p q x a s = cc
 
-parallel-holds : (k : Kind) (c j l : ℕ) (x : Bool) → is_sequence k ≡ false → done_after k (Closed c j l) x ≡ false → x ≡ true
-parallel-holds k c j l x s d = not-false x (rw s at d)
-
--- a body that ended
-ended_of : (b : Bool) (x : Ran) → (b && has_ended x) ≡ true → (c j l : ℕ) × (x ≡ Closed c j l) × (c ≡ 0)
-ended_of b (Closed c j l) e = (c, j, l, refl, eqb-true c 0 (right b e))
-ended_of b Starved e = absurd (false≢true (right b e))
-
 -- the entries of a resumption are few
-pub few_resumed : {t sizes counts answers h h' e e' : List ℕ} {r : Ran} (j k : ℕ) → Runnable t sizes → j < size (program_of t) → Holding t counts h j → Resumed t answers h h' e e' j k r → entries_of r ≤ 1049600
+pub few_resumed : {t sizes counts answers h h' e e' : List ℕ} {r : Reaction} (j k : ℕ) → Runnable t sizes → j < size (program_of t) → Holding t counts h j → Resumed t answers h h' e e' j k (Some r) → r.entries ≤ 1049600
 few_resumed {t = t} {answers = answers} {h = h} j k ok lt hd o =
     omega (arith, entries_le (load (stmt_at t j)) (resume-few ok j lt (bytes_at t h j) hd.state (drop k answers)) o, load_le (stmt_at t j) 1024 (omega (arith, spans t j lt, few-nodes t ok.measured.readable)))
 
@@ -94,7 +86,7 @@ module _ {t sizes counts answers held em : List ℕ} {node taken : ℕ} (ok : Ru
     here-sized : (ans : List ℕ) → Sized (size w) (resume (first_at t node) w (part (first_at t node) w held) ans)
     here-sized ans = resized refl e (bytes_as {f = first_at t node} held refl e) ans (resume-sized ok node room.within (bytes_at t held node) hd.state ans)
 
-    here-is : {held' em' : List ℕ} {r : Ran} → RanIs t answers (first_at t node) held held' em em' (resume (first_at t node) w (part (first_at t node) w held) (drop taken answers)) r → Resumed t answers held held' em em' node taken r
+    here-is : {held' em' : List ℕ} {r : Option Reaction} → RanIs t answers (first_at t node) held held' em em' (resume (first_at t node) w (part (first_at t node) w held) (drop taken answers)) r → Resumed t answers held held' em em' node taken r
     here-is o = resume_as refl (sym e) (bytes_as {f = first_at t node} held refl (sym e)) (drop taken answers) o
 
   -- the resumption of a node j beneath this one, which has the bytes b, with k answers taken
@@ -120,12 +112,12 @@ module _ {t sizes counts answers held em : List ℕ} {node taken : ℕ} (ok : Ru
 
   module _ {k : Kind} {n : ℕ} (ek : k ≡ kind_of (get_or t (2 * node) 0)) (en : n ≡ arity_of k) where
     -- a pause
-    pub leaf-returns : {held' : List ℕ} {r : Ran} → n ≡ 0 → held' ≡ set held node 0 → r ≡ alone 0 taken → Resumed t answers held held' em em node taken r
+    pub leaf-returns : {held' : List ℕ} {r : Reaction} → n ≡ 0 → held' ≡ set held node 0 → r ≡ alone 0 taken → Resumed t answers held held' em em node taken (Some r)
     leaf-returns {held'} z st er =
         let (l, e) = leaf_of_lem ok.measured room.within ek en z in
         rw er (leaf-holds (here-fits e) (here-holds e) (λ is. go (e ∙ ap leaf is)))
       where
-        go : stmt_at t node ≡ leaf pause → Resumed t answers held held' em em node taken (alone 0 taken)
+        go : stmt_at t node ≡ leaf pause → Resumed t answers held held' em em node taken (Some (alone 0 taken))
         go e =
             let at : first_at t node ≡ node = omega (arith, ap size e) in
             resume_as (sym at) (sym e) (bytes_as held (sym at) (sym e)) (drop taken answers)
@@ -144,69 +136,80 @@ module _ {t sizes counts answers held em : List ℕ} {node taken : ℕ} (ok : Ru
         child-sized ans =
             resized v.first v.child refl ans (resume-sized ok (node - 1) (omega (arith, v.ends, v.some, room.within)) _ (state_of (first p (part (first_at t node) (one u p) held)) (sym v.child) child-state) ans)
 
-        child-is : {held' em' : List ℕ} {r : Ran} (j : ℕ) → Resumed t answers held held' em em' (node - 1) j r → RanIs t answers (first_at t node) held held' em em' (resume (first_at t node) p (first p (part (first_at t node) (one u p) held)) (drop j answers)) r
+        child-is : {held' em' : List ℕ} {r : Option Reaction} (j : ℕ) → Resumed t answers held held' em em' (node - 1) j r → RanIs t answers (first_at t node) held held' em em' (resume (first_at t node) p (first p (part (first_at t node) (one u p) held)) (drop j answers)) r
         child-is j o = resume_as v.first v.child (bytes_as held v.first v.child ∙ sym child-part) (drop j answers) o
 
         own : get_or held node 0 ≡ 0
         own = own-one-at held (first_at t node) node u p v.ends (here-fits v.is)
 
-      -- what is asked first: w
-      module _ (z : n ≡ 1) {w : Ran} (ew : w ≡ asked (is_suspend k) answers taken) where
-        asking-here : Asking answers taken (is_suspend k) w
-        asking-here = rw ew (asking answers taken (is_suspend k))
+      -- what is asked first
+      module _ (z : n ≡ 1) where
+        asking-here : {w : Option Reaction} → w ≡ asked (is_suspend k) answers taken → Asking answers taken (is_suspend k) w
+        asking-here ew = rw ew (asking answers taken (is_suspend k))
 
-        pub asked-returns : has_ended w ≡ false → Resumed t answers held held em em node taken w
-        asked-returns go =
+        suspend-as : {u : Unary} {p : Stmt} → Over t node s u p → is_suspend (kind_of (kind (one u p))) ≡ is_suspend k
+        suspend-as v = ap is_suspend (kind-is ok.measured room.within ek en v.is)
+
+        pub ask-starves : None ≡ asked (is_suspend k) answers taken → Resumed t answers held held em em node taken None
+        ask-starves ew =
             let (u, p, v) = one_of ok.measured room.within ek en es z in
-            let same = sets_same held (first_at t node) (suc (size p)) (omega (arith, v.ends, room.within, room.places)) in
-            here-is v.is (stays_out (first_at t node) u p (part (first_at t node) (one u p) held) w v.ends v.is same (ap is_suspend (kind-is ok.measured room.within ek en v.is)) go asking-here)
+            here-is v.is (asks-more (first_at t node) u p (part (first_at t node) (one u p) held) (suspend-as v) (asking-here ew))
 
-        -- the child is resumed, with j answers taken
-        module _ (go : has_ended w ≡ true) {j : ℕ} (ej : j ≡ taken_after w) where
-          goes : {u : Unary} {p : Stmt} (v : Over t node s u p) → resume (first_at t node) (one u p) (part (first_at t node) (one u p) held) (drop taken answers) ≡ around u (first_at t node) p (resume (first_at t node) p (first p (part (first_at t node) (one u p) held)) (drop j answers))
-          goes {u} {p} v = rw ej (goes_in (first_at t node) u p (part (first_at t node) (one u p) held) w (ap is_suspend (kind-is ok.measured room.within ek en v.is)) go asking-here)
-
-          goes-sized : {u : Unary} {p : Stmt} (v : Over t node s u p) → Sized (suc (size p)) (around u (first_at t node) p (resume (first_at t node) p (first p (part (first_at t node) (one u p) held)) (drop j answers)))
-          goes-sized v = rw (goes v) at (here-sized v.is (drop taken answers))
-
-          pub child_call : Runnable t sizes × Room t answers held em (node - 1) j × Holding t counts held (node - 1)
-          child_call =
+        module _ {w : Reaction} (ew : Some w ≡ asked (is_suspend k) answers taken) where
+          pub asked-returns : (w.code ≡ 0 → ⊥) → Resumed t answers held held em em node taken (Some w)
+          asked-returns go =
               let (u, p, v) = one_of ok.measured room.within ek en es z in
-              beneath (node - 1) j v.first v.child (state_in p (child-part v) (child-state v)) (omega arith) (omega (arith, v.ends, v.some)) (rw ej (asked_le w go room.lent asking-here))
+              let same = sets_same held (first_at t node) (suc (size p)) (omega (arith, v.ends, room.within, room.places)) in
+              here-is v.is (stays_out (first_at t node) u p (part (first_at t node) (one u p) held) w v.ends v.is same (suspend-as v) go (asking-here ew))
 
-          module _ {x : Ran} {mid emid : List ℕ} (o : Resumed t answers held mid em emid (node - 1) j x) where
-            pub child-returns : {held' : List ℕ} {r : Ran} → (is_loop k && has_ended x) ≡ false → Left k x (node - s) node mid held' r → Resumed t answers held held' em emid node taken r
-            child-returns lo l =
+          -- the child is resumed
+          module _ (go : w.code ≡ 0) where
+            goes : {u : Unary} {p : Stmt} (v : Over t node s u p) → resume (first_at t node) (one u p) (part (first_at t node) (one u p) held) (drop taken answers) ≡ around u (first_at t node) p (resume (first_at t node) p (first p (part (first_at t node) (one u p) held)) (drop w.taken answers))
+            goes {u} {p} v = goes_in (first_at t node) u p (part (first_at t node) (one u p) held) w (suspend-as v) go (asking-here ew)
+
+            goes-sized : {u : Unary} {p : Stmt} (v : Over t node s u p) → Sized (suc (size p)) (around u (first_at t node) p (resume (first_at t node) p (first p (part (first_at t node) (one u p) held)) (drop w.taken answers)))
+            goes-sized v = rw (goes v) at (here-sized v.is (drop taken answers))
+
+            pub child_call : Runnable t sizes × Room t answers held em (node - 1) w.taken × Holding t counts held (node - 1)
+            child_call =
                 let (u, p, v) = one_of ok.measured room.within ek en es z in
-                let e = kind-is ok.measured room.within ek en v.is in
-                let (answer, state) = left_as v e l in
-                rw answer
-                (here-is v.is
-                (rw (goes v) (one_left (own v) p v.ends _ (child-sized v (drop j answers)) u x v.is (goes-sized v) (ap (λ i. is_loop i && has_ended x) e ∙ lo) state (child-is v j o))))
+                beneath (node - 1) w.taken v.first v.child (state_in p (child-part v) (child-state v)) (omega arith) (omega (arith, v.ends, v.some)) (asked_le w go room.lent (asking-here ew))
 
-            -- a loop whose body ends starts it again, where nothing is held any more
-            module _ (lo : (is_loop k && has_ended x) ≡ true) {i : ℕ} (ei : i ≡ taken_after x) where
-              pub body_call : Runnable t sizes × Room t answers mid emid (node - 1) i × Clear t mid (node - 1)
-              unfolding Clear
-              body_call =
-                  let (u, p, v) = one_of ok.measured room.within ek en es z in
-                  let (c, h, l, e, ended) = ended_of (is_loop k) x lo in
-                  let d = child-is v j (rw e at o) in
-                  let quiet = requiet (first p (part (first_at t node) (one u p) held)) v.first v.child (drop j answers) (resume_quiet ok (node - 1) (omega (arith, v.ends, v.some, room.within)) _ (state_of (first p (part (first_at t node) (one u p) held)) (sym v.child) (child-state v)) (drop j answers)) in
-                  rw (ei ∙ ap taken_after e) (
-                    ok,
-                    room_after (node - 1) (omega arith) room d,
-                    λ a b c. ended-zero (size p) (child-sized v (drop j answers)) quiet ended (omega (arith, v.ends, room.within, room.places)) d a (omega (arith, v.first)) (omega (arith, v.ends, v.some)),
-                  )
+            pub child-starves : {held' em' : List ℕ} → Resumed t answers held held' em em' (node - 1) w.taken None → Resumed t answers held held' em em' node taken None
+            child-starves o =
+                let (u, p, v) = one_of ok.measured room.within ek en es z in
+                here-is v.is (rw (goes v) (one-starves (own v) p v.ends _ (child-sized v (drop w.taken answers)) u (child-is v w.taken o)))
 
-              pub loop-returns : {held' em' : List ℕ} {r r' : Ran} → Started t answers mid held' emid em' (node - 1) i r → r' ≡ one_more (both x r) → Resumed t answers held held' em em' node taken r'
-              loop-returns d er =
+            module _ {x : Reaction} {mid emid : List ℕ} (o : Resumed t answers held mid em emid (node - 1) w.taken (Some x)) where
+              pub child-returns : {held' : List ℕ} {r : Reaction} → (is_loop k ≡ true → x.code ≡ 0 → ⊥) → Left k x (node - s) node mid held' r → Resumed t answers held held' em emid node taken (Some r)
+              child-returns stops l =
                   let (u, p, v) = one_of ok.measured room.within ek en es z in
                   let e = kind-is ok.measured room.within ek en v.is in
-                  let k = taken_after x in
-                  rw er
+                  let (answer, state) = left_as v e l in
+                  rw answer
                   (here-is v.is
-                  (rw (goes v) (loop-again (own v) p v.ends _ (child-sized v (drop j answers)) u x v.is (goes-sized v) (ap (λ i. is_loop i && has_ended x) e ∙ lo) (sized_as refl v.is (drop k answers) (start-sized ok node room.within (drop k answers))) (child-is v j o) (start_as v.first v.child (drop k answers) (rw ei at d)))))
+                  (rw (goes v) (one_left (own v) p v.ends _ (child-sized v (drop w.taken answers)) u x v.is (goes-sized v) (λ lo. stops (sym (ap is_loop e) ∙ lo)) state (child-is v w.taken o))))
+
+              -- a loop whose body ends starts it again, where nothing is held any more
+              module _ (lo : is_loop k ≡ true) (ended : x.code ≡ 0) where
+                pub body_call : Runnable t sizes × Room t answers mid emid (node - 1) x.taken × Clear t mid (node - 1)
+                unfolding Clear
+                body_call =
+                    let (u, p, v) = one_of ok.measured room.within ek en es z in
+                    let d = child-is v w.taken o in
+                    let quiet = requiet (first p (part (first_at t node) (one u p) held)) v.first v.child (drop w.taken answers) (resume_quiet ok (node - 1) (omega (arith, v.ends, v.some, room.within)) _ (state_of (first p (part (first_at t node) (one u p) held)) (sym v.child) (child-state v)) (drop w.taken answers)) in (
+                      ok,
+                      room_after (node - 1) (omega arith) room d,
+                      λ a b c. ended-zero (size p) (child-sized v (drop w.taken answers)) quiet ended (omega (arith, v.ends, room.within, room.places)) d a (omega (arith, v.first)) (omega (arith, v.ends, v.some)),
+                    )
+
+                pub loop-returns : {held' em' : List ℕ} {r r' : Option Reaction} → Started t answers mid held' emid em' (node - 1) x.taken r → r' ≡ option_map one_more (option_map (both x) r) → Resumed t answers held held' em em' node taken r'
+                loop-returns d er =
+                    let (u, p, v) = one_of ok.measured room.within ek en es z in
+                    let e = kind-is ok.measured room.within ek en v.is in
+                    rw er
+                    (here-is v.is
+                    (rw (goes v) (loop-again (own v) p v.ends _ (child-sized v (drop w.taken answers)) u v.is (goes-sized v) (ap is_loop e ∙ lo) ended (sized_as refl v.is (drop x.taken answers) (start-sized ok node room.within (drop x.taken answers))) (child-is v w.taken o) (start_as v.first v.child (drop x.taken answers) d))))
 
       -- two statements beneath: their bytes, and what their answers say
       module _ {b : Binary} {p q : Stmt} (v : Both t node s b p q) where
@@ -226,7 +229,7 @@ module _ {t sizes counts answers held em : List ℕ} {node taken : ℕ} (ok : Ru
         left-sized h ans =
             resized v.first v.left refl ans (resume-sized ok (node - 1 - s) (omega (arith, room.within)) _ (state_of (first p (part (first_at t node) (two b p q) held)) (sym v.left) (left-state h)) ans)
 
-        left_is : {held' em' : List ℕ} {r : Ran} (j : ℕ) → Resumed t answers held held' em em' (node - 1 - s) j r → RanIs t answers (first_at t node) held held' em em' (resume (first_at t node) p (first p (part (first_at t node) (two b p q) held)) (drop j answers)) r
+        left_is : {held' em' : List ℕ} {r : Option Reaction} (j : ℕ) → Resumed t answers held held' em em' (node - 1 - s) j r → RanIs t answers (first_at t node) held held' em em' (resume (first_at t node) p (first p (part (first_at t node) (two b p q) held)) (drop j answers)) r
         left_is j o = resume_as v.first v.left (bytes_as held v.first v.left ∙ sym left-part) (drop j answers) o
 
         two-own : get_or held node 0 ≡ 0
@@ -252,7 +255,7 @@ module _ {t sizes counts answers held em : List ℕ} {node taken : ℕ} (ok : Ru
               let (b, p, q, v) = two_of_lem ok.measured room.within ek en es z y in
               beneath (node - 1) taken v.second v.right (state_in q (right-part v) (right-state v (holds-right v))) (omega arith) (omega (arith, v.ends, v.some_right)) room.lent
 
-          pub right_returns : {held' em' : List ℕ} {r r' : Ran} → Resumed t answers held held' em em' (node - 1) taken r → r' ≡ one_more r → Resumed t answers held held' em em' node taken r'
+          pub right_returns : {held' em' : List ℕ} {r r' : Option Reaction} → Resumed t answers held held' em em' (node - 1) taken r → r' ≡ option_map one_more r → Resumed t answers held held' em em' node taken r'
           right_returns o er =
               let (b, p, q, v) = two_of_lem ok.measured room.within ek en es z y in
               rw er
@@ -267,68 +270,77 @@ module _ {t sizes counts answers held em : List ℕ} {node taken : ℕ} (ok : Ru
               let (b, p, q, v) = two_of_lem ok.measured room.within ek en es z y in
               beneath (node - 1 - s) taken v.first v.left (state_in p (left-part v) (left-state v (holds-left v ∙ h))) (omega arith) (omega (arith, v.ends, v.some_right)) room.lent
 
-          module _ {x : Ran} {mid emid : List ℕ} (o : Resumed t answers held mid em emid (node - 1 - s) taken x) {d : Bool} (ed : d ≡ holds_beneath sizes counts (node - 1)) where
-            left-fit : {b : Binary} {p q : Stmt} (v : Both t node s b p q) → Sized (size p) (resume (first_at t node) p (first p (part (first_at t node) (two b p q) held)) (drop taken answers))
-            left-fit v = left-sized v (holds-left v ∙ h) (drop taken answers)
+          left-fit : {b : Binary} {p q : Stmt} (v : Both t node s b p q) → Sized (size p) (resume (first_at t node) p (first p (part (first_at t node) (two b p q) held)) (drop taken answers))
+          left-fit v = left-sized v (holds-left v ∙ h) (drop taken answers)
 
-            second-test : {b : Binary} {p q : Stmt} → Both t node s b p q → holds (second p q (part (first_at t node) (two b p q) held)) ≡ d
-            second-test v = ap holds (right-part v) ∙ test-is (node - 1) v.right v.second (omega arith) (omega (arith, v.ends, v.some_right)) ∙ sym ed
+          apart_as : {b : Binary} {p q : Stmt} (v : Both t node s b p q) → apart b true (holds (second p q (part (first_at t node) (two b p q) held))) ≡ true
+          apart_as {b = b} {p = p} {q = q} v = ap (λ g. apart b g (holds (second p q (part (first_at t node) (two b p q) held)))) (sym (holds-left v ∙ h)) ∙ joint (here-fits v.is)
 
-            done_as : {b : Binary} {p q : Stmt} {f : Bool} (v : Both t node s b p q) → done_after k x d ≡ f → done_after (kind_of (kind (two b p q))) x (holds (second p q (part (first_at t node) (two b p q) held))) ≡ f
-            done_as v e = ap₂ (λ i g. done_after i x g) (kind-is ok.measured room.within ek en v.is) (second-test v) ∙ e
+          sequence-as : {b : Binary} {p q : Stmt} {f : Bool} (v : Both t node s b p q) → is_sequence k ≡ f → is_sequence (kind_of (kind (two b p q))) ≡ f
+          sequence-as v e = ap is_sequence (kind-is ok.measured room.within ek en v.is) ∙ e
 
-            apart_as : {b : Binary} {p q : Stmt} (v : Both t node s b p q) → apart b true (holds (second p q (part (first_at t node) (two b p q) held))) ≡ true
-            apart_as {b = b} {p = p} {q = q} v = ap (λ g. apart b g (holds (second p q (part (first_at t node) (two b p q) held)))) (sym (holds-left v ∙ h)) ∙ joint (here-fits v.is)
+          pub first-starves : {held' em' : List ℕ} → Resumed t answers held held' em em' (node - 1 - s) taken None → Resumed t answers held held' em em' node taken None
+          first-starves o =
+              let (b, p, q, v) = two_of_lem ok.measured room.within ek en es z y in
+              here-is v.is (left-starves (two-own v) (part (first_at t node) (two b p q) held) taken room.lent p q v.ends (holds-left v ∙ h) (left-fit v) b (left_is v taken o))
 
-            pub done-returns : {r : Ran} → done_after k x d ≡ true → r ≡ one_more x → Resumed t answers held mid em emid node taken r
-            done-returns dn er =
-                let (b, p, q, v) = two_of_lem ok.measured room.within ek en es z y in
-                rw er
-                (here-is v.is
-                (left-done (two-own v) (part (first_at t node) (two b p q) held) taken room.lent p q v.ends (holds-left v ∙ h) (left-fit v) b x v.is (here-sized v.is (drop taken answers)) (apart_as v) (done_as v dn) (right_zero v) (left_is v taken o)))
+          module _ {x : Reaction} {mid emid : List ℕ} (o : Resumed t answers held mid em emid (node - 1 - s) taken (Some x)) where
+            -- a sequence: its second holds nothing
+            module _ (sq : is_sequence k ≡ true) where
+              none : {b : Binary} {p q : Stmt} (v : Both t node s b p q) → Zero held (first_at t node + size p) (size q)
+              none {b = b} {p = p} {q = q} v = right_zero v (sequence-none b p q (holds (second p q (part (first_at t node) (two b p q) held))) (apart_as v) (sequence-as v sq))
 
-            -- the second runs too
-            module _ (dn : done_after k x d ≡ false) {j : ℕ} (ej : j ≡ taken_after x) where
-              -- a sequence starts it, where nothing is held
-              module _ (sq : is_sequence k ≡ true) where
-                pub start_call_lem : Runnable t sizes × Room t answers mid emid (node - 1) j × Clear t mid (node - 1)
-                unfolding Clear
-                start_call_lem =
-                    let (b, p, q, v) = two_of_lem ok.measured room.within ek en es z y in
-                    let none = sequence-none b p q (holds (second p q (part (first_at t node) (two b p q) held))) (apart_as v) (ap is_sequence (kind-is ok.measured room.within ek en v.is) ∙ sq) in
-                    let (c, g, l, e) = closed_of k d x dn in
-                    let done = left_is v taken (rw e at o) in
-                    rw (ej ∙ ap taken_after e) (
-                      ok,
-                      room_after (node - 1) (omega arith) room done,
-                      λ i lo hi. held-behind (size p) (left-fit v) done i (omega (arith, v.second)) ∙ right_zero v none i (omega (arith, v.second)) (omega (arith, v.ends, v.some_right)),
-                    )
+              pub stops-returns : {r : Reaction} → (x.code ≡ 0 → ⊥) → r ≡ one_more x → Resumed t answers held mid em emid node taken (Some r)
+              stops-returns go er =
+                  let (b, p, q, v) = two_of_lem ok.measured room.within ek en es z y in
+                  rw er
+                  (here-is v.is
+                  (left-stops (two-own v) (part (first_at t node) (two b p q) held) taken room.lent p q v.ends (holds-left v ∙ h) (left-fit v) (none v) (left_is v taken o) b v.is (here-sized v.is (drop taken answers)) (sequence-as v sq) go))
 
-                pub sequence-returns : {held' em' : List ℕ} {r r' : Ran} → Started t answers mid held' emid em' (node - 1) j r → r' ≡ one_more (both x r) → Resumed t answers held held' em em' node taken r'
-                sequence-returns st er =
-                    let (b, p, q, v) = two_of_lem ok.measured room.within ek en es z y in
-                    rw er
-                    (here-is v.is
-                    (sequence-both (two-own v) (part (first_at t node) (two b p q) held) taken room.lent p q v.ends (holds-left v ∙ h) (left-fit v) b x v.is (here-sized v.is (drop taken answers)) (ap is_sequence (kind-is ok.measured room.within ek en v.is) ∙ sq) (done_as v dn) (left_is v taken o) (start_as v.second v.right (drop (taken_after x) answers) (rw ej at st))))
+              -- and is started where the first ended
+              pub start_call_lem : Runnable t sizes × Room t answers mid emid (node - 1) x.taken × Clear t mid (node - 1)
+              unfolding Clear
+              start_call_lem =
+                  let (b, p, q, v) = two_of_lem ok.measured room.within ek en es z y in
+                  let done = left_is v taken o in (
+                    ok,
+                    room_after (node - 1) (omega arith) room done,
+                    λ i lo hi. held-behind (size p) (left-fit v) done i (omega (arith, v.second)) ∙ none v i (omega (arith, v.second)) (omega (arith, v.ends, v.some_right)),
+                  )
 
-              -- a parallel resumes it, whose bytes are as they were
-              module _ (sq : is_sequence k ≡ false) where
+              pub sequence-returns : x.code ≡ 0 → {held' em' : List ℕ} {r r' : Option Reaction} → Started t answers mid held' emid em' (node - 1) x.taken r → r' ≡ option_map one_more (option_map (both x) r) → Resumed t answers held held' em em' node taken r'
+              sequence-returns go st er =
+                  let (b, p, q, v) = two_of_lem ok.measured room.within ek en es z y in
+                  rw er
+                  (here-is v.is
+                  (sequence-both (two-own v) (part (first_at t node) (two b p q) held) taken room.lent p q v.ends (holds-left v ∙ h) (left-fit v) (left_is v taken o) b v.is (here-sized v.is (drop taken answers)) (sequence-as v sq) go (start_as v.second v.right (drop x.taken answers) st)))
+
+            -- another: its second runs too where it holds a pause
+            module _ (sq : is_sequence k ≡ false) {d : Bool} (ed : d ≡ holds_beneath sizes counts (node - 1)) where
+              second-test : {b : Binary} {p q : Stmt} → Both t node s b p q → holds (second p q (part (first_at t node) (two b p q) held)) ≡ d
+              second-test v = ap holds (right-part v) ∙ test-is (node - 1) v.right v.second (omega arith) (omega (arith, v.ends, v.some_right)) ∙ sym ed
+
+              pub alone-returns : {r : Reaction} → d ≡ false → r ≡ one_more x → Resumed t answers held mid em emid node taken (Some r)
+              alone-returns dn er =
+                  let (b, p, q, v) = two_of_lem ok.measured room.within ek en es z y in
+                  rw er
+                  (here-is v.is
+                  (left-alone (two-own v) (part (first_at t node) (two b p q) held) taken room.lent p q v.ends (holds-left v ∙ h) (left-fit v) (right_zero v (second-test v ∙ dn)) (left_is v taken o) b v.is (here-sized v.is (drop taken answers)) (sequence-as v sq) (second-test v ∙ dn)))
+
+              -- its bytes are as they were
+              module _ (some : d ≡ true) where
                 kept-part : {b : Binary} {p q : Stmt} (v : Both t node s b p q) → part (first_at t node + size p) q mid ≡ second p q (part (first_at t node) (two b p q) held)
                 kept-part {p = p} {q = q} v =
-                    let (c, g, l, e) = closed_of k d x dn in
-                    ap (take (size q)) (drop-behind (size p) (left-fit v) (left_is v taken (rw e at o)) (first_at t node + size p) (omega arith)) ∙ sym (right-part v)
+                    ap (take (size q)) (drop-behind (size p) (left-fit v) (left_is v taken o) (first_at t node + size p) (omega arith)) ∙ sym (right-part v)
 
-                pub second_call : Runnable t sizes × Room t answers mid emid (node - 1) j × Holding t counts mid (node - 1)
+                pub second_call : Runnable t sizes × Room t answers mid emid (node - 1) x.taken × Holding t counts mid (node - 1)
                 second_call =
                     let (b, p, q, v) = two_of_lem ok.measured room.within ek en es z y in
-                    let (c, g, l, e) = closed_of k d x dn in
-                    let some = second-test v ∙ parallel-holds k c g l d sq (ap (λ i. done_after k i d) (sym e) ∙ dn) in
-                    let done = left_is v taken (rw e at o) in
-                    rw (ej ∙ ap taken_after e) (
+                    let done = left_is v taken o in (
                       ok,
                       room_after (node - 1) (omega arith) room done,
                       record {
-                        state = state_as (sym v.right) (sym (bytes_as mid v.second v.right ∙ kept-part v)) (right-state v some);
+                        state = state_as (sym v.right) (sym (bytes_as mid v.second v.right ∙ kept-part v)) (right-state v (second-test v ∙ some));
                         listed = hd.listed;
                         counted = λ i lo hi.
                             hd.counted i (omega (arith, v.second)) (omega arith)
@@ -336,10 +348,10 @@ module _ {t sizes counts answers held em : List ℕ} {node taken : ℕ} (ok : Ru
                       },
                     )
 
-                pub parallel-returns : {held' em' : List ℕ} {r r' : Ran} → Resumed t answers mid held' emid em' (node - 1) j r → r' ≡ one_more (both x r) → Resumed t answers held held' em em' node taken r'
+                pub parallel-returns : {held' em' : List ℕ} {r r' : Option Reaction} → Resumed t answers mid held' emid em' (node - 1) x.taken r → r' ≡ option_map one_more (option_map (both x) r) → Resumed t answers held held' em em' node taken r'
                 parallel-returns st er =
                     let (b, p, q, v) = two_of_lem ok.measured room.within ek en es z y in
                     rw er
                     (here-is v.is
-                    (parallel-both (two-own v) (part (first_at t node) (two b p q) held) taken room.lent p q v.ends (holds-left v ∙ h) (left-fit v) b x v.is (here-sized v.is (drop taken answers)) (ap is_sequence (kind-is ok.measured room.within ek en v.is) ∙ sq) (apart_as v) (done_as v dn) (left_is v taken o)
-                    (resume_as v.second v.right (bytes_as mid v.second v.right ∙ kept-part v) (drop (taken_after x) answers) (rw ej at st))))
+                    (parallel-both (two-own v) (part (first_at t node) (two b p q) held) taken room.lent p q v.ends (holds-left v ∙ h) (left-fit v) (left_is v taken o) b v.is (here-sized v.is (drop taken answers)) (sequence-as v sq) (apart_as v) (second-test v ∙ some)
+                    (resume_as v.second v.right (bytes_as mid v.second v.right ∙ kept-part v) (drop x.taken answers) st)))

@@ -1,5 +1,5 @@
 -- Demand 3 of the calls: each contract joined with the theory's theorems.
-use mathlib.Core.Path.{◌≡◌, refl, sym, ap, subst, ◌∙◌}
+use mathlib.Core.Path.{◌≡◌, refl, sym, ap, ap₂, subst, ◌∙◌}
 use mathlib.Core.Logic.{◌↔◌}
 use mathlib.Core.Bool.{Bool, true, false, cond, ◌&&◌}
 use mathlib.Core.List.{List}
@@ -27,8 +27,8 @@ use Rattle.analysis.specs.Analysis.{checked}
 use Rattle.analysis.proofs.Analyses.{checked-program}
 use Rattle.analysis.proofs.Theorems.{checked-room, checked-passed, checked-told}
 use Rattle.instant.specs.declared.Reaction.{Reaction}
-use Rattle.instant.specs.declared.Reaction.TheVariants.{Closed, Refused}
-use Rattle.instant.specs.Calls.{room_for, verdict_for, Call, closing, refuses, answer_of, state_after, emissions_after, start_call, resume_call, Reacts, Starting, Resuming}
+use Rattle.esterel.specs.Refusal.{Reply, yields, rejects}
+use Rattle.instant.specs.Calls.{reacts, room_for, verdict_for, Call, closing, refuses, answer_of, state_after, emissions_after, start_call, resume_call, Reacts, Starting, Resuming}
 use Rattle.instant.specs.Calls.{closes as closes_call}
 use Rattle.instant.specs.Theorems.{Lent, Ends, closes, starves, Instant, Unchanged, Demand3OfCalls}
 use Rattle.instant.proofs.Emissions.{length_emissions}
@@ -58,13 +58,13 @@ lent_of t state emissions p e =
     }
 
 -- a call that closes passes them, where a refused table refuses it
-closed-lent : (t state emissions : List ℕ) (call : Verdict → Call) (code k entries : ℕ) → ((a b : ℕ) → call (refused a b) ≡ refuses a b) → Closed code k entries ≡ answer_of (call (verdict_for t (length state) (length emissions))) → (p : Stmt) × Lent t p state emissions
+closed-lent : (t state emissions : List ℕ) (call : Verdict → Call) (code k entries : ℕ) → ((a b : ℕ) → call (refused a b) ≡ refuses a b) → reacts code k entries ≡ answer_of (call (verdict_for t (length state) (length emissions))) → (p : Stmt) × Lent t p state emissions
 closed-lent t state emissions call code k entries by = go (verdict_for t (length state) (length emissions)) refl
   where
-    go : (v : Verdict) → verdict_for t (length state) (length emissions) ≡ v → Closed code k entries ≡ answer_of (call v) → (p : Stmt) × Lent t p state emissions
+    go : (v : Verdict) → verdict_for t (length state) (length emissions) ≡ v → reacts code k entries ≡ answer_of (call v) → (p : Stmt) × Lent t p state emissions
     go (passed p) e z = (p, lent_of t state emissions p e)
     go (refused a b) e z =
-        let r : Closed code k entries ≡ Refused a b = z ∙ ap answer_of (by a b) in
+        let r : reacts code k entries ≡ rejects a b = z ∙ ap answer_of (by a b) in
         let y : ◌≡◌ {A = ℕ} 0 1 = cc in
         absurd (omega arith)
 
@@ -77,20 +77,28 @@ unfolding resume_call
 resume-by state answers a b = refl
 
 -- what a closed instant leaves in the 128 bytes does not depend on what was there
-closing-front : (x : Outcome) (old other : List ℕ) (code k entries : ℕ) → Closed code k entries ≡ answer_of (closing x) → take state_bytes (state_after (closing x) old) ≡ take state_bytes (state_after (closing x) other)
+closing-front : (x : Outcome) (old other : List ℕ) (code k entries : ℕ) → reacts code k entries ≡ answer_of (closing x) → take state_bytes (state_after (closing x) old) ≡ take state_bytes (state_after (closing x) other)
 closing-front (done c a e h m) old other code k entries z =
     take_at (pack h) (drop (length (pack h)) old) state_bytes (length-pack h) ∙ sym (take_at (pack h) (drop (length (pack h)) other) state_bytes (length-pack h))
 closing-front needs_answer old other code k entries z = let y : ◌≡◌ {A = ℕ} 0 1 = cc in absurd (omega arith)
 closing-front no_rule old other code k entries z = let y : ◌≡◌ {A = ℕ} 0 1 = cc in absurd (omega arith)
 
-start-front : (v : Verdict) (answers old other : List ℕ) (code k entries : ℕ) → Closed code k entries ≡ answer_of (start_call v answers) → take state_bytes (state_after (start_call v answers) old) ≡ take state_bytes (state_after (start_call v answers) other)
+start-front : (v : Verdict) (answers old other : List ℕ) (code k entries : ℕ) → reacts code k entries ≡ answer_of (start_call v answers) → take state_bytes (state_after (start_call v answers) old) ≡ take state_bytes (state_after (start_call v answers) other)
 unfolding start_call
 start-front (passed p) answers old other code k entries z = closing-front (outcome p (start 0 p answers)) old other code k entries z
 start-front (refused a b) answers old other code k entries z = let y : ◌≡◌ {A = ℕ} 0 1 = cc in absurd (omega arith)
 
+-- an answer that closes is of one code, one count of answers and one of entries
+abbrev pub value : Reply Reaction → Reaction
+value (yields r) = r
+value (rejects number node) = record { code = 0; taken = 0; entries = 0 }
+
+pub reacts-once : {c k l c' k' l' : ℕ} → reacts c k l ≡ reacts c' k' l' → (c ≡ c') × (k ≡ k') × (l ≡ l')
+reacts-once e = (ap (λ r. (value r).code) e, ap (λ r. (value r).taken) e, ap (λ r. (value r).entries) e)
+
 -- a call that comes to the rules' outcome of x
 module _ (p : Stmt) (few : size p ≤ max_nodes) (run : List ℕ → Result) (answers state emissions state' emissions' : List ℕ) (room : state_bytes ≤ length state) where
-  instant_of : (x : Result) {r : Reaction} → run answers ≡ x → Closes p answers x → ((run answers ≡ starved) ↔ NeedsMore p run answers) → Reacts (closing (outcome p x)) state emissions state' emissions' r → Instant p run answers state emissions state' emissions' r
+  instant_of : (x : Result) {r : Reply Reaction} → run answers ≡ x → Closes p answers x → ((run answers ≡ starved) ↔ NeedsMore p run answers) → Reacts (closing (outcome p x)) state emissions state' emissions' r → Instant p run answers state emissions state' emissions' r
   instant_of (closed c u h rest) {r} e sure st o =
       let long = held-length sure in
       let small = held_small sure in
@@ -109,17 +117,17 @@ module _ (p : Stmt) (few : size p ≤ max_nodes) (run : List ℕ → Result) (an
         exact = λ code k entries z. record {
           trail = u;
           rest = rest;
-          rules = e ∙ (let a = o.answer in cc);
+          rules = e ∙ ap₂ (λ x y. closed x u y rest) (sym (reacts-once (sym z ∙ o.answer)).0) (sym own);
           packed = front ∙ ap pack (sym own);
-          answers_taken = let a = o.answer in cc;
-          entries_are = let a = o.answer in cc;
-          few_entries = let a = o.answer in let b : entries ≡ length u = cc in omega (arith, sure.entries);
+          answers_taken = (reacts-once (sym z ∙ o.answer)).1;
+          entries_are = (reacts-once (sym z ∙ o.answer)).2;
+          few_entries = let b : entries ≡ length u = (reacts-once (sym z ∙ o.answer)).2 in omega (arith, sure.entries);
           emissions_are = ap (take signals) o.emissions_are ∙ take_at bytes (drop (length bytes) emissions) signals wide;
           in_k = sure.in_k;
           bodies = sure.bodies;
         };
-        ended = λ k entries z. front ∙ ap pack (sure.ended (let a = o.answer in cc)) ∙ pack-zeros (size p);
-        paused = λ k entries z. both (clear_of state' (size p) few h long front) (ap (admitted p) own ∙ sure.paused (let a = o.answer in cc));
+        ended = λ k entries z. front ∙ ap pack (sure.ended (sym (reacts-once (sym z ∙ o.answer)).0)) ∙ pack-zeros (size p);
+        paused = λ k entries z. both (clear_of state' (size p) few h long front) (ap (admitted p) own ∙ sure.paused (sym (reacts-once (sym z ∙ o.answer)).0));
       }
   instant_of starved {r} e sure st o =
       record {
@@ -135,7 +143,7 @@ module _ (p : Stmt) (few : size p ≤ max_nodes) (run : List ℕ → Result) (an
       }
   instant_of stuck e sure st o = absurd sure
 
-module _ (t answers state emissions state' emissions' : List ℕ) (p : Stmt) (r : Reaction) (l : Lent t p state emissions) where
+module _ (t answers state emissions state' emissions' : List ℕ) (p : Stmt) (r : Reply Reaction) (l : Lent t p state emissions) where
   pub starts_as : start_call (verdict_for t (length state) (length emissions)) answers ≡ closing (outcome p (start 0 p answers))
   unfolding start_call
   starts_as = ap (λ v. start_call v answers) (passes l)
@@ -154,7 +162,7 @@ module _ (t answers state emissions state' emissions' : List ℕ) (p : Stmt) (r 
       let fits = right (is_clear_from (size p) state) a in
       instant_of p (few_of l) (resume 0 p (unpack (size p) state)) answers state emissions state' emissions' l.places (resume 0 p (unpack (size p) state) answers) refl (demand3.resumes p (sound l) (unpack (size p) state) answers fits) (starving.resumes p (sound l) (unpack (size p) state) answers fits) (reacts_as (resumes_as a) o)
 
-  resumes-refused : admits p state ≡ false → Resuming t answers state emissions state' emissions' r → r ≡ Refused 12 0
+  resumes-refused : admits p state ≡ false → Resuming t answers state emissions state' emissions' r → r ≡ rejects 12 0
   resumes-refused a o = (reacts_as (resumes_as a) o).answer
 
 -- ---- refusals
@@ -207,11 +215,11 @@ module _ (t answers state emissions : List ℕ) (number node : ℕ) where
       go (refused a b) ev o e = refused-told number node (told-numbered o) e
 
 -- an answer is of one call
-refused_call : (call : Call) (number node : ℕ) → Refused number node ≡ answer_of call → call ≡ refuses number node
+refused_call : (call : Call) (number node : ℕ) → rejects number node ≡ answer_of call → call ≡ refuses number node
 refused_call (refuses a b) number node e = cc
 refused_call (closes_call code taken entries state emissions) number node e = cc
 
-unchanged : {call : Call} {state emissions state' emissions' : List ℕ} {number node : ℕ} → (call ≡ refuses number node → Numbers number node) → Reacts call state emissions state' emissions' (Refused number node) → Unchanged number node state emissions state' emissions'
+unchanged : {call : Call} {state emissions state' emissions' : List ℕ} {number node : ℕ} → (call ≡ refuses number node → Numbers number node) → Reacts call state emissions state' emissions' (rejects number node) → Unchanged number node state emissions state' emissions'
 unchanged {call} {state} {emissions} {state'} {emissions'} {number} {node} told o =
     let e = refused_call call number node o.answer in
     record {
@@ -233,7 +241,7 @@ demand3_of_calls =
       resumes = resumes_instant;
       refuses = resumes-refused;
       start_entries = λ t answers state emissions state' emissions' p code k entries l o.
-          (let x = (starts_instant t answers state emissions state' emissions' p (Closed code k entries) l o).exact code k entries refl in
+          (let x = (starts_instant t answers state emissions state' emissions' p (reacts code k entries) l o).exact code k entries refl in
           omega (arith, x.entries_are, demand3.start_entries p answers code x.trail _ x.rest x.rules));
       blind = λ t answers state other emissions state' other' emissions' emissions'' r s e o w.
           (let same : start_call (verdict_for t (length state) (length emissions)) answers ≡ start_call (verdict_for t (length other) (length emissions)) answers = ap (λ b. start_call (checked (b && leb signals (length emissions)) t) answers) e in

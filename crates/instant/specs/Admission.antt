@@ -5,8 +5,6 @@ use Rattle.esterel.specs.Statement.{Stmt, leaf, one, two, kind, size}
 use Rattle.esterel.specs.Instant.{holds, apart}
 use Rattle.esterel.specs.Outcome.{statement_at}
 use Rattle.packing.specs.Packing.{state_bytes, unpack, admits}
-use Rattle.table.specs.Check.{pass_if}
-use Rattle.table.specs.declared.Check.{Check}
 use Rattle.table.specs.declared.Kind.{Kind}
 use Rattle.table.specs.Kinds.{is_pause, is_sequence, is_present}
 
@@ -50,7 +48,7 @@ pub record Suffices (p : Stmt) (state held counts : List ℕ) : Type 0 where
   pub listed : size p < length counts
 
 -- check 12 of a packed state (F-11), whose bits are then the bytes of p's nodes, and counted
-pub record Admitting (p : Stmt) (state held held' counts' : List ℕ) (r : Check) : Type 0 where
-  pub answer : r ≡ pass_if 12 (admits p state)
+pub record Admitting (p : Stmt) (state held held' counts' : List ℕ) (r : Bool) : Type 0 where
+  pub answer : r ≡ admits p state
   pub unpacked : held' ≡ unpack (size p) state ++ drop (size p) held
   pub counted : Counted held' counts' (size p)

@@ -1,24 +1,18 @@
 -- What `start` and `resume` answer and leave in the lent buffers.
-use Rattle.std.specs.Prelude.{ℕ, ◌≤◌, ◌≡◌, Bool, cond, ◌&&◌, List, leb, length}
+use Rattle.std.specs.Prelude.{ℕ, ◌≤◌, ◌≡◌, Bool, cond, ◌&&◌, Option, Some, None, List, leb, length}
 use Rattle.esterel.specs.Limits.{max_nodes, signals}
 use Rattle.esterel.specs.Statement.{size}
 use Rattle.esterel.specs.Table.{Verdict, passed, refused}
+use Rattle.esterel.specs.Refusal.{Reply, yields, rejects}
 use Rattle.esterel.specs.Instant.{start, resume}
 use Rattle.esterel.specs.Outcome.{Outcome, done, needs_answer, no_rule, outcome}
 use Rattle.table.specs.Check.{answer_of as check_of}
-use Rattle.table.specs.declared.Check.{Check}
-use Rattle.table.specs.declared.Check.TheVariants.{Passed}
-use Rattle.table.specs.declared.Check.TheVariants.{Refused as RefusedCheck}
 use Rattle.table.specs.Program.{program_of}
 use Rattle.packing.specs.Packing.{state_bytes, pack, unpack, admits}
 use Rattle.analysis.specs.Passes.{onto}
 use Rattle.analysis.specs.Analysis.{checked}
 use Rattle.instant.specs.Run.{Runnable}
-use Rattle.instant.specs.declared.Ran.{Ran}
-use Rattle.instant.specs.declared.Ran.TheVariants.{Starved}
-use Rattle.instant.specs.declared.Ran.TheVariants.{Closed as ClosedRan}
 use Rattle.instant.specs.declared.Reaction.{Reaction}
-use Rattle.instant.specs.declared.Reaction.TheVariants.{Closed, Refused}
 
 -- check 3: 128 bytes of state (F-11), and a byte for each signal
 abbrev pub room_for : (state emissions : ℕ) → Bool
@@ -51,13 +45,17 @@ resume_call (passed p) state answers =
 resume_call (refused number node) state answers = refuses number node
 
 -- what a run comes to that left these bytes; after a starved one nothing is handed over
-abbrev pub handed : Ran → (held emissions : List ℕ) → Call
-handed (ClosedRan code taken entries) held emissions = closes code taken entries (pack held) emissions
-handed Starved held emissions = refuses 13 0
+abbrev pub handed : Option Reaction → (held emissions : List ℕ) → Call
+handed (Some r) held emissions = closes r.code r.taken r.entries (pack held) emissions
+handed None held emissions = refuses 13 0
 
-abbrev pub answer_of : Call → Reaction
-answer_of (refuses number node) = Refused number node
-answer_of (closes code taken entries state emissions) = Closed code taken entries
+-- a call that closes answers its code, the answers taken and the entries
+abbrev pub reacts : (code taken entries : ℕ) → Reply Reaction
+reacts code taken entries = yields (record { code = code; taken = taken; entries = entries })
+
+abbrev pub answer_of : Call → Reply Reaction
+answer_of (refuses number node) = rejects number node
+answer_of (closes code taken entries state emissions) = reacts code taken entries
 
 -- a buffer after the call: after a refusal it is as it was
 abbrev pub state_after : Call → List ℕ → List ℕ
@@ -69,18 +67,18 @@ emissions_after (refuses number node) old = old
 emissions_after (closes code taken entries state emissions) old = onto emissions old
 
 -- the answer, and the whole content of both buffers
-pub record Reacts (call : Call) (state emissions state' emissions' : List ℕ) (r : Reaction) : Type 0 where
+pub record Reacts (call : Call) (state emissions state' emissions' : List ℕ) (r : Reply Reaction) : Type 0 where
   pub answer : r ≡ answer_of call
   pub state_is : state' ≡ state_after call state
   pub emissions_are : emissions' ≡ emissions_after call emissions
 
 -- the contracts of `start` and `resume`: the answer and the buffers' contents are those of the call over the table, the answers and
 -- the buffers' old contents
-abbrev pub Starting : (t answers state emissions state' emissions' : List ℕ) → Reaction → Type 0
+abbrev pub Starting : (t answers state emissions state' emissions' : List ℕ) → Reply Reaction → Type 0
 Starting t answers state emissions state' emissions' r =
     Reacts (start_call (verdict_for t (length state) (length emissions)) answers) state emissions state' emissions' r
 
-abbrev pub Resuming : (t answers state emissions state' emissions' : List ℕ) → Reaction → Type 0
+abbrev pub Resuming : (t answers state emissions state' emissions' : List ℕ) → Reply Reaction → Type 0
 Resuming t answers state emissions state' emissions' r =
     Reacts (resume_call (verdict_for t (length state) (length emissions)) state answers) state emissions state' emissions' r
 
@@ -93,11 +91,6 @@ pub record Ready (t : List ℕ) (state emissions : ℕ) (sizes : List ℕ) : Typ
   pub marks : signals ≤ emissions
 
 -- what checks 1 to 11 answer, and leave in the list of sizes
-pub record CallChecked (t : List ℕ) (state emissions : ℕ) (sizes : List ℕ) (r : Check) : Type 0 where
+pub record CallChecked (t : List ℕ) (state emissions : ℕ) (sizes : List ℕ) (r : Reply (Unit {0})) : Type 0 where
   pub answer : r ≡ check_of (verdict_for t state emissions)
-  pub ready : r ≡ Passed → Ready t state emissions sizes
-
--- a check's answer where it refuses
-abbrev pub refusal_of : Check → Reaction
-refusal_of Passed = Refused 0 0  -- never asked
-refusal_of (RefusedCheck number node) = Refused number node
+  pub ready : r ≡ yields tt → Ready t state emissions sizes

@@ -1,5 +1,5 @@
 -- What the runner's functions answer and leave.
-use Rattle.std.specs.Prelude.{ℕ, suc, ◌+◌, ◌<◌, ◌≤◌, ◌≡◌, true, List, [], length, get_or, take, drop}
+use Rattle.std.specs.Prelude.{ℕ, suc, ◌+◌, ◌<◌, ◌≤◌, ◌≡◌, true, Option, Some, None, List, [], length, get_or, take, drop}
 use Rattle.std.proofs.lemmas.List.Edits.{sets}
 use Rattle.esterel.specs.Limits.{signals}
 use Rattle.esterel.specs.Statement.{size, nodes}
@@ -11,8 +11,7 @@ use Rattle.table.specs.Program.{program_of}
 pub use Rattle.table.specs.Columns.{stmt_at, first_at}
 use Rattle.table.specs.Columns.{Measured}
 use Rattle.instant.specs.Steps.{marked}
-use Rattle.instant.specs.declared.Ran.{Ran}
-use Rattle.instant.specs.declared.Ran.TheVariants.{Closed, Starved}
+use Rattle.instant.specs.declared.Reaction.{Reaction}
 
 -- an accepted table with the sizes of its subtrees
 pub record Runnable (t sizes : List ℕ) : Type 0 where
@@ -32,12 +31,12 @@ Clear t held node = (j : ℕ) → first_at t node ≤ j → j ≤ node → get_o
 
 -- the answer r, with the state turned from one list into another and the emissions too, is the rules' result x for the statement whose
 -- first node is f. After a starved run nothing is said of the buffers.
-pub data RanIs (t answers : List ℕ) (f : ℕ) (held held' emissions emissions' : List ℕ) : Result → Ran → Type 0 where
-  ran : (code taken : ℕ) (trail : List Entry) (h : List ℕ) → taken ≤ length answers → held' ≡ sets held f h → emissions' ≡ marked (emitted (nodes (program_of t)) trail) emissions → RanIs t answers f held held' emissions emissions' (closed code trail h (drop taken answers)) (Closed code taken (length trail))
-  starves : RanIs t answers f held held' emissions emissions' starved Starved
+pub data RanIs (t answers : List ℕ) (f : ℕ) (held held' emissions emissions' : List ℕ) : Result → Option Reaction → Type 0 where
+  ran : (code taken : ℕ) (trail : List Entry) (h : List ℕ) → taken ≤ length answers → held' ≡ sets held f h → emissions' ≡ marked (emitted (nodes (program_of t)) trail) emissions → RanIs t answers f held held' emissions emissions' (closed code trail h (drop taken answers)) (Some (record { code = code; taken = taken; entries = length trail }))
+  starves : RanIs t answers f held held' emissions emissions' starved None
 
 -- a start of the statement at a node
-abbrev pub Started : (t answers held held' emissions emissions' : List ℕ) (node taken : ℕ) → Ran → Type 0
+abbrev pub Started : (t answers held held' emissions emissions' : List ℕ) (node taken : ℕ) → Option Reaction → Type 0
 Started t answers held held' emissions emissions' node taken r =
     RanIs t answers (first_at t node) held held' emissions emissions' (start (first_at t node) (stmt_at t node) (drop taken answers)) r
 
@@ -51,6 +50,6 @@ pub record Holding (t counts held : List ℕ) (node : ℕ) : Type 0 where
   pub listed : size (program_of t) < length counts
   pub counted : (j : ℕ) → first_at t node ≤ j → j ≤ node → get_or counts (suc j) 0 ≡ get_or counts j 0 + get_or held j 0
 
-abbrev pub Resumed : (t answers held held' emissions emissions' : List ℕ) (node taken : ℕ) → Ran → Type 0
+abbrev pub Resumed : (t answers held held' emissions emissions' : List ℕ) (node taken : ℕ) → Option Reaction → Type 0
 Resumed t answers held held' emissions emissions' node taken r =
     RanIs t answers (first_at t node) held held' emissions emissions' (resume (first_at t node) (stmt_at t node) (bytes_at t held node) (drop taken answers)) r

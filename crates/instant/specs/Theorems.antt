@@ -10,9 +10,9 @@ use Rattle.esterel.specs.Instant.{Entry, Result, closed, zeros, start, resume}
 use Rattle.esterel.specs.Outcome.{taken, emitted, emission_bytes, all_in, all_go_on}
 use Rattle.esterel.specs.Theorems.{NeedsMore}
 use Rattle.packing.specs.Packing.{state_bytes, pack, unpack, admits}
-use Rattle.instant.specs.Calls.{Starting, Resuming}
+use Rattle.instant.specs.Calls.{reacts, Starting, Resuming}
 use Rattle.instant.specs.declared.Reaction.{Reaction}
-use Rattle.instant.specs.declared.Reaction.TheVariants.{Closed, Refused}
+use Rattle.esterel.specs.Refusal.{Reply, rejects}
 
 -- the table of the program p is accepted, and the lent buffers suffice
 pub record Lent (t : List ℕ) (p : Stmt) (state emissions : List ℕ) : Type 0 where
@@ -21,9 +21,9 @@ pub record Lent (t : List ℕ) (p : Stmt) (state emissions : List ℕ) : Type 0 
   pub marks : signals ≤ length emissions
 
 -- the call closes with code 0 or 1, unless it answers 13
-pub data Ends : Reaction → Type 0 where
-  closes : (code k entries : ℕ) → code ≤ 1 → Ends (Closed code k entries)
-  starves : Ends (Refused 13 0)
+pub data Ends : Reply Reaction → Type 0 where
+  closes : (code k entries : ℕ) → code ≤ 1 → Ends (reacts code k entries)
+  starves : Ends (rejects 13 0)
 
 -- a closed call is the rules' instant: its code, the answers it took, its entries, at most n(1 + d), the pauses that it leaves and the
 -- signals whose emits were entered
@@ -43,20 +43,20 @@ pub record Exact (p : Stmt) (x : Result) (state' emissions' : List ℕ) (code k 
   pub bodies : all_go_on (nodes p) trail ≡ true
 
 -- what a call over an accepted program answers and leaves in the buffers; `run` is the rules' instant over the answers
-pub record Instant (p : Stmt) (run : List ℕ → Result) (answers state emissions state' emissions' : List ℕ) (r : Reaction) : Type 0 where
+pub record Instant (p : Stmt) (run : List ℕ → Result) (answers state emissions state' emissions' : List ℕ) (r : Reply Reaction) : Type 0 where
   pub same_length : length state' ≡ length state
   -- what lies past the 128 bytes of state, and past those of the signals, is as it was
   pub past_state : drop state_bytes state' ≡ drop state_bytes state
   pub past_emissions : drop signals emissions' ≡ drop signals emissions
   pub ends : Ends r
   -- 13 exactly if the rules need an answer after the last lent one
-  pub needs : (r ≡ Refused 13 0) ↔ NeedsMore p run answers
+  pub needs : (r ≡ rejects 13 0) ↔ NeedsMore p run answers
   -- n(1 + d) answers are never too few
-  pub enough : planned p ≤ length answers → r ≡ Refused 13 0 → ⊥
-  pub exact : (code k entries : ℕ) → r ≡ Closed code k entries → Exact p (run answers) state' emissions' code k entries
+  pub enough : planned p ≤ length answers → r ≡ rejects 13 0 → ⊥
+  pub exact : (code k entries : ℕ) → r ≡ reacts code k entries → Exact p (run answers) state' emissions' code k entries
   -- after code 0 nothing is held, after code 1 the state is admitted
-  pub ended : (k entries : ℕ) → r ≡ Closed 0 k entries → take state_bytes state' ≡ zeros state_bytes
-  pub paused : (k entries : ℕ) → r ≡ Closed 1 k entries → admits p state' ≡ true
+  pub ended : (k entries : ℕ) → r ≡ reacts 0 k entries → take state_bytes state' ≡ zeros state_bytes
+  pub paused : (k entries : ℕ) → r ≡ reacts 1 k entries → admits p state' ≡ true
 
 -- a refusal has a number from 1 to 13 and a node that a table can have, and neither buffer has changed
 pub record Unchanged (number node : ℕ) (state emissions state' emissions' : List ℕ) : Type 0 where
@@ -70,49 +70,49 @@ pub record Demand3OfCalls : Type 0 where
   -- a call that closes was lent the table of an accepted program and buffers that suffice
   pub start_lent :
       (t answers state emissions state' emissions' : List ℕ) (code k entries : ℕ) →
-      Starting t answers state emissions state' emissions' (Closed code k entries) → (p : Stmt) × Lent t p state emissions
+      Starting t answers state emissions state' emissions' (reacts code k entries) → (p : Stmt) × Lent t p state emissions
   pub resume_lent :
       (t answers state emissions state' emissions' : List ℕ) (code k entries : ℕ) →
-      Resuming t answers state emissions state' emissions' (Closed code k entries) → (p : Stmt) × Lent t p state emissions
+      Resuming t answers state emissions state' emissions' (reacts code k entries) → (p : Stmt) × Lent t p state emissions
   pub starts :
-      (t answers state emissions state' emissions' : List ℕ) (p : Stmt) (r : Reaction) →
+      (t answers state emissions state' emissions' : List ℕ) (p : Stmt) (r : Reply Reaction) →
       Lent t p state emissions →
       Starting t answers state emissions state' emissions' r → Instant p (start 0 p) answers state emissions state' emissions' r
   pub resumes :
-      (t answers state emissions state' emissions' : List ℕ) (p : Stmt) (r : Reaction) →
+      (t answers state emissions state' emissions' : List ℕ) (p : Stmt) (r : Reply Reaction) →
       Lent t p state emissions →
       admits p state ≡ true →
       Resuming t answers state emissions state' emissions' r → Instant p (resume 0 p (unpack (size p) state)) answers state emissions state' emissions' r
   -- and from any other state it is refused: 12
   pub refuses :
-      (t answers state emissions state' emissions' : List ℕ) (p : Stmt) (r : Reaction) →
+      (t answers state emissions state' emissions' : List ℕ) (p : Stmt) (r : Reply Reaction) →
       Lent t p state emissions →
       admits p state ≡ false →
-      Resuming t answers state emissions state' emissions' r → r ≡ Refused 12 0
+      Resuming t answers state emissions state' emissions' r → r ≡ rejects 12 0
   -- a start enters each node at most once
   pub start_entries :
       (t answers state emissions state' emissions' : List ℕ) (p : Stmt) (code k entries : ℕ) →
       Lent t p state emissions →
-      Starting t answers state emissions state' emissions' (Closed code k entries) → entries ≤ size p
+      Starting t answers state emissions state' emissions' (reacts code k entries) → entries ≤ size p
   -- a start looks at no byte of the state: where both buffers suffice, or neither does, the answer, the emissions and the 128 bytes that
   -- it leaves are the same
   pub blind :
-      (t answers state other emissions state' other' emissions' emissions'' : List ℕ) (r s : Reaction) →
+      (t answers state other emissions state' other' emissions' emissions'' : List ℕ) (r s : Reply Reaction) →
       leb state_bytes (length state) ≡ leb state_bytes (length other) →
       Starting t answers state emissions state' emissions' r →
       Starting t answers other emissions other' emissions'' s →
-      (r ≡ s) × (emissions' ≡ emissions'') × ((code k entries : ℕ) → r ≡ Closed code k entries → take state_bytes state' ≡ take state_bytes other')
+      (r ≡ s) × (emissions' ≡ emissions'') × ((code k entries : ℕ) → r ≡ reacts code k entries → take state_bytes state' ≡ take state_bytes other')
   -- after code 1 the next `resume` takes the state that was left: it is an instant again
   pub onward :
-      (t answers state emissions state' emissions' more next state'' next' : List ℕ) (p : Stmt) (run : List ℕ → Result) (k entries : ℕ) (r : Reaction) →
+      (t answers state emissions state' emissions' more next state'' next' : List ℕ) (p : Stmt) (run : List ℕ → Result) (k entries : ℕ) (r : Reply Reaction) →
       Lent t p state emissions →
-      Instant p run answers state emissions state' emissions' (Closed 1 k entries) →
+      Instant p run answers state emissions state' emissions' (reacts 1 k entries) →
       signals ≤ length next →
       Resuming t more state' next state'' next' r → Instant p (resume 0 p (unpack (size p) state')) more state' next state'' next' r
   -- whatever the table and the buffers are, a refusal has changed nothing
   pub start_refusals :
       (t answers state emissions state' emissions' : List ℕ) (number node : ℕ) →
-      Starting t answers state emissions state' emissions' (Refused number node) → Unchanged number node state emissions state' emissions'
+      Starting t answers state emissions state' emissions' (rejects number node) → Unchanged number node state emissions state' emissions'
   pub resume_refusals :
       (t answers state emissions state' emissions' : List ℕ) (number node : ℕ) →
-      Resuming t answers state emissions state' emissions' (Refused number node) → Unchanged number node state emissions state' emissions'
+      Resuming t answers state emissions state' emissions' (rejects number node) → Unchanged number node state emissions state' emissions'

@@ -1,102 +1,144 @@
-// A run of a statement: each call is upon a child. The call's own buffers are lent as arrays: a frame keeps one word of each,
-// and of a slice two words for itself and two for every call that it makes.
+// A run of a statement: each call is upon a child. What a run reads is lent as one struct and the call's own buffers as arrays:
+// a frame keeps one word of each, and of a slice two words for itself and two for every call that it makes. The two buffers are
+// no struct, which is no plainer: what admits, leaves, packs and clears takes the first alone.
+ghost use Rattle.std.specs.Prelude.{◌≡◌, ◌+◌, ◌*◌, ◌<◌, slice_get, length, get_or};
+ghost use Rattle.table.specs.Kinds.{kind_of};
 ghost use Rattle.instant.specs.Run.{Runnable, Room, Clear, Started, Holding, Resumed};
 
-use crate::{Ran, steps};
+use crate::{Reaction, steps};
+use table::Kind;
+
+// What a run reads: a table, the sizes of its subtrees, and the answers.
+#[derive(Clone, Copy)]
+pub struct Inputs<'a> {
+    pub table: &'a [u8],
+    pub sizes: &'a [u16; esterel::MAX_NODES],
+    pub answers: &'a [u8],
+}
+
+impl Inputs<'_> {
+    // The kind of a node.
+    fn kind_at(&self, node: usize) -> Kind
+        requires { 2 * node + 1 < length self.now.table.now }
+        ensures { result ≡ kind_of (get_or self.now.table.now (2 * node) 0) }
+    {
+        let table = self.table;
+        table::kind_at(table, node)
+    }
+
+    // The field of a node.
+    pub(super) fn field_at(&self, node: usize) -> usize
+        requires { 2 * node + 1 < length self.now.table.now }
+        ensures { (result ≡ get_or self.now.table.now (2 * node + 1) 0) × (result < 256) }
+    {
+        let table = self.table;
+        table::field_at(table, node)
+    }
+
+    // The size of the subtree at a node.
+    pub(super) fn size_at(&self, node: usize) -> usize
+        requires { node < length self.now.sizes.now }
+        ensures { result ≡ get_or self.now.sizes.now node 0 }
+    {
+        let sizes = self.sizes;
+        table::size_at(sizes, node)
+    }
+
+    // The answer after those that were taken, if there is one.
+    pub(super) fn answer_after(&self, taken: usize) -> Option<u8>
+        ensures { result ≡ slice_get self.now.answers.now taken }
+    {
+        let answers = self.answers;
+        answers.get(taken).copied()
+    }
+}
 
 // The statement at a node is started, where nothing is held beneath it. So no byte is cleared, but by a trap that catches.
 pub fn start_at(
-    table: &[u8],
-    sizes: &[u16; esterel::MAX_NODES],
-    answers: &[u8],
+    inputs: &Inputs,
     node: usize,
     taken: usize,
     held: &mut [u8; esterel::MAX_NODES],
     emissions: &mut [u8; esterel::SIGNALS],
-) -> Ran
-    requires { Runnable table.now sizes.now × Room table.now answers.now held.old emissions.old node taken × Clear table.now held.old node }
-    ensures { Started table.now answers.now held.old held.new emissions.old emissions.new node taken result }
+) -> Option<Reaction>
+    requires { Runnable inputs.now.table.now inputs.now.sizes.now × Room inputs.now.table.now inputs.now.answers.now held.old emissions.old node taken × Clear inputs.now.table.now held.old node }
+    ensures { Started inputs.now.table.now inputs.now.answers.now held.old held.new emissions.old emissions.new node taken result }
 {
-    let kind = table::kind_at(table, node);
-    let children = table::arity(kind);
+    let kind = inputs.kind_at(node);
+    let children = kind.arity();
     if children == 0 {
-        return steps::start_leaf(table, kind, node, taken, held, emissions);
+        return Some(steps::start_leaf(inputs, kind, node, taken, held, emissions));
     }
     let last = node - 1;
-    let size = table::size_at(sizes, last);
+    let size = inputs.size_at(last);
     if children == 1 {
-        let inner = start_at(table, sizes, answers, last, taken, held, emissions);
-        return steps::leave(kind, inner, held, node - size, node);
+        let inner = start_at(inputs, last, taken, held, emissions)?;
+        return Some(steps::leave(kind, inner, held, node - size, node));
     }
     let first = last - size;
-    if table::is_present(kind) {
-        if answers.len() <= taken {
-            return Ran::Starved;
-        }
-        let chosen = steps::branch(answers[taken], first, last);
-        let inner = start_at(table, sizes, answers, chosen, taken + 1, held, emissions);
-        return steps::one_more(inner);
+    if kind == Kind::Present {
+        let answer = inputs.answer_after(taken)?;
+        let chosen = steps::branch(answer, first, last);
+        let inner = start_at(inputs, chosen, taken + 1, held, emissions)?;
+        return Some(inner.one_more());
     }
-    let left = start_at(table, sizes, answers, first, taken, held, emissions);
-    if steps::done_after(kind, left, true) {
-        return steps::one_more(left);
+    let left = start_at(inputs, first, taken, held, emissions)?;
+    if kind == Kind::Sequence && left.code != 0 {
+        return Some(left.one_more());
     }
-    let after = steps::taken_after(left);
-    let right = start_at(table, sizes, answers, last, after, held, emissions);
-    steps::join(left, right)
+    let right = start_at(inputs, last, left.taken, held, emissions)?;
+    Some(left.join(right))
 }
 
 // The statement at a node, which holds a pause, is resumed. Which of two children hold one is asked of the counts: the bytes
 // beneath a node are those that were counted until it is resumed.
 pub fn resume_at(
-    table: &[u8],
-    sizes: &[u16; esterel::MAX_NODES],
+    inputs: &Inputs,
     counts: &[u16; esterel::MAX_NODES + 1],
-    answers: &[u8],
     node: usize,
     taken: usize,
     held: &mut [u8; esterel::MAX_NODES],
     emissions: &mut [u8; esterel::SIGNALS],
-) -> Ran
-    requires { Runnable table.now sizes.now × Room table.now answers.now held.old emissions.old node taken × Holding table.now counts.now held.old node }
-    ensures { Resumed table.now answers.now held.old held.new emissions.old emissions.new node taken result }
+) -> Option<Reaction>
+    requires { Runnable inputs.now.table.now inputs.now.sizes.now × Room inputs.now.table.now inputs.now.answers.now held.old emissions.old node taken × Holding inputs.now.table.now counts.now held.old node }
+    ensures { Resumed inputs.now.table.now inputs.now.answers.now held.old held.new emissions.old emissions.new node taken result }
 {
-    let kind = table::kind_at(table, node);
-    let children = table::arity(kind);
+    let kind = inputs.kind_at(node);
+    let children = kind.arity();
     if children == 0 {
         held[node] = 0;
-        return steps::alone(0, taken);
+        return Some(Reaction::alone(0, taken));
     }
     let last = node - 1;
-    let size = table::size_at(sizes, last);
+    let size = inputs.size_at(last);
     if children == 1 {
-        let asked = steps::ask(kind, answers, taken);
-        if !steps::has_ended(asked) {
-            return asked;
+        let asked = steps::ask(inputs, kind, taken)?;
+        if asked.code != 0 {
+            return Some(asked);
         }
-        let from = steps::taken_after(asked);
-        let inner = resume_at(table, sizes, counts, answers, last, from, held, emissions);
-        if table::is_loop(kind) & steps::has_ended(inner) {
-            let after = steps::taken_after(inner);
-            let again = start_at(table, sizes, answers, last, after, held, emissions);
-            return steps::join(inner, again);
+        let inner = resume_at(inputs, counts, last, asked.taken, held, emissions)?;
+        if kind == Kind::Loop && inner.code == 0 {
+            let again = start_at(inputs, last, inner.taken, held, emissions)?;
+            return Some(inner.join(again));
         }
-        return steps::leave(kind, inner, held, node - size, node);
+        return Some(steps::leave(kind, inner, held, node - size, node));
     }
     let first = last - size;
-    if !steps::holds_beneath(sizes, counts, first) {
-        let inner = resume_at(table, sizes, counts, answers, last, taken, held, emissions);
-        return steps::one_more(inner);
+    if !steps::holds_beneath(inputs, counts, first) {
+        let inner = resume_at(inputs, counts, last, taken, held, emissions)?;
+        return Some(inner.one_more());
     }
-    let left = resume_at(table, sizes, counts, answers, first, taken, held, emissions);
-    if steps::done_after(kind, left, steps::holds_beneath(sizes, counts, last)) {
-        return steps::one_more(left);
+    let left = resume_at(inputs, counts, first, taken, held, emissions)?;
+    if kind == Kind::Sequence {
+        if left.code != 0 {
+            return Some(left.one_more());
+        }
+        let right = start_at(inputs, last, left.taken, held, emissions)?;
+        return Some(left.join(right));
     }
-    let after = steps::taken_after(left);
-    if table::is_sequence(kind) {
-        let right = start_at(table, sizes, answers, last, after, held, emissions);
-        return steps::join(left, right);
+    if !steps::holds_beneath(inputs, counts, last) {
+        return Some(left.one_more());
     }
-    let right = resume_at(table, sizes, counts, answers, last, after, held, emissions);
-    steps::join(left, right)
+    let right = resume_at(inputs, counts, last, left.taken, held, emissions)?;
+    Some(left.join(right))
 }

@@ -6,15 +6,17 @@ use mathlib.Core.List.{List, ◌++◌}
 use Prim.Native.Nat.{ℕ, suc, ◌+◌, ◌-◌, ◌*◌, ◌/◌, ◌%◌, ◌^◌, ◌≤◌, ◌<◌}
 use native.Mathlib.Omega.{arith}
 use lib.Dec.{eqb}
-use lib.ListN.{length, get_or, set, take, drop, length-append, length-drop, length-replicate, get_or-replicate, get_or-eq_default}
+use lib.ListN.{length, get_or, set, take, drop, length-replicate, get_or-replicate, get_or-eq_default}
 use lib.Pow.{pow_mono}
-use lib.Seq.{sets, length-sets, get_or-take, length-take-le, take_all}
+use lib.Seq.{get_or-take, get_or-drop, length-take-le, take_all}
+use borrow.Rule.Slice.PartMut.{put_mid}
+use Rattle.std.proofs.lemmas.Slice.{between_is}
 use Rattle.codes.specs.Codes.{bit}
 use Rattle.codes.proofs.WordBits.{below_lt, below-same, below_none, below-first}
 use Rattle.esterel.specs.Limits.{max_nodes}
 use Rattle.esterel.specs.Instant.{zeros}
 use Rattle.table.proofs.Buffers.{front-suc}
-use Rattle.table.proofs.Filling.{Filling, filling-length, filling-next}
+use Rattle.table.proofs.Filling.{Filling, filling-next}
 use Rattle.packing.specs.Packing.{state_bytes, bits_from, byte_of, pack}
 use Rattle.packing.proofs.Columns.{front-more}
 use Rattle.packing.proofs.Bits.{length-pack, pack-at}
@@ -37,39 +39,30 @@ bits-more h i m =
     let rest = below-same m (λ k. a (suc k)) (λ k. not (eqb (get_or h (suc i + k) 0) 0)) (λ k lk. let e : i + suc k ≡ suc i + k = omega arith in ap (λ x. not (eqb (get_or h x 0) 0)) e) in
     below-first m a ∙ ap₂ (λ x y. bit (not (eqb (get_or h x 0) 0)) + 2 * y) at rest
 
--- the bits of the nodes from i on, up to `last`
-pub record Gathered (bytes : List ℕ) (first last i byte : ℕ) : Type 0 where
-  pub low : first ≤ i
-  pub high : i ≤ last
-  pub is : byte ≡ bits_from (take last bytes) i (first + 8 - i)
+-- the bits of the nodes from i on
+pub record Gathered (bytes : List ℕ) (i byte : ℕ) : Type 0 where
+  pub high : i ≤ length bytes
+  pub is : byte ≡ bits_from bytes i (8 - i)
 
-module _ (bytes : List ℕ) {first last : ℕ} (near : last ≤ first + 8) (long : last ≤ length bytes) where
-  pub gather_begin : first ≤ last → Gathered bytes first last last 0
-  gather_begin le =
-      record { low = le; high = omega arith; is = sym (bits-past (take last bytes) last (first + 8 - last) (let e = length-take-le last bytes long in omega arith)) }
+module _ (bytes : List ℕ) where
+  pub gather_begin : Gathered bytes (length bytes) 0
+  gather_begin = record { high = omega arith; is = sym (bits-past bytes (length bytes) (8 - length bytes) (omega arith)) }
 
-  module _ {i byte : ℕ} (o : Gathered bytes first last i byte) (more : first < i) where
+  module _ (few : length bytes ≤ 8) {i byte : ℕ} (o : Gathered bytes i byte) (more : 0 < i) where
     pub gather_lt : byte < 128
     gather_lt =
-        let a = bits_lt (take last bytes) i (first + 8 - i) in
-        let b : 2 ^ (first + 8 - i) ≤ 2 ^ 7 = pow_mono {i = first + 8 - i} {j = 7} (omega arith) in
+        let a = bits_lt bytes i (8 - i) in
+        let b : 2 ^ (8 - i) ≤ 2 ^ 7 = pow_mono {i = 8 - i} {j = 7} (omega arith) in
         omega (arith, o.is)
 
-    pub gather_next : (x : ℕ) → x ≡ bit (not (eqb (get_or bytes (i - 1) 0) 0)) → Gathered bytes first last (i - 1) (2 * byte + x)
+    pub gather_next : (x : ℕ) → x ≡ bit (not (eqb (get_or bytes (i - 1) 0) 0)) → Gathered bytes (i - 1) (2 * byte + x)
     gather_next x e =
         let up : suc (i - 1) ≡ i = omega arith in
-        let count : first + 8 - (i - 1) ≡ suc (first + 8 - i) = omega (arith, o.high) in
-        let step : bits_from (take last bytes) (i - 1) (first + 8 - (i - 1)) ≡ bit (not (eqb (get_or (take last bytes) (i - 1) 0) 0)) + 2 * bits_from (take last bytes) (suc (i - 1)) (first + 8 - i) =
-        ap (bits_from (take last bytes) (i - 1)) count ∙ bits-more (take last bytes) (i - 1) (first + 8 - i) in
-        let own : x ≡ bit (not (eqb (get_or (take last bytes) (i - 1) 0) 0)) = e ∙ ap (λ y. bit (not (eqb y 0))) (sym (get_or-take last bytes (i - 1) 0 (omega (arith, o.high)))) in
-        let rest : byte ≡ bits_from (take last bytes) (suc (i - 1)) (first + 8 - i) = o.is ∙ ap (λ y. bits_from (take last bytes) y (first + 8 - i)) (sym up) in
-        record { low = omega arith; high = omega (arith, o.high); is = omega (arith, step, own, rest) }
-
-  pub gather_end : {i byte : ℕ} → Gathered bytes first last i byte → i ≤ first → byte ≡ bits_from (take last bytes) first 8
-  gather_end {i} o l =
-      let at : i ≡ first = omega (arith, o.low) in
-      let count : first + 8 - i ≡ 8 = omega arith in
-      o.is ∙ ap₂ (bits_from (take last bytes)) at count
+        let count : 8 - (i - 1) ≡ suc (8 - i) = omega (arith, o.high) in
+        let step : bits_from bytes (i - 1) (8 - (i - 1)) ≡ bit (not (eqb (get_or bytes (i - 1) 0) 0)) + 2 * bits_from bytes (suc (i - 1)) (8 - i) =
+        ap (bits_from bytes (i - 1)) count ∙ bits-more bytes (i - 1) (8 - i) in
+        let rest : byte ≡ bits_from bytes (suc (i - 1)) (8 - i) = o.is ∙ ap (λ y. bits_from bytes y (8 - i)) (sym up) in
+        record { high = omega (arith, o.high); is = omega (arith, step, e, rest) }
 
 -- ---- all bytes
 
@@ -79,7 +72,7 @@ unfolding byte_of
 byte_past h j l = bits-past h (8 * j) 8 l
 
 -- the bytes in which the nodes stand, and zeros behind them
-packed-whole : (h old : List ℕ) (used : ℕ) → length h ≤ 8 * used → used ≤ state_bytes → state_bytes ≤ length old → sets (take used (pack h) ++ drop used old) used (zeros (state_bytes - used)) ≡ pack h ++ drop state_bytes old
+packed-whole : (h old : List ℕ) (used : ℕ) → length h ≤ 8 * used → used ≤ state_bytes → state_bytes ≤ length old → put_mid used (state_bytes - used) (take used (pack h) ++ drop used old) (zeros (state_bytes - used)) ≡ pack h ++ drop state_bytes old
 packed-whole h old used l le room =
     let long = length-pack h in
     let end : used + (state_bytes - used) ≡ state_bytes = omega arith in
@@ -93,6 +86,13 @@ bits-same : (g h : List ℕ) (i n : ℕ) → ((k : ℕ) → k < n → get_or g (
 unfolding bits_from
 bits-same g h i n same = below-same n (λ k. not (eqb (get_or g (i + k) 0) 0)) (λ k. not (eqb (get_or h (i + k) 0) 0)) (λ k l. ap (λ x. not (eqb x 0)) (same k l))
 
+-- bytes of a part are those of the whole from there on
+bits-part : (bytes : List ℕ) (a e n : ℕ) → bits_from (take (e - a) (drop a bytes)) 0 n ≡ bits_from (take e bytes) a n
+unfolding bits_from
+bits-part bytes a e n =
+    below-same n (λ k. not (eqb (get_or (take (e - a) (drop a bytes)) (0 + k) 0) 0)) (λ k. not (eqb (get_or (take e bytes) (a + k) 0) 0))
+    (λ k l. let at : 0 + k ≡ k = omega arith in ap (λ x. not (eqb x 0)) (ap (λ i. get_or (take (e - a) (drop a bytes)) i 0) at ∙ ap (λ l. get_or l k 0) (between_is bytes a e) ∙ get_or-drop a (take e bytes) k 0))
+
 byte_is : (h : List ℕ) (j : ℕ) → bits_from h (8 * j) 8 ≡ byte_of h j
 unfolding byte_of
 byte_is h j = refl
@@ -104,46 +104,32 @@ module _ (bytes old : List ℕ) {n : ℕ} (long : n ≤ length bytes) (few : n �
 
   -- the whole ones
   module _ {state : List ℕ} {j : ℕ} (o : Filling (pack (take n bytes)) old state (n / 8) j) where
-    pub packed-length : length state ≡ length old
-    packed-length = filling-length (omega (arith, length-pack (take n bytes))) (omega arith) o
-
-    pub packed-next : (v : ℕ) → j < n / 8 → v ≡ bits_from (take (8 * j + 8) bytes) (8 * j) 8 → Filling (pack (take n bytes)) old (set state j v) (n / 8) (j + 1)
+    pub packed-next : (v : ℕ) → j < n / 8 → v ≡ bits_from (take (8 * j + 8 - 8 * j) (drop (8 * j) bytes)) 0 8 → Filling (pack (take n bytes)) old (set state j v) (n / 8) (j + 1)
     packed-next v l e =
         filling-next (omega (arith, length-pack (take n bytes))) (omega arith) o v l
         (e
+        ∙ bits-part bytes (8 * j) (8 * j + 8) 8
         ∙ bits-same (take (8 * j + 8) bytes) (take n bytes) (8 * j) 8 (λ k lk. get_or-take (8 * j + 8) bytes (8 * j + k) 0 (omega arith) ∙ sym (get_or-take n bytes (8 * j + k) 0 (omega arith)))
         ∙ byte_is (take n bytes) j
         ∙ sym (pack-at (take n bytes) j (omega arith)))
 
     -- and what is left of the nodes
-    packed-last : n / 8 ≤ j → (n % 8 ≡ 0 → ⊥) → (v : ℕ) → v ≡ bits_from (take n bytes) (8 * (n / 8)) 8 → set state (n / 8) v ≡ packed_to ((n + 7) / 8)
-    packed-last l f v e =
-        let all : j ≡ n / 8 = omega (arith, o.bound) in
+    packed-last : j ≡ n / 8 → (n % 8 ≡ 0 → ⊥) → (v : ℕ) → v ≡ bits_from (take (n - 8 * (n / 8)) (drop (8 * (n / 8)) bytes)) 0 8 → set state (n / 8) v ≡ packed_to ((n + 7) / 8)
+    packed-last all f v e =
         let used : suc (n / 8) ≡ (n + 7) / 8 = omega (arith, f) in
         ap (λ s. set s (n / 8) v) (o.is ∙ ap packed_to all)
-        ∙ front-suc (pack (take n bytes)) old (n / 8) v (omega (arith, length-pack (take n bytes), f)) (omega (arith, f)) (e ∙ byte_is (take n bytes) (n / 8) ∙ sym (pack-at (take n bytes) (n / 8) (omega (arith, f))))
+        ∙ front-suc (pack (take n bytes)) old (n / 8) v (omega (arith, length-pack (take n bytes), f)) (omega (arith, f))
+        (e ∙ bits-part bytes (8 * (n / 8)) n 8 ∙ byte_is (take n bytes) (n / 8) ∙ sym (pack-at (take n bytes) (n / 8) (omega (arith, f))))
         ∙ ap packed_to used
 
-    packed_none : n / 8 ≤ j → n % 8 ≡ 0 → state ≡ packed_to ((n + 7) / 8)
-    packed_none l e = let all : j ≡ (n + 7) / 8 = omega (arith, o.bound) in o.is ∙ ap packed_to all
+    packed_none : j ≡ n / 8 → n % 8 ≡ 0 → state ≡ packed_to ((n + 7) / 8)
+    packed_none all e = let end : j ≡ (n + 7) / 8 = omega arith in o.is ∙ ap packed_to end
 
-    pub joined : n / 8 ≤ j → (new : List ℕ) → ((n % 8 ≡ 0 → ⊥) × (v : ℕ) × (v ≡ bits_from (take n bytes) (8 * (n / 8)) 8) × (new ≡ set state (n / 8) v)) ⊎ ((n % 8 ≡ 0) × (new ≡ state)) → new ≡ packed_to ((n + 7) / 8)
-    joined l new (inl (f, v, e, is)) = is ∙ packed-last l f v e
-    joined l new (inr (e, is)) = is ∙ packed_none l e
+    pub joined : j ≡ n / 8 → (new : List ℕ) → ((n % 8 ≡ 0 → ⊥) × (v : ℕ) × (v ≡ bits_from (take (n - 8 * (n / 8)) (drop (8 * (n / 8)) bytes)) 0 8) × (new ≡ set state (n / 8) v)) ⊎ ((n % 8 ≡ 0) × (new ≡ state)) → new ≡ packed_to ((n + 7) / 8)
+    joined all new (inl (f, v, e, is)) = is ∙ packed-last all f v e
+    joined all new (inr (e, is)) = is ∙ packed_none all e
 
-  module _ {state : List ℕ} (is : state ≡ packed_to ((n + 7) / 8)) where
-    pub packed-wide : length state ≡ length old
-    packed-wide =
-        ap length is ∙ length-append (take ((n + 7) / 8) (pack (take n bytes))) (drop ((n + 7) / 8) old)
-        ∙ (let a = length-take-le ((n + 7) / 8) (pack (take n bytes)) (omega (arith, length-pack (take n bytes))) in let b = length-drop ((n + 7) / 8) old in omega arith)
-
-    module _ {new : List ℕ} (e : new ≡ sets state ((n + 7) / 8) (zeros (state_bytes - (n + 7) / 8))) where
-      pub packed-end : new ≡ pack (take n bytes) ++ drop state_bytes old
-      packed-end =
-          let own = length-take-le n bytes long in
-          e
-          ∙ ap (λ s. sets s ((n + 7) / 8) (zeros (state_bytes - (n + 7) / 8))) is
-          ∙ packed-whole (take n bytes) old ((n + 7) / 8) (omega arith) (omega arith) room
-
-      pub packed-kept : length new ≡ length old
-      packed-kept = ap length e ∙ length-sets state ((n + 7) / 8) (zeros (state_bytes - (n + 7) / 8)) ∙ packed-wide
+  pub packed-end : {state : List ℕ} → state ≡ packed_to ((n + 7) / 8) → (z : List ℕ) → z ≡ zeros (state_bytes - (n + 7) / 8) → put_mid ((n + 7) / 8) (state_bytes - (n + 7) / 8) state z ≡ pack (take n bytes) ++ drop state_bytes old
+  packed-end is z e =
+      let own = length-take-le n bytes long in
+      rw (is, e) (packed-whole (take n bytes) old ((n + 7) / 8) (omega arith) (omega arith) room)

@@ -1,14 +1,16 @@
 -- When no bit from n on is 1: by the nodes, and by the bytes.
-use mathlib.Core.Path.{◌≡◌, refl, sym, ap, ap₂, ◌∙◌}
+use mathlib.Core.Path.{◌≡◌, refl, sym, ap, ◌∙◌}
 use mathlib.Core.Bool.{Bool, true, false, not, ◌||◌, cond}
-use mathlib.Core.List.{List}
-use Prim.Native.Nat.{ℕ, ◌+◌, ◌-◌, ◌*◌, ◌/◌, ◌%◌, ◌^◌, ◌≤◌, ◌<◌}
+use mathlib.Core.List.{List, [], ◌∷◌}
+use Prim.Native.Nat.{ℕ, zero, suc, ◌+◌, ◌-◌, ◌*◌, ◌/◌, ◌%◌, ◌^◌, ◌≤◌, ◌<◌}
 use native.Mathlib.Decide.{dec_lt}
 use native.Mathlib.Omega.{arith}
 use lib.Dec.{eqb, eqb→eq}
-use lib.ListN.{get_or}
+use lib.ListN.{get_or, take, drop, length-take, get_or-eq_default}
 use lib.Bits.{bit_or, or_lt}
 use lib.Pow.{shr_le}
+use lib.Seq.{get_or-take, get_or-drop}
+use Rattle.std.specs.List.{fold}
 use Rattle.codes.specs.Codes.{bit}
 use Rattle.codes.specs.Words.{◌∋◌, set_of}
 use Rattle.codes.proofs.Bools.{from_not, to_t, false-not-true, same_test}
@@ -72,13 +74,6 @@ module _ (n : ℕ) (s : List ℕ) where
       go false q =
           byte_clear (w / 2 ^ m) (omega (arith, shr_le w m)) (λ k lk. ∋_shr w m k ∙ bit_of_lem (λ z. false-not-true q (rw z)) k (dec_lt (m + k) 8))
 
-  tail_lt : get_or s (n / 8) 0 < 256 → tail_of n s < 256
-  tail_lt l = go (eqb (n % 8) 0)
-    where
-      go : (b : Bool) → cond b 0 (get_or s (n / 8) 0 / 2 ^ (n % 8)) < 256
-      go true = omega arith
-      go false = omega (arith, shr_le (get_or s (n / 8) 0) (n % 8))
-
   -- by the bytes: that of node n from there on, and all behind it
   all-clear : tail_of n s ≡ 0 → ((j : ℕ) → (n + 7) / 8 ≤ j → j < state_bytes → get_or s j 0 ≡ 0) → is_clear_from n s ≡ true
   all-clear e z = is-clear (λ i lo hi. held-is s i ∙ ap bit (go i lo hi (dec_lt (i / 8) ((n + 7) / 8))))
@@ -99,47 +94,59 @@ module _ (n : ℕ) (s : List ℕ) where
       go i lo hi (yes y) = let same : i / 8 ≡ n / 8 = omega arith in ap (λ j. get_or s j 0 ∋ (i % 8)) same ∙ within i lo same y
       go i lo hi (no y) = ap (λ x. x ∋ (i % 8)) (z (i / 8) (omega arith) (omega arith)) ∙ ∋_none (i % 8)
 
-  -- what is joined of the bytes before j is 0 exactly if these are, and no other state is clear
-  pub record Joined (j bits : ℕ) : Type 0 where
-    pub from : (n + 7) / 8 ≤ j
-    pub bound : j ≤ state_bytes
-    pub small : bits < 256
-    pub tail : bits ≡ 0 → tail_of n s ≡ 0
-    pub bytes : bits ≡ 0 → (i : ℕ) → (n + 7) / 8 ≤ i → i < j → get_or s i 0 ≡ 0
-    pub none : is_clear_from n s ≡ true → bits ≡ 0
+-- bytes joined are 0 exactly where each is
+joined-zero : (xs : List ℕ) → ((i : ℕ) → get_or xs i 0 ≡ 0) → fold bit_or 0 xs ≡ 0
+joined-zero [] z = refl
+joined-zero (x ∷ xs) z = let first : x ≡ 0 = z 0 in rw first (joined-zero xs (λ i. z (suc i)))
 
-  module _ (few : n ≤ max_nodes) (small : (i : ℕ) → get_or s i 0 < 256) where
-    pub joined-begin : Joined ((n + 7) / 8) (tail_of n s)
-    joined-begin =
-        record {
-          from = omega arith;
-          bound = omega arith;
-          small = tail_lt (small (n / 8));
-          tail = λ e. e;
-          bytes = λ e i lo hi. absurd (omega arith);
-          none = λ e. tail-zero e few (small (n / 8));
-        }
+zero-joined : (a : ℕ) (xs : List ℕ) → a < 256 → ((i : ℕ) → get_or xs i 0 < 256) → fold bit_or a xs ≡ 0 → (a ≡ 0) × ((i : ℕ) → get_or xs i 0 ≡ 0)
+zero-joined a [] la small e = (e, λ i. refl)
+zero-joined a (x ∷ xs) la small e =
+    let rest : (bit_or a x ≡ 0) × ((i : ℕ) → get_or xs i 0 ≡ 0) = zero-joined (bit_or a x) xs (or_lt 8 a x la (small 0)) (λ i. small (suc i)) e in
+    let both : (a ≡ 0) × (x ≡ 0) = or-zero a x la (small 0) rest.0 in
+    (both.0, at both.1 rest.1)
+  where
+    at : x ≡ 0 → ((i : ℕ) → get_or xs i 0 ≡ 0) → (i : ℕ) → get_or (x ∷ xs) i 0 ≡ 0
+    at e z zero = e
+    at e z (suc i) = z i
 
-    pub joined-next : {j bits : ℕ} → Joined j bits → j < state_bytes → Joined (j + 1) (bit_or bits (get_or s j 0))
-    joined-next {j} {bits} o h =
-        record {
-          from = omega (arith, o.from);
-          bound = omega arith;
-          small = or_lt 8 bits (get_or s j 0) o.small (small j);
-          tail = λ e. o.tail (both e).0;
-          bytes = λ e i lo hi. go e i lo hi (dec_lt i j);
-          none = λ e. ap₂ bit_or (o.none e) (byte_zero e j (omega (arith, o.from)) h (small j));
-        }
-      where
-        both : bit_or bits (get_or s j 0) ≡ 0 → (bits ≡ 0) × (get_or s j 0 ≡ 0)
-        both = or-zero bits (get_or s j 0) o.small (small j)
+-- the bytes from `used` up to the last of the state
+module _ (s : List ℕ) (used : ℕ) where
+  abbrev behind : List ℕ
+  behind = take (state_bytes - used) (drop used s)
 
-        go : bit_or bits (get_or s j 0) ≡ 0 → (i : ℕ) → (n + 7) / 8 ≤ i → i < j + 1 → Dec (i < j) → get_or s i 0 ≡ 0
-        go e i lo hi (yes y) = o.bytes (both e).0 i lo y
-        go e i lo hi (no y) = let z : i ≡ j = omega arith in rw z (both e).1
+  behind_at : (k : ℕ) → k < state_bytes - used → get_or behind k 0 ≡ get_or s (used + k) 0
+  behind_at k l = get_or-take (state_bytes - used) (drop used s) k 0 l ∙ get_or-drop used s k 0
 
-  pub joined_end : {j bits : ℕ} → Joined j bits → state_bytes ≤ j → eqb bits 0 ≡ is_clear_from n s
-  joined_end {j} {bits} o h =
-      same_test (eqb bits 0) (is_clear_from n s)
-      (λ e. let z : bits ≡ 0 = eqb→eq bits 0 (to_t (eqb bits 0) e) in all-clear (o.tail z) (λ i lo hi. o.bytes z i lo (omega arith)))
-      (λ e. rw (o.none e))
+  behind_past : (k : ℕ) → state_bytes - used ≤ k → get_or behind k 0 ≡ 0
+  behind_past k l = get_or-eq_default behind 0 {n = k} (omega (arith, length-take (state_bytes - used) (drop used s)))
+
+  behind_small : ((i : ℕ) → get_or s i 0 < 256) → (k : ℕ) → get_or behind k 0 < 256
+  behind_small small k = go (dec_lt k (state_bytes - used))
+    where
+      go : Dec (k < state_bytes - used) → get_or behind k 0 < 256
+      go (yes l) = rw (behind_at k l) (small (used + k))
+      go (no l) = let z = behind_past k (omega arith) in omega arith
+
+  behind-zero : ((i : ℕ) → used ≤ i → i < state_bytes → get_or s i 0 ≡ 0) → (k : ℕ) → get_or behind k 0 ≡ 0
+  behind-zero z k = go (dec_lt k (state_bytes - used))
+    where
+      go : Dec (k < state_bytes - used) → get_or behind k 0 ≡ 0
+      go (yes l) = behind_at k l ∙ z (used + k) (omega arith) (omega arith)
+      go (no l) = behind_past k (omega arith)
+
+  zero-behind : ((k : ℕ) → get_or behind k 0 ≡ 0) → (i : ℕ) → used ≤ i → i < state_bytes → get_or s i 0 ≡ 0
+  zero-behind z i lo hi = let at : i ≡ used + (i - used) = omega arith in ap (λ j. get_or s j 0) at ∙ sym (behind_at (i - used) (omega arith)) ∙ z (i - used)
+
+module _ (n : ℕ) (s : List ℕ) (few : n ≤ max_nodes) (small : (i : ℕ) → get_or s i 0 < 256) {t : ℕ} (e : t ≡ tail_of n s) where
+  pub clear-joined : t ≡ 0 → {j : ℕ} → j ≡ fold bit_or 0 (take (state_bytes - (n + 7) / 8) (drop ((n + 7) / 8) s)) → eqb j 0 ≡ is_clear_from n s
+  clear-joined none {j} ej =
+      same_test (eqb j 0) (is_clear_from n s)
+      (λ q. all-clear n s (sym e ∙ none) (zero-behind s ((n + 7) / 8) (zero-joined 0 (behind s ((n + 7) / 8)) (omega arith) (behind_small s ((n + 7) / 8) small) (sym ej ∙ eqb→eq j 0 (to_t (eqb j 0) q))).1))
+      (λ q. let z : j ≡ 0 = ej ∙ joined-zero (behind s ((n + 7) / 8)) (behind-zero s ((n + 7) / 8) (λ i lo hi. byte_zero n s q i (omega arith) hi (small i))) in rw z)
+
+  pub tail-unclear : (t ≡ 0 → ⊥) → eqb t 0 ≡ is_clear_from n s
+  tail-unclear some =
+      same_test (eqb t 0) (is_clear_from n s)
+      (λ q. absurd (some (eqb→eq t 0 (to_t (eqb t 0) q))))
+      (λ q. absurd (some (e ∙ tail-zero n s q few (small (n / 8)))))

@@ -1,12 +1,14 @@
 -- A column of numbers f i, f (i + 1), .., entry by entry.
 use mathlib.Core.Path.{◌≡◌, refl, sym, ap, ap₂, ◌∙◌}
-use mathlib.Core.List.{List, [], ◌∷◌, ◌++◌}
+use mathlib.Core.List.{List, ◌++◌, append_assoc}
 use Prim.Native.Nat.{ℕ, zero, suc, ◌+◌, ◌≤◌, ◌<◌}
 use native.Mathlib.Decide.{dec_lt}
 use native.Mathlib.Omega.{arith}
-use lib.ListN.{length, get_or, set, take, drop, length-append, length-drop, get_or-eq_default}
-use lib.Seq.{sets, sets-eq, ext_get_or, get_or-take, get_or-drop, length-take-le, take_at, take-add, drop-drop, drop-append-add}
-use Rattle.table.proofs.Buffers.{front, sets-append}
+use lib.ListN.{length, get_or, take, drop, length-drop, get_or-eq_default}
+use lib.Seq.{ext_get_or, get_or-take, get_or-drop, length-take-le, take_at, take-add, drop-drop}
+use borrow.Rule.Slice.PartMut.{put_mid}
+use Rattle.std.proofs.lemmas.List.{drop_at}
+use Rattle.table.proofs.Buffers.{front}
 use Rattle.packing.specs.Packing.{column}
 
 module _ (f : ℕ → ℕ) where
@@ -32,30 +34,14 @@ module _ (f : ℕ → ℕ) where
       go (yes h) = column-at i n j h ∙ z (i + j) (omega arith) (omega arith)
       go (no h) = column-past i n j (omega arith)
 
-  pub column_snoc : (i n : ℕ) → column f i (suc n) ≡ column f i n ++ (f (i + n) ∷ [])
-  unfolding column
-  column_snoc i zero = let e : i ≡ i + 0 = omega arith in ap (λ k. f k ∷ []) e
-  column_snoc i (suc n) = let e : suc i + n ≡ i + suc n = omega arith in ap (λ l. f i ∷ l) (column_snoc (suc i) n ∙ ap (λ k. column f (suc i) n ++ (f k ∷ [])) e)
-
-  -- stored one after the other from a on
-  pub column-stored : (l : List ℕ) (a n : ℕ) → set (sets l a (column f 0 n)) (a + n) (f n) ≡ sets l a (column f 0 (suc n))
-  column-stored l a n =
-      let e : 0 + n ≡ n = omega arith in
-      sym
-      (ap (sets l a) (column_snoc 0 n ∙ ap (λ k. column f 0 n ++ (f k ∷ [])) e)
-      ∙ sets-append l a (column f 0 n) (f n ∷ [])
-      ∙ ap (λ k. set (sets l a (column f 0 n)) (a + k) (f n)) (length-column 0 n))
-
--- the first i entries of c, and more of them stored from i on
-pub front-more : (c old : List ℕ) (i m : ℕ) → i + m ≤ length c → i + m ≤ length old → (v : List ℕ) → length v ≡ m → ((k : ℕ) → k < m → get_or v k 0 ≡ get_or c (i + k) 0) → sets (front c old i) i v ≡ front c old (i + m)
+-- the first i entries of c, and the next m of them written over those of `old`
+pub front-more : (c old : List ℕ) (i m : ℕ) → i + m ≤ length c → i + m ≤ length old → (v : List ℕ) → length v ≡ m → ((k : ℕ) → k < m → get_or v k 0 ≡ get_or c (i + k) 0) → put_mid i m (front c old i) v ≡ front c old (i + m)
 front-more c old i m lc lo v long same =
     let wide : length (take i c) ≡ i = length-take-le i c (omega arith) in
     let part : v ≡ take m (drop i c) =
     ext_get_or 0 v (take m (drop i c)) (long ∙ sym (length-take-le m (drop i c) (let z = length-drop i c in omega arith)))
     (λ k lk. let h : k < m = omega arith in same k h ∙ sym (get_or-take m (drop i c) k 0 h ∙ get_or-drop i c k 0)) in
-    let fits : i + length v ≤ length (take i c ++ drop i old) = (let z = length-append (take i c) (drop i old) in let y = length-drop i old in omega arith) in
-    let end : i + length v ≡ length (take i c) + m = omega arith in
-    sets-eq v (take i c ++ drop i old) i fits
-    ∙ ap₂ (λ a b. a ++ v ++ b) (take_at (take i c) (drop i old) i wide) (ap (λ k. drop k (take i c ++ drop i old)) end ∙ drop-append-add (take i c) (drop i old) m ∙ drop-drop m i old)
-    ∙ ap (λ x. take i c ++ x ++ drop (i + m) old) part
+    ap₂ (λ a b. a ++ (v ++ drop m b)) (take_at (take i c) (drop i old) i wide) (drop_at (take i c) (drop i old) i wide)
+    ∙ ap₂ (λ x y. take i c ++ (x ++ y)) part (drop-drop m i old)
+    ∙ sym (append_assoc (take i c) (take m (drop i c)) (drop (i + m) old))
     ∙ ap (λ x. x ++ drop (i + m) old) (sym (take-add i m c))

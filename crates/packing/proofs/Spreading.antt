@@ -1,65 +1,50 @@
 -- The bytes of the nodes as they are made: those of one byte of the state from its lowest bit on, and all from the first on.
-use mathlib.Core.Path.{◌≡◌, refl, sym, ap, ◌∙◌}
-use mathlib.Core.List.{List, ◌++◌}
-use Prim.Native.Nat.{ℕ, suc, ◌+◌, ◌-◌, ◌*◌, ◌/◌, ◌%◌, ◌^◌, ◌≤◌, ◌<◌}
-use native.Mathlib.Nat.{div-one}
+use mathlib.Core.Path.{◌≡◌, sym, ap, ◌∙◌}
+use mathlib.Core.List.{List, [], ◌++◌}
+use Prim.Native.Nat.{ℕ, ◌+◌, ◌*◌, ◌/◌, ◌%◌, ◌^◌, ◌≤◌, ◌<◌}
 use native.Mathlib.Omega.{arith}
-use lib.ListN.{length, get_or, set, take, drop}
+use lib.ListN.{length, get_or, set, take, drop, length-drop}
 use lib.Pow.{shr-shr}
-use lib.Seq.{sets, length-sets, take_all}
+use lib.Seq.{take_all, drop-length, length-take-le}
+use borrow.Rule.Slice.PartMut.{put_mid}
+use Rattle.std.proofs.lemmas.List.{append-nil}
 use Rattle.codes.specs.Words.{◌∋◌}
 use Rattle.codes.proofs.Bits.{bit_test}
 use Rattle.table.proofs.Buffers.{length_front}
 use Rattle.packing.specs.Packing.{bit_of, column, unpack}
-use Rattle.packing.proofs.Columns.{length-column, column-at, column-stored, front-more}
+use Rattle.table.proofs.Filling.{Filling, filling-next, filling-end}
+use Rattle.packing.proofs.Columns.{length-column, column-at, front-more}
 use Rattle.packing.proofs.Bits.{held_at, length-unpack, unpack-at}
 
 -- ---- one byte
-
-column-none : (f : ℕ → ℕ) (l : List ℕ) (a : ℕ) → sets l a (column f 0 0) ≡ l
-unfolding column
-column-none f l a = refl
 
 low_bit : (w k : ℕ) → (w / 2 ^ k) % 2 ≡ bit_of w k
 unfolding ◌∋◌
 low_bit w k = sym (bit_test ((w / 2 ^ k) % 2) (omega arith))
 
 -- the bits before i are stored, and `rest` has those from i on
-pub record Spread (w : ℕ) (old : List ℕ) (first last : ℕ) (now : List ℕ) (rest i : ℕ) : Type 0 where
-  pub low : first ≤ i
-  pub high : i ≤ last
-  pub left : rest ≡ w / 2 ^ (i - first)
-  pub is : now ≡ sets old first (column (bit_of w) 0 (i - first))
+pub record Spread (w : ℕ) (old now : List ℕ) (rest i : ℕ) : Type 0 where
+  pub left : rest ≡ w / 2 ^ i
+  pub is : Filling (column (bit_of w) 0 (length old)) old now (length old) i
 
-module _ (w : ℕ) (old : List ℕ) {first last : ℕ} where
-  pub spread_begin : first ≤ last → Spread w old first last old w first
-  spread_begin le =
-      let none : first - first ≡ 0 = omega arith in
-      record {
-        low = omega arith;
-        high = le;
-        left = sym (ap (λ k. w / 2 ^ k) none ∙ div-one w);
-        is = sym (ap (λ k. sets old first (column (bit_of w) 0 k)) none ∙ column-none (bit_of w) old first);
-      }
+module _ (w : ℕ) (old : List ℕ) where
+  long : length old ≤ length (column (bit_of w) 0 (length old))
+  long = let e = length-column (bit_of w) 0 (length old) in omega arith
 
-  module _ {now : List ℕ} {rest i : ℕ} (o : Spread w old first last now rest i) where
-    pub spread_length : length now ≡ length old
-    spread_length = ap length o.is ∙ length-sets old first (column (bit_of w) 0 (i - first))
-
-    pub spread_next : i < last → Spread w old first last (set now i (rest % 2)) (rest / 2) (i + 1)
+  module _ {now : List ℕ} {rest i : ℕ} (o : Spread w old now rest i) where
+    pub spread_next : i < length old → Spread w old (set now i (rest % 2)) (rest / 2) (i + 1)
     spread_next l =
-        let at : first + (i - first) ≡ i = omega (arith, o.low) in
-        let more : suc (i - first) ≡ i + 1 - first = omega (arith, o.low) in
-        let up : i - first + 1 ≡ i + 1 - first = omega (arith, o.low) in
+        let at : 0 + i ≡ i = omega arith in
         record {
-          low = omega (arith, o.low);
-          high = omega arith;
-          left = ap (λ x. x / 2) o.left ∙ shr-shr w (i - first) 1 ∙ ap (λ k. w / 2 ^ k) up;
-          is = ap (λ x. set now i (x % 2)) o.left ∙ ap (set now i) (low_bit w (i - first)) ∙ ap (λ l. set l i (bit_of w (i - first))) o.is ∙ ap (λ k. set (sets old first (column (bit_of w) 0 (i - first))) k (bit_of w (i - first))) (sym at) ∙ column-stored (bit_of w) old first (i - first) ∙ ap (λ k. sets old first (column (bit_of w) 0 k)) more;
+          left = ap (λ x. x / 2) o.left ∙ shr-shr w i 1;
+          is = filling-next long (omega arith) o.is (rest % 2) l
+              (ap (λ x. x % 2) o.left ∙ low_bit w i ∙ ap (bit_of w) (sym at) ∙ sym (column-at (bit_of w) 0 (length old) i l));
         }
 
-    pub spread_end : last ≤ i → now ≡ sets old first (column (bit_of w) 0 (last - first))
-    spread_end l = let all : i ≡ last = omega (arith, o.high) in o.is ∙ ap (λ k. sets old first (column (bit_of w) 0 (k - first))) all
+    pub spread_end : length old ≤ i → now ≡ column (bit_of w) 0 (length old)
+    spread_end e =
+        let none : drop (length old) old ≡ [] = drop-length old in
+        filling-end long (omega arith) o.is e ∙ rw (none, take_all (length old) (column (bit_of w) 0 (length old)) (omega (arith, length-column (bit_of w) 0 (length old)))) (append-nil (column (bit_of w) 0 (length old)))
 
 -- ---- all nodes
 
@@ -74,7 +59,7 @@ pub record Unpacking (s old : List ℕ) (n : ℕ) (now : List ℕ) (j : ℕ) : T
 
 module _ (s old : List ℕ) {n : ℕ} (room : n ≤ length old) where
   -- the nodes of byte j, or as many of them as there are
-  spread_over : (j m : ℕ) → 8 * j + m ≤ n → m ≤ 8 → sets (unpacked_to s old n (8 * j)) (8 * j) (column (bit_of (get_or s j 0)) 0 m) ≡ unpacked_to s old n (8 * j + m)
+  spread_over : (j m : ℕ) → 8 * j + m ≤ n → m ≤ 8 → put_mid (8 * j) m (unpacked_to s old n (8 * j)) (column (bit_of (get_or s j 0)) 0 m) ≡ unpacked_to s old n (8 * j + m)
   spread_over j m le few =
       front-more (unpack n s) old (8 * j) m (omega (arith, length-unpack n s)) (omega arith) (column (bit_of (get_or s j 0)) 0 m) (length-column (bit_of (get_or s j 0)) 0 m)
       (λ k lk. let e : 0 + k ≡ k = omega arith in
@@ -90,28 +75,20 @@ module _ (s old : List ℕ) {n : ℕ} (room : n ≤ length old) where
     pub unpacked-length : length now ≡ length old
     unpacked-length = ap length o.is ∙ unpacked-wide (8 * j) (omega (arith, o.bound))
 
-    pub unpacked-next : {new : List ℕ} → j < n / 8 → new ≡ sets now (8 * j) (column (bit_of (get_or s j 0)) 0 (8 * j + 8 - 8 * j)) → Unpacking s old n new (j + 1)
-    unpacked-next l e =
-        let eight : 8 * j + 8 - 8 * j ≡ 8 = omega arith in
-        let next : 8 * j + 8 ≡ 8 * (j + 1) = omega arith in
-        record {
-          bound = omega arith;
-          is = e ∙ ap (λ k. sets now (8 * j) (column (bit_of (get_or s j 0)) 0 k)) eight ∙ ap (λ l. sets l (8 * j) (column (bit_of (get_or s j 0)) 0 8)) o.is ∙ spread_over j 8 (omega arith) (omega arith) ∙ ap (unpacked_to s old n) next;
-        }
+    -- k bytes of the nodes are written from the first of byte j on
+    over : (k : ℕ) → 8 * j + k ≤ n → k ≤ 8 → (v : List ℕ) → v ≡ column (bit_of (get_or s j 0)) 0 (length (take k (drop (8 * j) now))) → put_mid (8 * j) k now v ≡ unpacked_to s old n (8 * j + k)
+    over k le few v e =
+        let part : length (take k (drop (8 * j) now)) ≡ k = length-take-le k (drop (8 * j) now) (omega (arith, length-drop (8 * j) now, unpacked-length)) in
+        rw (e, part, o.is) (spread_over j k le few)
+
+    pub unpacked-next : (k : ℕ) → k ≡ 8 → j < n / 8 → (v : List ℕ) → v ≡ column (bit_of (get_or s j 0)) 0 (length (take k (drop (8 * j) now))) → Unpacking s old n (put_mid (8 * j) k now v) (j + 1)
+    unpacked-next k ek l v e =
+        let next : 8 * j + k ≡ 8 * (j + 1) = omega arith in
+        record { bound = omega arith; is = over k (omega arith) (omega arith) v e ∙ ap (unpacked_to s old n) next }
 
     -- what is left of the nodes
-    pub unpacked-last : {new : List ℕ} → n / 8 ≤ j → new ≡ sets now (8 * (n / 8)) (column (bit_of (get_or s (n / 8) 0)) 0 (n - 8 * (n / 8))) → new ≡ unpack n s ++ drop n old
-    unpacked-last l e =
-        let all : j ≡ n / 8 = omega (arith, o.bound) in
-        let end : 8 * (n / 8) + (n - 8 * (n / 8)) ≡ n = omega arith in
-        e
-        ∙ ap (λ x. sets x (8 * (n / 8)) (column (bit_of (get_or s (n / 8) 0)) 0 (n - 8 * (n / 8)))) (o.is ∙ ap (λ k. unpacked_to s old n (8 * k)) all)
-        ∙ spread_over (n / 8) (n - 8 * (n / 8)) (omega arith) (omega arith)
-        ∙ ap (unpacked_to s old n) end
-        ∙ all-unpacked
-
-    pub last-kept : {new : List ℕ} → new ≡ sets now (8 * (n / 8)) (column (bit_of (get_or s (n / 8) 0)) 0 (n - 8 * (n / 8))) → length new ≡ length old
-    last-kept e = ap length e ∙ length-sets now (8 * (n / 8)) (column (bit_of (get_or s (n / 8) 0)) 0 (n - 8 * (n / 8))) ∙ unpacked-length
+    pub unpacked-last : (w k : ℕ) → j ≡ w → w ≡ n / 8 → 8 * w + k ≡ n → (v : List ℕ) → v ≡ column (bit_of (get_or s w 0)) 0 (length (take k (drop (8 * w) now))) → put_mid (8 * w) k now v ≡ unpack n s ++ drop n old
+    unpacked-last w k at all end v e = rw (← at) (over k (omega arith) (omega arith) v (rw at e) ∙ ap (unpacked_to s old n) (rw at end) ∙ all-unpacked)
 
     pub unpacked-end : n / 8 ≤ j → n % 8 ≡ 0 → now ≡ unpack n s ++ drop n old
     unpacked-end l e = let all : 8 * j ≡ n = omega (arith, o.bound) in o.is ∙ ap (unpacked_to s old n) all ∙ all-unpacked

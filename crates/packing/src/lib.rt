@@ -1,7 +1,8 @@
 // A held state as bits (F-11): node i at bit i modulo 8, lowest first, of byte i divided by 8.
 #![tactic(auto)]
 
-ghost use Rattle.std.specs.Prelude.{◌≡◌, ◌++◌, ◌+◌, ◌-◌, ◌*◌, ◌<◌, ◌≤◌, length, drop, take};
+ghost use Rattle.std.specs.Prelude.{◌≡◌, ◌++◌, ◌+◌, ◌-◌, ◌*◌, ◌<◌, ◌≤◌, length, drop, take, bit_or};
+ghost use Rattle.std.specs.List.{fold};
 ghost use Rattle.std.proofs.lemmas.List.Edits.{sets};
 ghost use Rattle.esterel.specs.Limits.{max_nodes};
 ghost use Rattle.esterel.specs.Instant.{zeros};
@@ -10,17 +11,14 @@ ghost use Rattle.packing.specs.Packing.{state_bytes, bit_of, column, bits_from, 
 // The bytes of a held state: a bit for each node that a table can have.
 pub const STATE_BYTES: usize = 128;
 
-// The bits of a byte, lowest first, as the bytes from `first` up to `last`.
-fn spread(byte: u8, bytes: &mut [u8], first: usize, last: usize)
-    requires { (first ≤ last) × (last ≤ length bytes.old) }
-    ensures { bytes.new ≡ sets bytes.old first (column (bit_of byte) 0 (last - first)) }
+// The bits of a byte, lowest first, one in each of the bytes.
+fn spread(byte: u8, bytes: &mut [u8])
+    ensures { bytes.new ≡ column (bit_of byte) 0 (length bytes.old) }
 {
     let mut rest = byte;
-    let mut i = first;
-    while i < last {
-        bytes[i] = rest % 2;
+    for bit in bytes.iter_mut() {
+        *bit = rest % 2;
         rest = rest / 2;
-        i += 1;
     }
 }
 
@@ -30,13 +28,11 @@ pub fn unpack(state: &[u8], bytes: &mut [u8], n: usize)
     ensures { bytes.new ≡ unpack n state.now ++ drop n bytes.old }
 {
     let whole = n / 8;
-    let mut j: usize = 0;
-    while j < whole {
-        spread(state[j], bytes, 8 * j, 8 * j + 8);
-        j += 1;
+    for j in 0..whole {
+        spread(state[j], &mut bytes[8 * j..8 * j + 8]);
     }
     if n % 8 != 0 {
-        spread(state[whole], bytes, 8 * whole, n);
+        spread(state[whole], &mut bytes[8 * whole..n]);
     }
 }
 
@@ -51,45 +47,32 @@ fn tail_of(state: &[u8], n: usize) -> u8
     state[n / 8] >> (n % 8) as u32
 }
 
-// Whether no bit from node n on is 1. The whole bytes are joined without a test at each, so that the compiler takes
-// several at a time.
+// The bits of all bytes, joined. No byte is tested by itself, as `any` would, so that the compiler takes several at a time.
+fn join(bytes: &[u8]) -> u8
+    ensures { result ≡ fold bit_or 0 bytes.now }
+{
+    bytes.iter().fold(0, |bits, byte| bits | *byte)
+}
+
+// Whether no bit from node n on is 1.
 pub fn is_clear_from(state: &[u8], n: usize) -> bool
     requires { (n ≤ max_nodes) × (state_bytes ≤ length state.now) }
     ensures { result ≡ is_clear_from n state.now }
 {
-    let mut bits = tail_of(state, n);
-    let mut j = (n + 7) / 8;
-    while j < STATE_BYTES {
-        bits = bits | state[j];
-        j += 1;
-    }
-    bits == 0
+    let used = (n + 7) / 8;
+    tail_of(state, n) == 0 && join(&state[used..STATE_BYTES]) == 0
 }
 
-// The bits of the nodes from `first` up to `last`, as one byte. From the last node down, so that the first node's bit is the lowest.
-fn byte_of(bytes: &[u8], first: usize, last: usize) -> u8
-    requires { (first ≤ last) × (last ≤ first + 8) × (last ≤ length bytes.now) }
-    ensures { result ≡ bits_from (take last bytes.now) first 8 }
+// The bits of up to 8 nodes as one byte. From the last node down, so that the first node's bit is the lowest.
+fn byte_of(bytes: &[u8]) -> u8
+    requires { length bytes.now ≤ 8 }
+    ensures { result ≡ bits_from bytes.now 0 8 }
 {
-    let mut i = last;
-    let mut byte: u8 = 0;
-    while first < i {
-        i -= 1;
-        byte = 2 * byte + (bytes[i] != 0) as u8;
+    let mut byte = 0;
+    for i in (0..bytes.len()).rev() {
+        byte = 2 * byte + u8::from(bytes[i] != 0);
     }
     byte
-}
-
-// The bytes from `from` up to `to` become 0.
-pub fn clear(bytes: &mut [u8], from: usize, to: usize)
-    requires { (from ≤ to) × (to ≤ length bytes.old) }
-    ensures { bytes.new ≡ sets bytes.old from (zeros (to - from)) }
-{
-    let mut i = from;
-    while i < to {
-        bytes[i] = 0;
-        i += 1;
-    }
 }
 
 // The packed state of n nodes, all 128 bytes of it: the whole bytes, then what is left of the nodes, then zeros.
@@ -98,14 +81,12 @@ pub fn pack(bytes: &[u8], n: usize, state: &mut [u8])
     ensures { state.new ≡ pack (take n bytes.now) ++ drop state_bytes state.old }
 {
     let whole = n / 8;
-    let mut j: usize = 0;
-    while j < whole {
-        state[j] = byte_of(bytes, 8 * j, 8 * j + 8);
-        j += 1;
+    for j in 0..whole {
+        state[j] = byte_of(&bytes[8 * j..8 * j + 8]);
     }
     if n % 8 != 0 {
-        state[whole] = byte_of(bytes, 8 * whole, n);
+        state[whole] = byte_of(&bytes[8 * whole..n]);
     }
     let used = (n + 7) / 8;
-    clear(state, used, STATE_BYTES);
+    state[used..STATE_BYTES].fill(0);
 }

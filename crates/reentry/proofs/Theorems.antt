@@ -29,9 +29,9 @@ use Rattle.packing.specs.Packing.{state_bytes, pack, unpack, admits}
 use Rattle.packing.proofs.Bits.{length-pack, length-unpack}
 use Rattle.packing.proofs.Theorems.{pack-clear, unpack_of, clear_of}
 use Rattle.analysis.proofs.Theorems.{demand2_of_call}
-use Rattle.instant.specs.Calls.{verdict_for, closing, start_call, resume_call, answer_of, state_after, emissions_after, Starting, Resuming}
+use Rattle.instant.specs.Calls.{reacts, verdict_for, closing, start_call, resume_call, answer_of, state_after, emissions_after, Starting, Resuming}
 use Rattle.instant.specs.Theorems.{Lent, Exact}
-use Rattle.instant.specs.declared.Reaction.TheVariants.{Closed, Refused}
+use Rattle.esterel.specs.Refusal.{rejects}
 use Rattle.instant.proofs.Entering.{admitted-small}
 use Rattle.instant.proofs.Theorems.{starts_as, resumes_as, demand3_of_calls}
 use Rattle.reentry.specs.Theorems.{MarksOf, Left, fresh, onward, Marked, NoUnmarkedReentryOfCalls}
@@ -67,17 +67,17 @@ module _ (t : List ℕ) (p : Stmt) where
     lent_as {state} {emissions} (q, l) = let same : q ≡ p = cc (l.accepted, program) in subst (λ w. Lent t w state emissions) same l
 
     module _ (answers : List ℕ) {state emissions state' emissions' : List ℕ} {code taken entries : ℕ} where
-      start-exact : Starting t answers state emissions state' emissions' (Closed code taken entries) → Exact p (start 0 p answers) state' emissions' code taken entries
+      start-exact : Starting t answers state emissions state' emissions' (reacts code taken entries) → Exact p (start 0 p answers) state' emissions' code taken entries
       start-exact o =
           let l = lent_as (demand3_of_calls.start_lent t answers state emissions state' emissions' code taken entries o) in
-          (demand3_of_calls.starts t answers state emissions state' emissions' p (Closed code taken entries) l o).exact code taken entries refl
+          (demand3_of_calls.starts t answers state emissions state' emissions' p (reacts code taken entries) l o).exact code taken entries refl
 
-      resume-exact : Reached p (unpack (size p) state) → take state_bytes state ≡ pack (unpack (size p) state) → Resuming t answers state emissions state' emissions' (Closed code taken entries) → Exact p (resume 0 p (unpack (size p) state) answers) state' emissions' code taken entries
+      resume-exact : Reached p (unpack (size p) state) → take state_bytes state ≡ pack (unpack (size p) state) → Resuming t answers state emissions state' emissions' (reacts code taken entries) → Exact p (resume 0 p (unpack (size p) state) answers) state' emissions' code taken entries
       resume-exact w front o =
           let l = lent_as (demand3_of_calls.resume_lent t answers state emissions state' emissions' code taken entries o) in
           let fits = runs.admits p sound (unpack (size p) state) w in
           let clear = clear_of state (size p) few (unpack (size p) state) (length-unpack (size p) state) front in
-          (demand3_of_calls.resumes t answers state emissions state' emissions' p (Closed code taken entries) l (both clear fits) o).exact code taken entries refl
+          (demand3_of_calls.resumes t answers state emissions state' emissions' p (reacts code taken entries) l (both clear fits) o).exact code taken entries refl
 
     -- what is reached has a byte for each node, 0 or 1
     module _ {held : List ℕ} (w : Reached p held) where
@@ -116,8 +116,8 @@ module _ (t : List ℕ) (p : Stmt) where
           let emissions = zeros signals in
           let l : Lent t p state emissions = record { accepted = program; places = rw length-replicate (le_refl state_bytes); marks = rw length-replicate (le_refl signals) } in
           let call = start_call (verdict_for t (length state) (length emissions)) answers in
-          let is : call ≡ closing (outcome p (closed 1 trail held rest)) = starts_as t answers state emissions state emissions p (Refused 0 0) l ∙ ap (λ x. closing (outcome p x)) e in
-          let o : Starting t answers state emissions (state_after call state) (emissions_after call emissions) (Closed 1 (taken (nodes p) trail) (length trail)) =
+          let is : call ≡ closing (outcome p (closed 1 trail held rest)) = starts_as t answers state emissions state emissions p (rejects 0 0) l ∙ ap (λ x. closing (outcome p x)) e in
+          let o : Starting t answers state emissions (state_after call state) (emissions_after call emissions) (reacts 1 (taken (nodes p) trail) (length trail)) =
           record { answer = sym (ap answer_of is); state_is = refl; emissions_are = refl } in
           subst (Left t) (left_as e (start-exact answers o)) (fresh answers state emissions _ _ _ _ o)
 
@@ -131,8 +131,8 @@ module _ (t : List ℕ) (p : Stmt) where
           let admits' : admits p state ≡ true = both (pack-clear (size p) before (omega (arith, reached-long w))) (ap (admitted p) own ∙ reached-admitted w) in
           let ran : resume 0 p (unpack (size p) state) answers ≡ closed 1 trail held rest = ap (λ s. resume 0 p s answers) own ∙ e in
           let call = resume_call (verdict_for t (length state) (length emissions)) state answers in
-          let is : call ≡ closing (outcome p (closed 1 trail held rest)) = resumes_as t answers state emissions state emissions p (Refused 0 0) l {b = true} admits' ∙ ap (λ x. closing (outcome p x)) ran in
-          let o : Resuming t answers state emissions (state_after call state) (emissions_after call emissions) (Closed 1 (taken (nodes p) trail) (length trail)) =
+          let is : call ≡ closing (outcome p (closed 1 trail held rest)) = resumes_as t answers state emissions state emissions p (rejects 0 0) l {b = true} admits' ∙ ap (λ x. closing (outcome p x)) ran in
+          let o : Resuming t answers state emissions (state_after call state) (emissions_after call emissions) (reacts 1 (taken (nodes p) trail) (length trail)) =
           record { answer = sym (ap answer_of is); state_is = refl; emissions_are = refl } in
           let x = resume-exact answers (subst (Reached p) (sym own) w) (whole ∙ ap pack (sym own)) o in
           subst (Left t) (left_as ran x) (onward answers state emissions _ _ _ _ (subst (Left t) (sym whole) y) o)

@@ -7,11 +7,9 @@ use Rattle.esterel.specs.Checks.{verdict}
 use Rattle.esterel.specs.Instant.{Result, zeros, start, resume}
 use Rattle.esterel.specs.Reentry.{Reached, Happens, Twice, Holding, Started}
 use Rattle.packing.specs.Packing.{state_bytes, pack, unpack}
-use Rattle.analysis.specs.Analysis.{Analysis}
-use Rattle.analysis.specs.declared.Analysed.TheVariants.{Done}
-use Rattle.instant.specs.Calls.{Starting, Resuming}
+use Rattle.analysis.specs.Analysis.{done, Analysis}
+use Rattle.instant.specs.Calls.{reacts, Starting, Resuming}
 use Rattle.instant.specs.Theorems.{Exact}
-use Rattle.instant.specs.declared.Reaction.TheVariants.{Closed}
 
 -- t is the table of the program p, and `marks'` is what `analyse` over it left in the buffer for the marks
 pub record MarksOf (t : List ℕ) (p : Stmt) (marks' : List ℕ) : Type 0 where
@@ -25,18 +23,18 @@ pub record MarksOf (t : List ℕ) (p : Stmt) (marks' : List ℕ) : Type 0 where
   pub nodes : ℕ
   pub depth : ℕ
   pub program : verdict t ≡ passed p
-  pub analysed : Analysis t starts anys contexts marks starts' anys' contexts' marks' (Done nodes depth)
+  pub analysed : Analysis t starts anys contexts marks starts' anys' contexts' marks' (done nodes depth)
 
 -- What a sequence of calls over t leaves in the 128 bytes of state (F-11): a `start`, then any number of `resume`s, each from what the
 -- call before left, and each answers code 1. The answers and the buffers may be others each time.
 pub data Left (t : List ℕ) : List ℕ → Type 0 where
   fresh :
       (answers state emissions state' emissions' : List ℕ) (taken entries : ℕ) →
-      Starting t answers state emissions state' emissions' (Closed 1 taken entries) → Left t (take state_bytes state')
+      Starting t answers state emissions state' emissions' (reacts 1 taken entries) → Left t (take state_bytes state')
   onward :
       (answers state emissions state' emissions' : List ℕ) (taken entries : ℕ) →
       Left t (take state_bytes state) →
-      Resuming t answers state emissions state' emissions' (Closed 1 taken entries) → Left t (take state_bytes state')
+      Resuming t answers state emissions state' emissions' (reacts 1 taken entries) → Left t (take state_bytes state')
 
 -- A closed call is the rules' instant x and an instant of a run, in which `held` is held when it begins; so what `NoUnmarkedReentry` says of
 -- such an instant is said of the call. Whichever node stands at two places of its trail has entry 1 in `marks`, and so has one that is held
@@ -51,13 +49,13 @@ pub record NoUnmarkedReentryOfCalls : Type 0 where
   pub starts :
       (t answers state emissions state' emissions' marks : List ℕ) (p : Stmt) (code taken entries : ℕ) →
       MarksOf t p marks →
-      Starting t answers state emissions state' emissions' (Closed code taken entries) →
+      Starting t answers state emissions state' emissions' (reacts code taken entries) →
       Marked p marks (zeros (size p)) (start 0 p answers) state' emissions' code taken entries
   pub resumes :
       (t answers state emissions state' emissions' marks : List ℕ) (p : Stmt) (code taken entries : ℕ) →
       MarksOf t p marks →
       Left t (take state_bytes state) →
-      Resuming t answers state emissions state' emissions' (Closed code taken entries) →
+      Resuming t answers state emissions state' emissions' (reacts code taken entries) →
       Marked p marks (unpack (size p) state) (resume 0 p (unpack (size p) state) answers) state' emissions' code taken entries
   -- what calls can leave is what a run can reach, packed
   pub same :

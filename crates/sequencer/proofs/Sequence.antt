@@ -1,14 +1,10 @@
 -- What the calls come to on the sequencer's table, evaluated.
 use mathlib.Core.Path.{◌≡◌, refl, sym, ap, ap₂, ◌∙◌}
-use mathlib.Core.Bool.{true, ◌&&◌}
 use mathlib.Core.List.{List, [], ◌∷◌, ◌++◌, append-nil}
 use Prim.Native.Nat.{ℕ, ◌<◌}
 use native.Mathlib.Omega.{arith}
-use borrow.Author.Tests.{eq-eqb}
-use lib.Dec.{eqb}
 use lib.ListN.{length, get_or, drop}
 use lib.Seq.{drop-length}
-use Rattle.codes.proofs.Bools.{both}
 use Rattle.esterel.specs.Codes.{bit}
 use Rattle.esterel.specs.Instant.{zeros}
 use Rattle.esterel.specs.Outcome.{emission_bytes, member}
@@ -16,9 +12,12 @@ use Rattle.codes.specs.Codes.{word_below}
 use Rattle.codes.specs.Words.{◌∋◌}
 use Rattle.packing.specs.Packing.{held_bit, column, unpack, bits_from, byte_of, pack, is_clear_from}
 use Rattle.analysis.specs.Analysis.{checked}
-use Rattle.instant.specs.Calls.{verdict_for, Call, closes, start_call, resume_call, Reacts, Starting, Resuming}
+use Rattle.instant.specs.Calls.{reacts, verdict_for, Call, closes, start_call, resume_call, Reacts, Starting, Resuming}
 use Rattle.instant.specs.declared.Reaction.{Reaction}
-use Rattle.instant.specs.declared.Reaction.TheVariants.{Closed}
+use Rattle.std.specs.Prelude.{Result, Ok}
+use Rattle.esterel.specs.Refusal.{Reply, reply}
+use Rattle.esterel.specs.declared.Refusal.{Refusal}
+use Rattle.esterel.proofs.Replies.{reply-once}
 
 abbrev pub table : List ℕ
 table = 2 ∷ 0 ∷ 3 ∷ 7 ∷ 9 ∷ 0 ∷ 4 ∷ 0 ∷ 1 ∷ 0 ∷ 6 ∷ 3 ∷ 9 ∷ 0 ∷ 8 ∷ 0 ∷ 7 ∷ 5 ∷ 2 ∷ 0 ∷ 3 ∷ 9 ∷ 9 ∷ 0 ∷ 8 ∷ 0 ∷ 10 ∷ 0 ∷ 11 ∷ 0 ∷ []
@@ -51,30 +50,30 @@ whole : (new old : List ℕ) → length old ≡ length new → new ++ drop (leng
 whole new old e = ap (λ n. new ++ drop n old) (sym e) ∙ ap (λ l. new ++ l) (drop-length old) ∙ append-nil new
 
 -- what is known after an instant
-pub record Left (code taken entries : ℕ) (held : List ℕ) (signals state emissions : List ℕ) (r : Reaction) : Type 0 where
-  pub answer : r ≡ Closed code taken entries
+pub record Left (code taken entries : ℕ) (held : List ℕ) (signals state emissions : List ℕ) (r : Reply Reaction) : Type 0 where
+  pub answer : r ≡ reacts code taken entries
   pub state_is : state ≡ held
   pub emissions_are : emissions ≡ marks signals
 
-left : {call : Call} {state emissions state' emissions' : List ℕ} {r : Reaction} (c k e : ℕ) (held signals : List ℕ) → length state ≡ length held → length emissions ≡ length (marks signals) → call ≡ closes c k e held (marks signals) → Reacts call state emissions state' emissions' r → Left c k e held signals state' emissions' r
+left : {call : Call} {state emissions state' emissions' : List ℕ} {r : Reply Reaction} (c k e : ℕ) (held signals : List ℕ) → length state ≡ length held → length emissions ≡ length (marks signals) → call ≡ closes c k e held (marks signals) → Reacts call state emissions state' emissions' r → Left c k e held signals state' emissions' r
 left {state = state} {emissions = emissions} c k e held signals long wide is o =
     let w = rw is at o in
     record { answer = w.answer; state_is = w.state_is ∙ whole held state long; emissions_are = w.emissions_are ∙ whole (marks signals) emissions wide }
 
-pub start_left : (state emissions : List ℕ) {state' emissions' : List ℕ} {r : Reaction} → length state ≡ 128 → length emissions ≡ 256 → Starting table [] state emissions state' emissions' r → Left 1 0 10 at_pauses [] state' emissions' r
+pub start_left : (state emissions : List ℕ) {state' emissions' : List ℕ} {r : Reply Reaction} → length state ≡ 128 → length emissions ≡ 256 → Starting table [] state emissions state' emissions' r → Left 1 0 10 at_pauses [] state' emissions' r
 start_left state emissions long wide o = left 1 0 10 at_pauses [] long wide (rw (long, wide) first) o
 
 -- a resumption at the pause
-pub resume-left : {c k e : ℕ} {signals state emissions state' emissions' : List ℕ} {q r : Reaction} (answers : List ℕ) (c' k' e' : ℕ) (held signals' : List ℕ) → Left c k e at_pauses signals state emissions q → length held ≡ 128 → resume_call (verdict_for table 128 256) at_pauses answers ≡ closes c' k' e' held (marks signals') → Resuming table answers state emissions state' emissions' r → Left c' k' e' held signals' state' emissions' r
+pub resume-left : {c k e : ℕ} {signals state emissions state' emissions' : List ℕ} {q r : Reply Reaction} (answers : List ℕ) (c' k' e' : ℕ) (held signals' : List ℕ) → Left c k e at_pauses signals state emissions q → length held ≡ 128 → resume_call (verdict_for table 128 256) at_pauses answers ≡ closes c' k' e' held (marks signals') → Resuming table answers state emissions state' emissions' r → Left c' k' e' held signals' state' emissions' r
 resume-left {state = state} {emissions = emissions} answers c' k' e' held signals' w long is o =
     let wide : length emissions ≡ 256 = ap length w.emissions_are in
     left c' k' e' held signals' (ap length w.state_is ∙ sym long) wide (ap₂ (λ m s. resume_call (verdict_for table (length s) m) s answers) wide w.state_is ∙ is) o
 
 -- the bytes of signals 7 and 9
-pub marks-at : {c k e : ℕ} {held signals state emissions : List ℕ} {r : Reaction} → Left c k e held signals state emissions r → (9 < length emissions) × (get_or emissions 7 0 ≡ bit (member 7 signals)) × (get_or emissions 9 0 ≡ bit (member 9 signals))
+pub marks-at : {c k e : ℕ} {held signals state emissions : List ℕ} {r : Reply Reaction} → Left c k e held signals state emissions r → (9 < length emissions) × (get_or emissions 7 0 ≡ bit (member 7 signals)) × (get_or emissions 9 0 ≡ bit (member 9 signals))
 marks-at {signals = signals} w =
     rw w.emissions_are (let wide : length (marks signals) ≡ 256 = refl in omega arith, refl, refl)
 
--- the same answer has the same figures
-pub same_figures : {c k e code taken entries : ℕ} {r : Reaction} → r ≡ Closed c k e → r ≡ Closed code taken entries → ((eqb c code && eqb k taken) && eqb e entries) ≡ true
-same_figures {c} {k} {e} {code} {taken} {entries} x y = both (both (eq-eqb c code cc) (eq-eqb k taken cc)) (eq-eqb e entries cc)
+-- an instant that closes answers `Ok`
+pub closed-is : {x : Result Reaction Refusal} {c k e : ℕ} → reply x ≡ reacts c k e → x ≡ Ok (record { code = c; taken = k; entries = e })
+closed-is {x} {c} {k} {e} z = reply-once x (Ok (record { code = c; taken = k; entries = e })) z

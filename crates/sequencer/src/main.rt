@@ -10,22 +10,20 @@
 //       pause; emit 9
 #![tactic(auto)]
 
-ghost use Rattle.std.specs.Prelude.{◌≡◌, true, ◌<◌, length, slice_index};
-ghost use Rattle.instant.specs.declared.Reaction.TheVariants.{Closed};
+ghost use Rattle.std.specs.Prelude.{◌≡◌, ◌<◌, length, slice_index};
 
+use esterel::Refusal;
 use instant::Reaction;
 
-fn is_closed(reaction: Reaction, code: usize, taken: usize, entries: usize) -> bool
-    ensures { reaction ≡ Closed code taken entries → result ≡ true }
+// The answer of an instant that closes.
+fn closed(code: usize, taken: usize, entries: usize) -> Result<Reaction, Refusal>
+    ensures { result ≡ Ok (record { code = code; taken = taken; entries = entries }) }
 {
-    match reaction {
-        Reaction::Closed {
-            code: c,
-            taken: t,
-            entries: e,
-        } => (c == code) & (t == taken) & (e == entries),
-        Reaction::Refused { number: _, node: _ } => false,
-    }
+    Ok(Reaction {
+        code,
+        taken,
+        entries,
+    })
 }
 
 // The state's bytes are these, and those of signals 7 and 9.
@@ -50,18 +48,18 @@ fn main() {
     let mut emissions = [9u8; 256];
     // The first instant reaches both pauses; a suspend asks nothing when it is started.
     let first = instant::start(&table, &[], &mut state, &mut emissions);
-    check::expect(is_closed(first, 1, 0, 10));
+    check::expect(first == closed(1, 0, 10));
     expect_left(&state, &both, &emissions, 0, 0);
     // 5 is present: the first branch is suspended and its pause stays, while the second goes on.
     let second = instant::resume(&table, &[1], &mut state, &mut emissions);
-    check::expect(is_closed(second, 1, 1, 9));
+    check::expect(second == closed(1, 1, 9));
     expect_left(&state, &both, &emissions, 0, 1);
     // 3 is absent: the body emits 7, ends, and is begun again up to its pause.
     let third = instant::resume(&table, &[0, 0], &mut state, &mut emissions);
-    check::expect(is_closed(third, 1, 2, 19));
+    check::expect(third == closed(1, 2, 19));
     expect_left(&state, &both, &emissions, 1, 1);
     // 3 is present: the first branch exits, the second still emits 9, and the trap that catches drops its new pause.
     let fourth = instant::resume(&table, &[0, 1], &mut state, &mut emissions);
-    check::expect(is_closed(fourth, 0, 2, 16));
+    check::expect(fourth == closed(0, 2, 16));
     expect_left(&state, &[0; packing::STATE_BYTES], &emissions, 1, 1);
 }

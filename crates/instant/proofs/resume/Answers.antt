@@ -1,41 +1,44 @@
 -- One law for each return: proofs/Closing.antt.
-use Rattle.std.proofs.Common.{refl, arith}
+use Rattle.std.proofs.Common.{refl, sym, subst, arith}
 use Rattle.esterel.specs.Limits.{max_nodes}
 use Rattle.esterel.specs.Statement.{size}
 use Rattle.esterel.specs.Instant.{zeros}
+use Rattle.esterel.proofs.Replies.{handed}
 use Rattle.esterel.proofs.Sizes.{size_pos}
 use Rattle.table.specs.Program.{program_of}
+use Rattle.instant.specs.Calls.{Resuming}
 use Rattle.instant.proofs.Admits.{front-unpacked}
 use Rattle.instant.proofs.Closing.{resume-refused, nodes-are, not-admitted, root-holding, resume-hands, reacts_as}
 use Rattle.instant.proofs.resume.Goals as goal
 
-pub returns-in_default : goal.returns-in_default
-returns-in_default c =
-    resume-refused c.args.table.now c.args.state.now c.args.emissions.now c.args.answers.now _ _ c.check_call-check.ensures.answer c.in_default.is c.refused.ensures
+pub returns-in_err-check_call : goal.returns-in_err-check_call
+returns-in_err-check_call c =
+    subst (Resuming c.args.table.now c.args.answers.now c.args.state.now c.args.emissions.now c.args.state.now c.args.emissions.now) (sym (handed c.from_residual.result _ c.from_residual.ensures.1))
+    (resume-refused c.args.table.now c.args.state.now c.args.emissions.now c.args.answers.now c.in_err-check_call.ensures.answer)
 
-pub returns-in_default-admitted : goal.returns-in_default-admitted
-returns-in_default-admitted c =
-    let ready = c.check_call-check.ensures.ready c.in-Passed.is in
-    not-admitted ready c.args.answers.now c.args.state.now c.args.emissions.now refl refl c.admit-admitted.ensures.answer _ _ c.in_default-admitted.is c.refused-in_default-admitted.ensures
+pub returns-then-not-admit : goal.returns-then-not-admit
+returns-then-not-admit c =
+    let ready = c.in_ok-check_call.ensures.ready refl in
+    not-admitted ready c.args.answers.now c.args.state.now c.args.emissions.now refl refl c.admit.ensures.answer c.if-not-admit.true
 
 pub resume_at-ran-requires : goal.resume_at-ran-requires
 resume_at-ran-requires c =
-    let ready = c.check_call-check.ensures.ready c.in-Passed.is in
+    let ready = c.in_ok-check_call.ensures.ready refl in
     let nodes = nodes-are ready in
     let some = size_pos (program_of c.args.table.now) in
-    let own = front-unpacked c.args.state.now (zeros max_nodes) (size (program_of c.args.table.now)) c.admit-admitted.ensures.unpacked in (
+    let own = front-unpacked c.args.state.now (zeros max_nodes) (size (program_of c.args.table.now)) c.admit.ensures.unpacked in (
       ready.runnable,
       record { within = omega arith; places = omega (arith, ready.few); marks = omega arith; lent = omega arith },
       root-holding ready c.args.answers.now c.args.state.now c.args.emissions.now refl refl (omega arith) _ (omega (arith, ready.few))
-          c.admit-admitted.ensures.answer c.in-Passed-admitted.is own _ c.admit-admitted.ensures.counted,
+          c.admit.ensures.answer c.if-not-admit.false own _ c.admit.ensures.counted,
     )
 
 pub returns : goal.returns
 returns c =
-    let ready = c.check_call-check.ensures.ready c.in-Passed.is in
+    let ready = c.in_ok-check_call.ensures.ready refl in
     let nodes = nodes-are ready in
-    let own = front-unpacked c.args.state.now (zeros max_nodes) (size (program_of c.args.table.now)) c.admit-admitted.ensures.unpacked in
+    let own = front-unpacked c.args.state.now (zeros max_nodes) (size (program_of c.args.table.now)) c.admit.ensures.unpacked in
     reacts_as
     (resume-hands ready c.args.answers.now c.args.state.now c.args.emissions.now refl refl (omega arith) _ (omega (arith, ready.few))
-    c.admit-admitted.ensures.answer c.in-Passed-admitted.is own c.resume_at-ran.ensures)
+    c.admit.ensures.answer c.if-not-admit.false own c.resume_at-ran.ensures)
     c.hand_over.ensures

@@ -1,10 +1,6 @@
-use Rattle.std.proofs.Common.{◌-◌}
 use Rattle.packing.proofs.Bytes.{Gathered}
 use Rattle.packing.proofs.byte_of.Given as goal
 
 -- the bits of the nodes from `i` on are gathered
 abbrev pub invariant-loop-i : goal.invariant-loop-i
-invariant-loop-i l = Gathered l.bytes l.first l.last l.i l.byte
-
-abbrev pub decreases-loop-i : goal.decreases-loop-i
-decreases-loop-i l = l.i - l.first
+invariant-loop-i l = Gathered l.bytes l.i l.byte

@@ -1,10 +1,6 @@
-use Rattle.std.proofs.Common.{◌-◌}
 use Rattle.packing.proofs.Spreading.{Spread}
 use Rattle.packing.proofs.spread.Given as goal
 
--- the bits before `i` are stored, and `rest` has those from `i` on
-abbrev pub invariant-loop-i : goal.invariant-loop-i
-invariant-loop-i l = Spread l.byte l.fn.bytes l.first l.last l.bytes l.rest l.i
-
-abbrev pub decreases-loop-i : goal.decreases-loop-i
-decreases-loop-i l = l.last - l.i
+-- the bits before that at `bit-index` are stored, and `rest` has the others
+abbrev pub invariant-loop-bit : goal.invariant-loop-bit
+invariant-loop-bit l = Spread l.byte l.fn.bytes l.bytes l.rest l.bit-index

@@ -1,13 +1,14 @@
 -- The nodes of the whole bytes are unpacked one byte after the other, then the last: proofs/Spreading.antt.
+use Rattle.std.proofs.Common.{refl, arith}
 use Rattle.packing.proofs.Spreading.{unpacked-next, unpacked-last, unpacked-end}
 use Rattle.packing.proofs.unpack.Goals as goal
 
 pub loop-j-preserved : goal.loop-j-preserved
-loop-j-preserved c = unpacked-next c.args.state.now c.args.bytes.now c.requires.1 c.loop-j.invariant c.loop-j-test.true c.spread.ensures
+loop-j-preserved c = unpacked-next c.args.state.now c.args.bytes.now c.requires.1 c.loop-j.invariant _ (omega arith) c.loop-j-test.true _ c.spread.ensures
 
 pub returns-then-n-ne0 : goal.returns-then-n-ne0
 returns-then-n-ne0 c =
-    unpacked-last c.args.state.now c.args.bytes.now c.requires.1 c.loop-j.invariant c.loop-j-test.false c.spread-then-n-ne0.ensures
+    unpacked-last c.args.state.now c.args.bytes.now c.requires.1 c.loop-j.invariant _ _ (omega arith) refl (omega arith) _ c.spread-then-n-ne0.ensures
 
 pub returns-else-n-ne0 : goal.returns-else-n-ne0
 returns-else-n-ne0 c =

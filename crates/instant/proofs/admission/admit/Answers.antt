@@ -18,20 +18,20 @@ count_held-requires c =
     let room = c.requires.1 in
     (unpacked-long c.args.state.now c.args.held.now (length c.args.table.now / 2) c.unpack.ensures, omega (arith, room.listed), omega (arith, room.few))
 
-pub returns-then-not-is_clear_from : goal.returns-then-not-is_clear_from
-returns-then-not-is_clear_from c =
+pub returns-else-is_clear_from : goal.returns-else-is_clear_from
+returns-else-is_clear_from c =
     let nodes = table-length c.args.table.now c.requires.0.readable in
     admitting_strays (program_of c.args.table.now) c.args.state.now c.args.held.now (omega arith) c.unpack.ensures c.count_held.ensures
-    c.is_clear_from.ensures c.if-not-is_clear_from.true
+    c.is_clear_from.ensures c.if-is_clear_from.false
 
-pub check_state-requires : goal.check_state-requires
-check_state-requires c =
+pub check_nodes-requires : goal.check_nodes-requires
+check_nodes-requires c =
     let nodes = table-length c.args.table.now c.requires.0.readable in
     let long = unpacked-long c.args.state.now c.args.held.now (length c.args.table.now / 2) c.unpack.ensures in
     (c.requires.0, omega arith, subst (Counted _ _) (omega arith) c.count_held.ensures)
 
-pub returns : goal.returns
-returns c =
+pub returns-then-is_clear_from : goal.returns-then-is_clear_from
+returns-then-is_clear_from c =
     let nodes = table-length c.args.table.now c.requires.0.readable in
     admitting_by (program_of c.args.table.now) c.args.state.now c.args.held.now (omega arith) c.unpack.ensures c.count_held.ensures
-    c.is_clear_from.ensures c.if-not-is_clear_from.false c.check_state.ensures
+    c.is_clear_from.ensures c.if-is_clear_from.true c.check_nodes.ensures

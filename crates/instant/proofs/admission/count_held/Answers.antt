@@ -7,4 +7,4 @@ use Rattle.instant.proofs.admission.count_held.Goals as goal
 pub loop-i-preserved : goal.loop-i-preserved
 loop-i-preserved c =
     let room = length-set c.args.counts.now 0 0 in
-    counting_next (omega arith) c.loop-i.invariant c.loop-i-test.true c.requires.0 c.one_if-count.ensures
+    counting_next (omega arith) c.loop-i.invariant c.loop-i-test.true c.requires.0 c.from-count.ensures

@@ -1,10 +1,14 @@
 -- One law for each call and each return: proofs/Resumes.antt.
-use Rattle.std.proofs.Common.{◌-◌, refl, sym, ap₂, ◌∙◌, ◌&&◌, arith}
+use Rattle.std.proofs.Common.{◌-◌, Some, refl, sym, ap, ◌∙◌, arith}
+use Rattle.std.proofs.lemmas.Bool.{false≢true}
+use Rattle.table.specs.declared.Kind.TheVariants.{Loop, Sequence}
+use Rattle.table.proofs.Comparing.{same-is}
 use Rattle.table.proofs.Views.{in_table, in_place, has_last, size_le, first_le}
 use Rattle.instant.proofs.Returns.{few-entries}
-use Rattle.instant.proofs.Resumes.{few_resumed, test_call, leaf-returns, asked-returns, child_call, child-returns, body_call, loop-returns}
-use Rattle.instant.proofs.Resumes.{right_call, right_returns, left_call, done-returns, start_call_lem, sequence-returns, second_call, parallel-returns}
+use Rattle.instant.proofs.Resumes.{few_resumed, test_call, leaf-returns, ask-starves, asked-returns, child_call, child-starves, child-returns, body_call, loop-returns}
+use Rattle.instant.proofs.Resumes.{right_call, right_returns, left_call, first-starves, stops-returns, start_call_lem, sequence-returns, alone-returns, second_call, parallel-returns}
 use Rattle.instant.proofs.run.+resume_at.Goals as goal
+use Rattle.instant.proofs.run.+resume_at.Goals.{else-eq-via-then-eq+else-inner-eq0, else-eq-via-else-eq}
 
 pub kind_at-kind-requires : goal.kind_at-kind-requires
 kind_at-kind-requires t c =
@@ -18,25 +22,37 @@ pub overflow_sub-last : goal.overflow_sub-last
 overflow_sub-last t c =
     has_last c.requires.0.measured c.requires.1.within c.kind_at-kind.ensures c.arity-children.ensures c.if-children-eq0.false
 
-pub returns-then-not-has_ended : goal.returns-then-not-has_ended
-returns-then-not-has_ended t c =
-    asked-returns c.requires.0 c.requires.1 c.requires.2 c.kind_at-kind.ensures c.arity-children.ensures c.size_at-size.ensures c.if-children-eq1.true c.ask-asked.ensures (sym c.has_ended.ensures ∙ c.if-not-has_ended.true)
+pub returns-in_err-asked : goal.returns-in_err-asked
+returns-in_err-asked t c =
+    rw c.from_residual.ensures (ask-starves c.requires.0 c.requires.1 c.requires.2 c.kind_at-kind.ensures c.arity-children.ensures c.size_at-size.ensures c.if-children-eq1.true c.in_err-asked.ensures)
 
-pub resume_at-inner-requires : goal.resume_at-inner-requires
-resume_at-inner-requires t c =
-    (omega (arith, has_last c.requires.0.measured c.requires.1.within c.kind_at-kind.ensures c.arity-children.ensures c.if-children-eq0.false), child_call c.requires.0 c.requires.1 c.requires.2 c.kind_at-kind.ensures c.arity-children.ensures c.size_at-size.ensures c.if-children-eq1.true c.ask-asked.ensures (sym c.has_ended.ensures ∙ c.if-not-has_ended.false) c.taken_after-from.ensures)
+pub returns-then-asked-ne0 : goal.returns-then-asked-ne0
+returns-then-asked-ne0 t c =
+    asked-returns c.requires.0 c.requires.1 c.requires.2 c.kind_at-kind.ensures c.arity-children.ensures c.size_at-size.ensures c.if-children-eq1.true c.in_ok-asked.ensures c.if-asked-ne0.true
 
-pub start_at-again-requires : goal.start_at-again-requires
-start_at-again-requires t c =
-    body_call c.requires.0 c.requires.1 c.requires.2 c.kind_at-kind.ensures c.arity-children.ensures c.size_at-size.ensures c.if-children-eq1.true c.ask-asked.ensures (sym c.has_ended.ensures ∙ c.if-not-has_ended.false) c.taken_after-from.ensures c.resume_at-inner.ensures (sym (ap₂ ◌&&◌ c.is_loop.ensures c.has_ended-then-children-eq1.ensures) ∙ c.if-is_loop-has_ended.true) c.taken_after-after.ensures
+pub resume_at-requires : goal.resume_at-requires
+resume_at-requires t c =
+    (omega (arith, has_last c.requires.0.measured c.requires.1.within c.kind_at-kind.ensures c.arity-children.ensures c.if-children-eq0.false), child_call c.requires.0 c.requires.1 c.requires.2 c.kind_at-kind.ensures c.arity-children.ensures c.size_at-size.ensures c.if-children-eq1.true c.in_ok-asked.ensures c.if-asked-ne0.false)
+
+pub returns-in_err-inner : goal.returns-in_err-inner
+returns-in_err-inner t c =
+    rw c.from_residual-in_err-inner.ensures (child-starves c.requires.0 c.requires.1 c.requires.2 c.kind_at-kind.ensures c.arity-children.ensures c.size_at-size.ensures c.if-children-eq1.true c.in_ok-asked.ensures c.if-asked-ne0.false c.in_err-inner.ensures)
+
+pub start_at-requires : goal.start_at-requires
+start_at-requires t c =
+    body_call c.requires.0 c.requires.1 c.requires.2 c.kind_at-kind.ensures c.arity-children.ensures c.size_at-size.ensures c.if-children-eq1.true c.in_ok-asked.ensures c.if-asked-ne0.false c.in_ok-inner.ensures (sym (same-is _ Loop) ∙ sym c.eq.ensures ∙ c.if-eq.true) c.if-inner-eq0.true
+
+pub returns-in_err-again : goal.returns-in_err-again
+returns-in_err-again t c =
+    rw c.from_residual-in_err-again.ensures (loop-returns c.requires.0 c.requires.1 c.requires.2 c.kind_at-kind.ensures c.arity-children.ensures c.size_at-size.ensures c.if-children-eq1.true c.in_ok-asked.ensures c.if-asked-ne0.false c.in_ok-inner.ensures (sym (same-is _ Loop) ∙ sym c.eq.ensures ∙ c.if-eq.true) c.if-inner-eq0.true c.in_err-again.ensures refl)
 
 pub join-requires : goal.join-requires
 join-requires t c =
-    omega (arith, few_resumed (c.args.node - 1) c.taken_after-from.result c.requires.0 (omega (arith, c.requires.1.within)) (child_call c.requires.0 c.requires.1 c.requires.2 c.kind_at-kind.ensures c.arity-children.ensures c.size_at-size.ensures c.if-children-eq1.true c.ask-asked.ensures (sym c.has_ended.ensures ∙ c.if-not-has_ended.false) c.taken_after-from.ensures).2 c.resume_at-inner.ensures, few-entries (c.args.node - 1) c.taken_after-after.result c.requires.0 (omega (arith, c.requires.1.within)) c.start_at-again.ensures)
+    omega (arith, few_resumed (c.args.node - 1) c.in_ok-asked.asked.taken c.requires.0 (omega (arith, c.requires.1.within)) (child_call c.requires.0 c.requires.1 c.requires.2 c.kind_at-kind.ensures c.arity-children.ensures c.size_at-size.ensures c.if-children-eq1.true c.in_ok-asked.ensures c.if-asked-ne0.false).2 c.in_ok-inner.ensures, few-entries (c.args.node - 1) c.in_ok-inner.inner.taken c.requires.0 (omega (arith, c.requires.1.within)) c.in_ok-again.ensures)
 
-pub returns-then-is_loop-has_ended : goal.returns-then-is_loop-has_ended
-returns-then-is_loop-has_ended t c =
-    loop-returns c.requires.0 c.requires.1 c.requires.2 c.kind_at-kind.ensures c.arity-children.ensures c.size_at-size.ensures c.if-children-eq1.true c.ask-asked.ensures (sym c.has_ended.ensures ∙ c.if-not-has_ended.false) c.taken_after-from.ensures c.resume_at-inner.ensures (sym (ap₂ ◌&&◌ c.is_loop.ensures c.has_ended-then-children-eq1.ensures) ∙ c.if-is_loop-has_ended.true) c.taken_after-after.ensures c.start_at-again.ensures c.join.ensures
+pub returns-then-inner-eq0 : goal.returns-then-inner-eq0
+returns-then-inner-eq0 t c =
+    loop-returns c.requires.0 c.requires.1 c.requires.2 c.kind_at-kind.ensures c.arity-children.ensures c.size_at-size.ensures c.if-children-eq1.true c.in_ok-asked.ensures c.if-asked-ne0.false c.in_ok-inner.ensures (sym (same-is _ Loop) ∙ sym c.eq.ensures ∙ c.if-eq.true) c.if-inner-eq0.true c.in_ok-again.ensures (ap Some c.join.ensures)
 
 pub overflow_sub-node : goal.overflow_sub-node
 overflow_sub-node t c =
@@ -44,11 +60,11 @@ overflow_sub-node t c =
 
 pub leave-requires : goal.leave-requires
 leave-requires t c =
-    (omega (arith, few_resumed (c.args.node - 1) c.taken_after-from.result c.requires.0 (omega (arith, c.requires.1.within)) (child_call c.requires.0 c.requires.1 c.requires.2 c.kind_at-kind.ensures c.arity-children.ensures c.size_at-size.ensures c.if-children-eq1.true c.ask-asked.ensures (sym c.has_ended.ensures ∙ c.if-not-has_ended.false) c.taken_after-from.ensures).2 c.resume_at-inner.ensures), omega arith, omega (arith, in_place c.requires.0.measured c.requires.1.within, c.resume_at-inner.array_long))
+    (omega (arith, few_resumed (c.args.node - 1) c.in_ok-asked.asked.taken c.requires.0 (omega (arith, c.requires.1.within)) (child_call c.requires.0 c.requires.1 c.requires.2 c.kind_at-kind.ensures c.arity-children.ensures c.size_at-size.ensures c.if-children-eq1.true c.in_ok-asked.ensures c.if-asked-ne0.false).2 c.in_ok-inner.ensures), omega arith, omega (arith, in_place c.requires.0.measured c.requires.1.within, c.resume_at.array_long))
 
 pub returns-then-children-eq1 : goal.returns-then-children-eq1
 returns-then-children-eq1 t c =
-    child-returns c.requires.0 c.requires.1 c.requires.2 c.kind_at-kind.ensures c.arity-children.ensures c.size_at-size.ensures c.if-children-eq1.true c.ask-asked.ensures (sym c.has_ended.ensures ∙ c.if-not-has_ended.false) c.taken_after-from.ensures c.resume_at-inner.ensures (sym (ap₂ ◌&&◌ c.is_loop.ensures c.has_ended-then-children-eq1.ensures) ∙ c.if-is_loop-has_ended.false) c.leave.ensures
+    child-returns c.requires.0 c.requires.1 c.requires.2 c.kind_at-kind.ensures c.arity-children.ensures c.size_at-size.ensures c.if-children-eq1.true c.in_ok-asked.ensures c.if-asked-ne0.false c.in_ok-inner.ensures (λ lo. elim c.else-eq.branch [ else-eq-via-then-eq+else-inner-eq0 w ↦ w.if-inner-eq0.false | else-eq-via-else-eq w ↦ absurd (false≢true (sym w.if-eq.false ∙ c.eq.ensures ∙ same-is _ Loop ∙ lo)) ]) c.leave.ensures
 
 pub overflow_sub-first : goal.overflow_sub-first
 overflow_sub-first t c =
@@ -58,54 +74,78 @@ pub holds_beneath-requires : goal.holds_beneath-requires
 holds_beneath-requires t c =
     test_call c.requires.0 c.requires.1 c.requires.2 (c.args.node - 1 - c.size_at-size.result) (omega arith)
 
-pub resume_at-inner-requires-then-not-holds_beneath : goal.resume_at-inner-requires-then-not-holds_beneath
-resume_at-inner-requires-then-not-holds_beneath t c =
+pub resume_at-requires-then-not-holds_beneath : goal.resume_at-requires-then-not-holds_beneath
+resume_at-requires-then-not-holds_beneath t c =
     (omega (arith, has_last c.requires.0.measured c.requires.1.within c.kind_at-kind.ensures c.arity-children.ensures c.if-children-eq0.false), right_call c.requires.0 c.requires.1 c.requires.2 c.kind_at-kind.ensures c.arity-children.ensures c.size_at-size.ensures c.if-children-eq0.false c.if-children-eq1.false c.holds_beneath.ensures c.if-not-holds_beneath.true)
+
+pub returns-in_err-inner-2 : goal.returns-in_err-inner-2
+returns-in_err-inner-2 t c =
+    rw c.from_residual-in_err-inner-2.ensures (right_returns c.requires.0 c.requires.1 c.requires.2 c.kind_at-kind.ensures c.arity-children.ensures c.size_at-size.ensures c.if-children-eq0.false c.if-children-eq1.false c.holds_beneath.ensures c.if-not-holds_beneath.true c.in_err-inner-2.ensures refl)
 
 pub one_more-requires : goal.one_more-requires
 one_more-requires t c =
-    omega (arith, few_resumed (c.args.node - 1) c.args.taken c.requires.0 (omega (arith, c.requires.1.within)) (right_call c.requires.0 c.requires.1 c.requires.2 c.kind_at-kind.ensures c.arity-children.ensures c.size_at-size.ensures c.if-children-eq0.false c.if-children-eq1.false c.holds_beneath.ensures c.if-not-holds_beneath.true).2 c.resume_at-inner-then-not-holds_beneath.ensures)
+    omega (arith, few_resumed (c.args.node - 1) c.args.taken c.requires.0 (omega (arith, c.requires.1.within)) (right_call c.requires.0 c.requires.1 c.requires.2 c.kind_at-kind.ensures c.arity-children.ensures c.size_at-size.ensures c.if-children-eq0.false c.if-children-eq1.false c.holds_beneath.ensures c.if-not-holds_beneath.true).2 c.in_ok-inner-2.ensures)
 
 pub returns-then-not-holds_beneath : goal.returns-then-not-holds_beneath
 returns-then-not-holds_beneath t c =
-    right_returns c.requires.0 c.requires.1 c.requires.2 c.kind_at-kind.ensures c.arity-children.ensures c.size_at-size.ensures c.if-children-eq0.false c.if-children-eq1.false c.holds_beneath.ensures c.if-not-holds_beneath.true c.resume_at-inner-then-not-holds_beneath.ensures c.one_more.ensures
+    right_returns c.requires.0 c.requires.1 c.requires.2 c.kind_at-kind.ensures c.arity-children.ensures c.size_at-size.ensures c.if-children-eq0.false c.if-children-eq1.false c.holds_beneath.ensures c.if-not-holds_beneath.true c.in_ok-inner-2.ensures (ap Some c.one_more.ensures)
 
-pub resume_at-left-requires : goal.resume_at-left-requires
-resume_at-left-requires t c =
+pub resume_at-requires-2 : goal.resume_at-requires-2
+resume_at-requires-2 t c =
     (omega (arith, has_last c.requires.0.measured c.requires.1.within c.kind_at-kind.ensures c.arity-children.ensures c.if-children-eq0.false), left_call c.requires.0 c.requires.1 c.requires.2 c.kind_at-kind.ensures c.arity-children.ensures c.size_at-size.ensures c.if-children-eq0.false c.if-children-eq1.false c.holds_beneath.ensures c.if-not-holds_beneath.false)
+
+pub returns-in_err-left : goal.returns-in_err-left
+returns-in_err-left t c =
+    rw c.from_residual-in_err-left.ensures (first-starves c.requires.0 c.requires.1 c.requires.2 c.kind_at-kind.ensures c.arity-children.ensures c.size_at-size.ensures c.if-children-eq0.false c.if-children-eq1.false c.holds_beneath.ensures c.if-not-holds_beneath.false c.in_err-left.ensures)
+
+pub one_more-requires-then-left-ne0 : goal.one_more-requires-then-left-ne0
+one_more-requires-then-left-ne0 t c =
+    omega (arith, few_resumed (c.args.node - 1 - c.size_at-size.result) c.args.taken c.requires.0 (omega (arith, c.requires.1.within)) (left_call c.requires.0 c.requires.1 c.requires.2 c.kind_at-kind.ensures c.arity-children.ensures c.size_at-size.ensures c.if-children-eq0.false c.if-children-eq1.false c.holds_beneath.ensures c.if-not-holds_beneath.false).2 c.in_ok-left.ensures)
+
+pub returns-then-left-ne0 : goal.returns-then-left-ne0
+returns-then-left-ne0 t c =
+    stops-returns c.requires.0 c.requires.1 c.requires.2 c.kind_at-kind.ensures c.arity-children.ensures c.size_at-size.ensures c.if-children-eq0.false c.if-children-eq1.false c.holds_beneath.ensures c.if-not-holds_beneath.false c.in_ok-left.ensures (sym (same-is _ Sequence) ∙ sym c.eq-2.ensures ∙ c.if-eq-2.true) c.if-left-ne0.true c.one_more-then-left-ne0.ensures
+
+pub start_at-requires-then-eq-2 : goal.start_at-requires-then-eq-2
+start_at-requires-then-eq-2 t c =
+    start_call_lem c.requires.0 c.requires.1 c.requires.2 c.kind_at-kind.ensures c.arity-children.ensures c.size_at-size.ensures c.if-children-eq0.false c.if-children-eq1.false c.holds_beneath.ensures c.if-not-holds_beneath.false c.in_ok-left.ensures (sym (same-is _ Sequence) ∙ sym c.eq-2.ensures ∙ c.if-eq-2.true)
+
+pub returns-in_err-right : goal.returns-in_err-right
+returns-in_err-right t c =
+    rw c.from_residual-in_err-right.ensures (sequence-returns c.requires.0 c.requires.1 c.requires.2 c.kind_at-kind.ensures c.arity-children.ensures c.size_at-size.ensures c.if-children-eq0.false c.if-children-eq1.false c.holds_beneath.ensures c.if-not-holds_beneath.false c.in_ok-left.ensures (sym (same-is _ Sequence) ∙ sym c.eq-2.ensures ∙ c.if-eq-2.true) c.if-left-ne0.false c.in_err-right.ensures refl)
+
+pub join-requires-then-eq-2 : goal.join-requires-then-eq-2
+join-requires-then-eq-2 t c =
+    omega (arith, few_resumed (c.args.node - 1 - c.size_at-size.result) c.args.taken c.requires.0 (omega (arith, c.requires.1.within)) (left_call c.requires.0 c.requires.1 c.requires.2 c.kind_at-kind.ensures c.arity-children.ensures c.size_at-size.ensures c.if-children-eq0.false c.if-children-eq1.false c.holds_beneath.ensures c.if-not-holds_beneath.false).2 c.in_ok-left.ensures, few-entries (c.args.node - 1) c.in_ok-left.left.taken c.requires.0 (omega (arith, c.requires.1.within)) c.in_ok-right.ensures)
+
+pub returns-then-eq-2 : goal.returns-then-eq-2
+returns-then-eq-2 t c =
+    sequence-returns c.requires.0 c.requires.1 c.requires.2 c.kind_at-kind.ensures c.arity-children.ensures c.size_at-size.ensures c.if-children-eq0.false c.if-children-eq1.false c.holds_beneath.ensures c.if-not-holds_beneath.false c.in_ok-left.ensures (sym (same-is _ Sequence) ∙ sym c.eq-2.ensures ∙ c.if-eq-2.true) c.if-left-ne0.false c.in_ok-right.ensures (ap Some c.join-then-eq-2.ensures)
 
 pub holds_beneath-requires-2 : goal.holds_beneath-requires-2
 holds_beneath-requires-2 t c =
     test_call c.requires.0 c.requires.1 c.requires.2 (c.args.node - 1) (omega arith)
 
-pub one_more-requires-then-done_after : goal.one_more-requires-then-done_after
-one_more-requires-then-done_after t c =
-    omega (arith, few_resumed (c.args.node - 1 - c.size_at-size.result) c.args.taken c.requires.0 (omega (arith, c.requires.1.within)) (left_call c.requires.0 c.requires.1 c.requires.2 c.kind_at-kind.ensures c.arity-children.ensures c.size_at-size.ensures c.if-children-eq0.false c.if-children-eq1.false c.holds_beneath.ensures c.if-not-holds_beneath.false).2 c.resume_at-left.ensures)
+pub one_more-requires-then-not-holds_beneath-2 : goal.one_more-requires-then-not-holds_beneath-2
+one_more-requires-then-not-holds_beneath-2 t c =
+    omega (arith, few_resumed (c.args.node - 1 - c.size_at-size.result) c.args.taken c.requires.0 (omega (arith, c.requires.1.within)) (left_call c.requires.0 c.requires.1 c.requires.2 c.kind_at-kind.ensures c.arity-children.ensures c.size_at-size.ensures c.if-children-eq0.false c.if-children-eq1.false c.holds_beneath.ensures c.if-not-holds_beneath.false).2 c.in_ok-left.ensures)
 
-pub returns-then-done_after : goal.returns-then-done_after
-returns-then-done_after t c =
-    done-returns c.requires.0 c.requires.1 c.requires.2 c.kind_at-kind.ensures c.arity-children.ensures c.size_at-size.ensures c.if-children-eq0.false c.if-children-eq1.false c.holds_beneath.ensures c.if-not-holds_beneath.false c.resume_at-left.ensures c.holds_beneath-2.ensures (sym c.done_after.ensures ∙ c.if-done_after.true) c.one_more-then-done_after.ensures
+pub returns-then-not-holds_beneath-2 : goal.returns-then-not-holds_beneath-2
+returns-then-not-holds_beneath-2 t c =
+    alone-returns c.requires.0 c.requires.1 c.requires.2 c.kind_at-kind.ensures c.arity-children.ensures c.size_at-size.ensures c.if-children-eq0.false c.if-children-eq1.false c.holds_beneath.ensures c.if-not-holds_beneath.false c.in_ok-left.ensures (sym (same-is _ Sequence) ∙ sym c.eq-2.ensures ∙ c.if-eq-2.false) c.holds_beneath-2.ensures c.if-not-holds_beneath-2.true c.one_more-then-not-holds_beneath-2.ensures
 
-pub start_at-right-requires : goal.start_at-right-requires
-start_at-right-requires t c =
-    start_call_lem c.requires.0 c.requires.1 c.requires.2 c.kind_at-kind.ensures c.arity-children.ensures c.size_at-size.ensures c.if-children-eq0.false c.if-children-eq1.false c.holds_beneath.ensures c.if-not-holds_beneath.false c.resume_at-left.ensures c.holds_beneath-2.ensures (sym c.done_after.ensures ∙ c.if-done_after.false) c.taken_after-after-2.ensures (sym c.is_sequence.ensures ∙ c.if-is_sequence.true)
+pub resume_at-requires-3 : goal.resume_at-requires-3
+resume_at-requires-3 t c =
+    (omega (arith, has_last c.requires.0.measured c.requires.1.within c.kind_at-kind.ensures c.arity-children.ensures c.if-children-eq0.false), second_call c.requires.0 c.requires.1 c.requires.2 c.kind_at-kind.ensures c.arity-children.ensures c.size_at-size.ensures c.if-children-eq0.false c.if-children-eq1.false c.holds_beneath.ensures c.if-not-holds_beneath.false c.in_ok-left.ensures (sym (same-is _ Sequence) ∙ sym c.eq-2.ensures ∙ c.if-eq-2.false) c.holds_beneath-2.ensures c.if-not-holds_beneath-2.false)
 
-pub join-requires-then-is_sequence : goal.join-requires-then-is_sequence
-join-requires-then-is_sequence t c =
-    omega (arith, few_resumed (c.args.node - 1 - c.size_at-size.result) c.args.taken c.requires.0 (omega (arith, c.requires.1.within)) (left_call c.requires.0 c.requires.1 c.requires.2 c.kind_at-kind.ensures c.arity-children.ensures c.size_at-size.ensures c.if-children-eq0.false c.if-children-eq1.false c.holds_beneath.ensures c.if-not-holds_beneath.false).2 c.resume_at-left.ensures, few-entries (c.args.node - 1) c.taken_after-after-2.result c.requires.0 (omega (arith, c.requires.1.within)) c.start_at-right.ensures)
-
-pub returns-then-is_sequence : goal.returns-then-is_sequence
-returns-then-is_sequence t c =
-    sequence-returns c.requires.0 c.requires.1 c.requires.2 c.kind_at-kind.ensures c.arity-children.ensures c.size_at-size.ensures c.if-children-eq0.false c.if-children-eq1.false c.holds_beneath.ensures c.if-not-holds_beneath.false c.resume_at-left.ensures c.holds_beneath-2.ensures (sym c.done_after.ensures ∙ c.if-done_after.false) c.taken_after-after-2.ensures (sym c.is_sequence.ensures ∙ c.if-is_sequence.true) c.start_at-right.ensures c.join-then-is_sequence.ensures
-
-pub resume_at-right-requires : goal.resume_at-right-requires
-resume_at-right-requires t c =
-    (omega (arith, has_last c.requires.0.measured c.requires.1.within c.kind_at-kind.ensures c.arity-children.ensures c.if-children-eq0.false), second_call c.requires.0 c.requires.1 c.requires.2 c.kind_at-kind.ensures c.arity-children.ensures c.size_at-size.ensures c.if-children-eq0.false c.if-children-eq1.false c.holds_beneath.ensures c.if-not-holds_beneath.false c.resume_at-left.ensures c.holds_beneath-2.ensures (sym c.done_after.ensures ∙ c.if-done_after.false) c.taken_after-after-2.ensures (sym c.is_sequence.ensures ∙ c.if-is_sequence.false))
+pub returns-in_err-right-2 : goal.returns-in_err-right-2
+returns-in_err-right-2 t c =
+    rw c.from_residual-in_err-right-2.ensures (parallel-returns c.requires.0 c.requires.1 c.requires.2 c.kind_at-kind.ensures c.arity-children.ensures c.size_at-size.ensures c.if-children-eq0.false c.if-children-eq1.false c.holds_beneath.ensures c.if-not-holds_beneath.false c.in_ok-left.ensures (sym (same-is _ Sequence) ∙ sym c.eq-2.ensures ∙ c.if-eq-2.false) c.holds_beneath-2.ensures c.if-not-holds_beneath-2.false c.in_err-right-2.ensures refl)
 
 pub join-requires-2 : goal.join-requires-2
 join-requires-2 t c =
-    omega (arith, few_resumed (c.args.node - 1 - c.size_at-size.result) c.args.taken c.requires.0 (omega (arith, c.requires.1.within)) (left_call c.requires.0 c.requires.1 c.requires.2 c.kind_at-kind.ensures c.arity-children.ensures c.size_at-size.ensures c.if-children-eq0.false c.if-children-eq1.false c.holds_beneath.ensures c.if-not-holds_beneath.false).2 c.resume_at-left.ensures, few_resumed (c.args.node - 1) c.taken_after-after-2.result c.requires.0 (omega (arith, c.requires.1.within)) (second_call c.requires.0 c.requires.1 c.requires.2 c.kind_at-kind.ensures c.arity-children.ensures c.size_at-size.ensures c.if-children-eq0.false c.if-children-eq1.false c.holds_beneath.ensures c.if-not-holds_beneath.false c.resume_at-left.ensures c.holds_beneath-2.ensures (sym c.done_after.ensures ∙ c.if-done_after.false) c.taken_after-after-2.ensures (sym c.is_sequence.ensures ∙ c.if-is_sequence.false)).2 c.resume_at-right.ensures)
+    omega (arith, few_resumed (c.args.node - 1 - c.size_at-size.result) c.args.taken c.requires.0 (omega (arith, c.requires.1.within)) (left_call c.requires.0 c.requires.1 c.requires.2 c.kind_at-kind.ensures c.arity-children.ensures c.size_at-size.ensures c.if-children-eq0.false c.if-children-eq1.false c.holds_beneath.ensures c.if-not-holds_beneath.false).2 c.in_ok-left.ensures, few_resumed (c.args.node - 1) c.in_ok-left.left.taken c.requires.0 (omega (arith, c.requires.1.within)) (second_call c.requires.0 c.requires.1 c.requires.2 c.kind_at-kind.ensures c.arity-children.ensures c.size_at-size.ensures c.if-children-eq0.false c.if-children-eq1.false c.holds_beneath.ensures c.if-not-holds_beneath.false c.in_ok-left.ensures (sym (same-is _ Sequence) ∙ sym c.eq-2.ensures ∙ c.if-eq-2.false) c.holds_beneath-2.ensures c.if-not-holds_beneath-2.false).2 c.in_ok-right-2.ensures)
 
 pub returns : goal.returns
 returns t c =
-    parallel-returns c.requires.0 c.requires.1 c.requires.2 c.kind_at-kind.ensures c.arity-children.ensures c.size_at-size.ensures c.if-children-eq0.false c.if-children-eq1.false c.holds_beneath.ensures c.if-not-holds_beneath.false c.resume_at-left.ensures c.holds_beneath-2.ensures (sym c.done_after.ensures ∙ c.if-done_after.false) c.taken_after-after-2.ensures (sym c.is_sequence.ensures ∙ c.if-is_sequence.false) c.resume_at-right.ensures c.join-2.ensures
+    parallel-returns c.requires.0 c.requires.1 c.requires.2 c.kind_at-kind.ensures c.arity-children.ensures c.size_at-size.ensures c.if-children-eq0.false c.if-children-eq1.false c.holds_beneath.ensures c.if-not-holds_beneath.false c.in_ok-left.ensures (sym (same-is _ Sequence) ∙ sym c.eq-2.ensures ∙ c.if-eq-2.false) c.holds_beneath-2.ensures c.if-not-holds_beneath-2.false c.in_ok-right-2.ensures (ap Some c.join-2.ensures)

@@ -1,9 +1,13 @@
 -- One law for each call and each return: proofs/Returns.antt.
-use Rattle.std.proofs.Common.{◌+◌, ◌-◌, sym, ◌∙◌, arith}
+use Rattle.std.proofs.Common.{◌+◌, ◌-◌, Some, refl, sym, ap, ◌∙◌, arith}
+use Rattle.std.proofs.lemmas.Bool.{false≢true}
+use Rattle.table.specs.declared.Kind.TheVariants.{Present, Sequence}
+use Rattle.table.proofs.Comparing.{same-is}
 use Rattle.table.proofs.Views.{in_table, in_place, has_last, size_le, first_le}
-use Rattle.instant.proofs.Returns.{few-entries, leaf-returns, child_call, child-returns}
-use Rattle.instant.proofs.Returns.{first_call, present-starves, branch_lt, branch_call, present-returns, done-returns, second_call, joined-returns}
+use Rattle.instant.proofs.Returns.{few-entries, leaf-returns, child_call, child-returns, child-starves}
+use Rattle.instant.proofs.Returns.{first_call, present-starves, branch_lt, branch_call, present-returns, first-starves, second_call, stops-returns, joined-returns}
 use Rattle.instant.proofs.run.+start_at.Goals as goal
+use Rattle.instant.proofs.run.+start_at.Goals.{else-eq-2-via-then-eq-2+else-left-ne0, else-eq-2-via-else-eq-2}
 
 pub kind_at-kind-requires : goal.kind_at-kind-requires
 kind_at-kind-requires t c =
@@ -21,9 +25,13 @@ pub overflow_sub-last : goal.overflow_sub-last
 overflow_sub-last t c =
     has_last c.requires.0.measured c.requires.1.within c.kind_at-kind.ensures c.arity-children.ensures c.if-children-eq0.false
 
-pub start_at-inner-requires : goal.start_at-inner-requires
-start_at-inner-requires t c =
+pub start_at-requires : goal.start_at-requires
+start_at-requires t c =
     (omega (arith, has_last c.requires.0.measured c.requires.1.within c.kind_at-kind.ensures c.arity-children.ensures c.if-children-eq0.false), child_call c.requires.0 c.requires.1 c.requires.2 c.kind_at-kind.ensures c.arity-children.ensures c.size_at-size.ensures c.if-children-eq1.true)
+
+pub returns-in_err-inner : goal.returns-in_err-inner
+returns-in_err-inner t c =
+    rw c.from_residual.ensures (child-starves c.requires.0 c.requires.1 c.requires.2 c.kind_at-kind.ensures c.arity-children.ensures c.size_at-size.ensures c.if-children-eq1.true c.in_err-inner.ensures)
 
 pub overflow_sub-node : goal.overflow_sub-node
 overflow_sub-node t c =
@@ -31,52 +39,64 @@ overflow_sub-node t c =
 
 pub leave-requires : goal.leave-requires
 leave-requires t c =
-    (omega (arith, few-entries (c.args.node - 1) c.args.taken c.requires.0 (omega (arith, c.requires.1.within)) c.start_at-inner.ensures), omega arith, omega (arith, in_place c.requires.0.measured c.requires.1.within, c.start_at-inner.array_long))
+    (omega (arith, few-entries (c.args.node - 1) c.args.taken c.requires.0 (omega (arith, c.requires.1.within)) c.in_ok-inner.ensures), omega arith, omega (arith, in_place c.requires.0.measured c.requires.1.within, c.start_at.array_long))
 
 pub returns-then-children-eq1 : goal.returns-then-children-eq1
 returns-then-children-eq1 t c =
-    child-returns c.requires.0 c.requires.1 c.requires.2 c.kind_at-kind.ensures c.arity-children.ensures c.size_at-size.ensures c.if-children-eq1.true c.start_at-inner.ensures c.leave.ensures
+    child-returns c.requires.0 c.requires.1 c.requires.2 c.kind_at-kind.ensures c.arity-children.ensures c.size_at-size.ensures c.if-children-eq1.true c.in_ok-inner.ensures c.leave.ensures
 
 pub overflow_sub-first : goal.overflow_sub-first
 overflow_sub-first t c =
     first_le c.requires.0.measured c.requires.1.within c.kind_at-kind.ensures c.arity-children.ensures c.size_at-size.ensures c.if-children-eq0.false c.if-children-eq1.false
 
-pub returns-then-answers-taken : goal.returns-then-answers-taken
-returns-then-answers-taken t c =
-    present-starves c.requires.0 c.requires.1 c.requires.2 c.kind_at-kind.ensures c.arity-children.ensures c.size_at-size.ensures c.if-children-eq0.false c.if-children-eq1.false (sym c.is_present.ensures ∙ c.if-is_present.true) (omega arith)
+pub returns-in_err-answer : goal.returns-in_err-answer
+returns-in_err-answer t c =
+    rw c.from_residual-in_err-answer.ensures (present-starves c.requires.0 c.requires.1 c.requires.2 c.kind_at-kind.ensures c.arity-children.ensures c.size_at-size.ensures c.if-children-eq0.false c.if-children-eq1.false (sym (same-is _ Present) ∙ sym c.eq.ensures ∙ c.if-eq.true) c.in_err-answer.ensures)
 
-pub start_at-inner-requires-then-is_present : goal.start_at-inner-requires-then-is_present
-start_at-inner-requires-then-is_present t c =
-    (omega (arith, branch_lt c.requires.0 c.requires.1 c.requires.2 c.kind_at-kind.ensures c.arity-children.ensures c.size_at-size.ensures c.if-children-eq0.false c.if-children-eq1.false (sym c.is_present.ensures ∙ c.if-is_present.true) (omega arith) c.branch-chosen.ensures), branch_call c.requires.0 c.requires.1 c.requires.2 c.kind_at-kind.ensures c.arity-children.ensures c.size_at-size.ensures c.if-children-eq0.false c.if-children-eq1.false (sym c.is_present.ensures ∙ c.if-is_present.true) (omega arith) c.branch-chosen.ensures)
+pub start_at-requires-then-eq : goal.start_at-requires-then-eq
+start_at-requires-then-eq t c =
+    (omega (arith, branch_lt c.requires.0 c.requires.1 c.requires.2 c.kind_at-kind.ensures c.arity-children.ensures c.size_at-size.ensures c.if-children-eq0.false c.if-children-eq1.false (sym (same-is _ Present) ∙ sym c.eq.ensures ∙ c.if-eq.true) c.in_ok-answer.ensures c.branch-chosen.ensures), branch_call c.requires.0 c.requires.1 c.requires.2 c.kind_at-kind.ensures c.arity-children.ensures c.size_at-size.ensures c.if-children-eq0.false c.if-children-eq1.false (sym (same-is _ Present) ∙ sym c.eq.ensures ∙ c.if-eq.true) c.in_ok-answer.ensures c.branch-chosen.ensures)
+
+pub returns-in_err-inner-2 : goal.returns-in_err-inner-2
+returns-in_err-inner-2 t c =
+    rw c.from_residual-in_err-inner-2.ensures (present-returns c.requires.0 c.requires.1 c.requires.2 c.kind_at-kind.ensures c.arity-children.ensures c.size_at-size.ensures c.if-children-eq0.false c.if-children-eq1.false (sym (same-is _ Present) ∙ sym c.eq.ensures ∙ c.if-eq.true) c.in_ok-answer.ensures c.branch-chosen.ensures c.in_err-inner-2.ensures refl)
 
 pub one_more-requires : goal.one_more-requires
 one_more-requires t c =
-    omega (arith, few-entries c.branch-chosen.result (c.args.taken + 1) c.requires.0 (omega (arith, c.requires.1.within, branch_lt c.requires.0 c.requires.1 c.requires.2 c.kind_at-kind.ensures c.arity-children.ensures c.size_at-size.ensures c.if-children-eq0.false c.if-children-eq1.false (sym c.is_present.ensures ∙ c.if-is_present.true) (omega arith) c.branch-chosen.ensures)) c.start_at-inner-then-is_present.ensures)
+    omega (arith, few-entries c.branch-chosen.result (c.args.taken + 1) c.requires.0 (omega (arith, c.requires.1.within, branch_lt c.requires.0 c.requires.1 c.requires.2 c.kind_at-kind.ensures c.arity-children.ensures c.size_at-size.ensures c.if-children-eq0.false c.if-children-eq1.false (sym (same-is _ Present) ∙ sym c.eq.ensures ∙ c.if-eq.true) c.in_ok-answer.ensures c.branch-chosen.ensures)) c.in_ok-inner-2.ensures)
 
-pub returns-then-is_present : goal.returns-then-is_present
-returns-then-is_present t c =
-    present-returns c.requires.0 c.requires.1 c.requires.2 c.kind_at-kind.ensures c.arity-children.ensures c.size_at-size.ensures c.if-children-eq0.false c.if-children-eq1.false (sym c.is_present.ensures ∙ c.if-is_present.true) (omega arith) c.branch-chosen.ensures c.start_at-inner-then-is_present.ensures c.one_more.ensures
+pub returns-then-eq : goal.returns-then-eq
+returns-then-eq t c =
+    present-returns c.requires.0 c.requires.1 c.requires.2 c.kind_at-kind.ensures c.arity-children.ensures c.size_at-size.ensures c.if-children-eq0.false c.if-children-eq1.false (sym (same-is _ Present) ∙ sym c.eq.ensures ∙ c.if-eq.true) c.in_ok-answer.ensures c.branch-chosen.ensures c.in_ok-inner-2.ensures (ap Some c.one_more.ensures)
 
-pub start_at-left-requires : goal.start_at-left-requires
-start_at-left-requires t c =
+pub start_at-requires-2 : goal.start_at-requires-2
+start_at-requires-2 t c =
     (omega (arith, has_last c.requires.0.measured c.requires.1.within c.kind_at-kind.ensures c.arity-children.ensures c.if-children-eq0.false), first_call c.requires.0 c.requires.1 c.requires.2 c.kind_at-kind.ensures c.arity-children.ensures c.size_at-size.ensures c.if-children-eq0.false c.if-children-eq1.false)
 
-pub one_more-requires-then-done_after : goal.one_more-requires-then-done_after
-one_more-requires-then-done_after t c =
-    omega (arith, few-entries (c.args.node - 1 - c.size_at-size.result) c.args.taken c.requires.0 (omega (arith, c.requires.1.within)) c.start_at-left.ensures)
+pub returns-in_err-left : goal.returns-in_err-left
+returns-in_err-left t c =
+    rw c.from_residual-in_err-left.ensures (first-starves c.requires.0 c.requires.1 c.requires.2 c.kind_at-kind.ensures c.arity-children.ensures c.size_at-size.ensures c.if-children-eq0.false c.if-children-eq1.false (sym (same-is _ Present) ∙ sym c.eq.ensures ∙ c.if-eq.false) c.in_err-left.ensures)
 
-pub returns-then-done_after : goal.returns-then-done_after
-returns-then-done_after t c =
-    done-returns c.requires.0 c.requires.1 c.requires.2 c.kind_at-kind.ensures c.arity-children.ensures c.size_at-size.ensures c.if-children-eq0.false c.if-children-eq1.false (sym c.is_present.ensures ∙ c.if-is_present.false) c.start_at-left.ensures (sym c.done_after.ensures ∙ c.if-done_after.true) c.one_more-then-done_after.ensures
+pub one_more-requires-then-left-ne0 : goal.one_more-requires-then-left-ne0
+one_more-requires-then-left-ne0 t c =
+    omega (arith, few-entries (c.args.node - 1 - c.size_at-size.result) c.args.taken c.requires.0 (omega (arith, c.requires.1.within)) c.in_ok-left.ensures)
 
-pub start_at-right-requires : goal.start_at-right-requires
-start_at-right-requires t c =
-    (omega (arith, has_last c.requires.0.measured c.requires.1.within c.kind_at-kind.ensures c.arity-children.ensures c.if-children-eq0.false), second_call c.requires.0 c.requires.1 c.requires.2 c.kind_at-kind.ensures c.arity-children.ensures c.size_at-size.ensures c.if-children-eq0.false c.if-children-eq1.false (sym c.is_present.ensures ∙ c.if-is_present.false) c.start_at-left.ensures (sym c.done_after.ensures ∙ c.if-done_after.false) c.taken_after-after.ensures)
+pub returns-then-left-ne0 : goal.returns-then-left-ne0
+returns-then-left-ne0 t c =
+    stops-returns c.requires.0 c.requires.1 c.requires.2 c.kind_at-kind.ensures c.arity-children.ensures c.size_at-size.ensures c.if-children-eq0.false c.if-children-eq1.false (sym (same-is _ Present) ∙ sym c.eq.ensures ∙ c.if-eq.false) c.in_ok-left.ensures (sym (same-is _ Sequence) ∙ sym c.eq-2.ensures ∙ c.if-eq-2.true) c.if-left-ne0.true c.one_more-then-left-ne0.ensures
+
+pub start_at-requires-3 : goal.start_at-requires-3
+start_at-requires-3 t c =
+    (omega (arith, has_last c.requires.0.measured c.requires.1.within c.kind_at-kind.ensures c.arity-children.ensures c.if-children-eq0.false), second_call c.requires.0 c.requires.1 c.requires.2 c.kind_at-kind.ensures c.arity-children.ensures c.size_at-size.ensures c.if-children-eq0.false c.if-children-eq1.false (sym (same-is _ Present) ∙ sym c.eq.ensures ∙ c.if-eq.false) c.in_ok-left.ensures)
+
+pub returns-in_err-right : goal.returns-in_err-right
+returns-in_err-right t c =
+    rw c.from_residual-in_err-right.ensures (joined-returns c.requires.0 c.requires.1 c.requires.2 c.kind_at-kind.ensures c.arity-children.ensures c.size_at-size.ensures c.if-children-eq0.false c.if-children-eq1.false (sym (same-is _ Present) ∙ sym c.eq.ensures ∙ c.if-eq.false) c.in_ok-left.ensures (λ q. elim c.else-eq-2.branch [ else-eq-2-via-then-eq-2+else-left-ne0 w ↦ w.if-left-ne0.false | else-eq-2-via-else-eq-2 w ↦ absurd (false≢true (sym w.if-eq-2.false ∙ c.eq-2.ensures ∙ same-is _ Sequence ∙ q)) ]) c.in_err-right.ensures refl)
 
 pub join-requires : goal.join-requires
 join-requires t c =
-    omega (arith, few-entries (c.args.node - 1 - c.size_at-size.result) c.args.taken c.requires.0 (omega (arith, c.requires.1.within)) c.start_at-left.ensures, few-entries (c.args.node - 1) c.taken_after-after.result c.requires.0 (omega (arith, c.requires.1.within)) c.start_at-right.ensures)
+    omega (arith, few-entries (c.args.node - 1 - c.size_at-size.result) c.args.taken c.requires.0 (omega (arith, c.requires.1.within)) c.in_ok-left.ensures, few-entries (c.args.node - 1) c.in_ok-left.left.taken c.requires.0 (omega (arith, c.requires.1.within)) c.in_ok-right.ensures)
 
 pub returns : goal.returns
 returns t c =
-    joined-returns c.requires.0 c.requires.1 c.requires.2 c.kind_at-kind.ensures c.arity-children.ensures c.size_at-size.ensures c.if-children-eq0.false c.if-children-eq1.false (sym c.is_present.ensures ∙ c.if-is_present.false) c.start_at-left.ensures (sym c.done_after.ensures ∙ c.if-done_after.false) c.taken_after-after.ensures c.start_at-right.ensures c.join.ensures
+    joined-returns c.requires.0 c.requires.1 c.requires.2 c.kind_at-kind.ensures c.arity-children.ensures c.size_at-size.ensures c.if-children-eq0.false c.if-children-eq1.false (sym (same-is _ Present) ∙ sym c.eq.ensures ∙ c.if-eq.false) c.in_ok-left.ensures (λ q. elim c.else-eq-2.branch [ else-eq-2-via-then-eq-2+else-left-ne0 w ↦ w.if-left-ne0.false | else-eq-2-via-else-eq-2 w ↦ absurd (false≢true (sym w.if-eq-2.false ∙ c.eq-2.ensures ∙ same-is _ Sequence ∙ q)) ]) c.in_ok-right.ensures (ap Some c.join.ensures)
