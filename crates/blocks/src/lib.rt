@@ -272,7 +272,8 @@ fn newest(file: &[u8], good: &[bool; MAX_BLOCKS], program: u16) -> Option<Editio
     best
 }
 
-// Copies some bytes to the front of others that have room for them; how many they are.
+// Copies some bytes to the front of others that have room for them; how many they are. No plainer in `join` itself: the library's copy speaks of
+// two parts of one length, and this contract of what stays behind the bytes.
 fn copy(from: &[u8], to: &mut [u8]) -> usize
     requires { length from.now ≤ length to.old }
     ensures { (result ≡ length from.now) × (to.new ≡ from.now ++ drop (length from.now) to.old) }

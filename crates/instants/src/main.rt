@@ -2,6 +2,7 @@
 // answer is written as a line, with both buffers as they are after the call. The expected output comes from compare/.
 #![tactic(auto)]
 
+use esterel::Refusal;
 use input::LARGE_BUFFER;
 use instant::Reaction;
 use std::io;
@@ -16,7 +17,7 @@ fn react(
     answers: &[u8],
     state: &mut [u8],
     emissions: &mut [u8],
-) -> Reaction {
+) -> Result<Reaction, Refusal> {
     if call == 0 {
         instant::start(table, answers, state, emissions)
     } else {
@@ -37,14 +38,16 @@ fn write_emissions<W: Write>(writer: &mut W, bytes: &[u8], first: u8) -> io::Res
     Ok(())
 }
 
-fn write_answer<W: Write>(writer: &mut W, reaction: Reaction) -> io::Result<()> {
-    match reaction {
-        Reaction::Closed {
-            code,
-            taken,
-            entries,
-        } => write!(writer, "closed {code} {taken} {entries}"),
-        Reaction::Refused { number, node } => output::write_refusal(writer, number, node),
+fn write_answer<W: Write>(writer: &mut W, answer: Result<Reaction, Refusal>) -> io::Result<()> {
+    match answer {
+        Ok(
+            Reaction {
+                code,
+                taken,
+                entries,
+            },
+        ) => write!(writer, "closed {code} {taken} {entries}"),
+        Err(refusal) => output::write_refusal(writer, refusal),
     }
 }
 
@@ -62,8 +65,8 @@ fn run_call<R: Read, W: Write>(
     input::read_full(reader, answers)?;
     input::read_full(reader, state)?;
     output::fill(emissions, head[9]);
-    let reaction = react(head[0], table, answers, state, emissions);
-    write_answer(writer, reaction)?;
+    let answer = react(head[0], table, answers, state, emissions);
+    write_answer(writer, answer)?;
     output::write_hex(writer, state)?;
     write_emissions(writer, emissions, head[9])?;
     writeln!(writer)

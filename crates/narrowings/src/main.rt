@@ -5,7 +5,6 @@
 use input::LARGE_BUFFER;
 use std::io;
 use std::io::{Read, Write};
-use tied::Narrowed;
 
 // The bytes of the head of a case, and the most sets that are lent.
 const HEAD: usize = 6;
@@ -53,14 +52,13 @@ fn run_case<R: Read, W: Write>(
     input::read_full(reader, table)?;
     input::read_full(reader, ties)?;
     fill(sets);
-    let narrowed = tied::narrow(table, ties, sets);
-    match narrowed {
-        Narrowed::Done { nodes } => {
+    match tied::narrow(table, ties, sets) {
+        Ok(nodes) => {
             write_done(writer, sets, nodes)?;
             end_line(writer, sets, nodes)
         }
-        Narrowed::Refused { number, node } => {
-            output::write_refusal(writer, number, node)?;
+        Err(refusal) => {
+            output::write_refusal(writer, refusal)?;
             end_line(writer, sets, 0)
         }
     }

@@ -4,6 +4,7 @@
 
 ghost use Rattle.std.specs.Prelude.{◌<◌};
 
+use esterel::Refusal;
 use std::io;
 use std::io::Write;
 use std::process::ExitCode;
@@ -59,8 +60,8 @@ pub fn write_hex<W: Write>(writer: &mut W, bytes: &[u8]) -> io::Result<()> {
 }
 
 // The word and the two figures of a refusal.
-pub fn write_refusal<W: Write>(writer: &mut W, number: u8, node: usize) -> io::Result<()> {
-    write!(writer, "refused {number} {node}")
+pub fn write_refusal<W: Write>(writer: &mut W, refusal: Refusal) -> io::Result<()> {
+    write!(writer, "refused {} {}", refusal.check as u8, refusal.node)
 }
 
 // Says on standard error what could not be done, and the system's reason, and answers the status that the program ends with.

@@ -2,6 +2,8 @@
 // compare/src/bin/partitions.rs says. Each answer is written as a line. The expected output comes from compare/.
 #![tactic(auto)]
 
+ghost use Rattle.std.specs.Prelude.{◌≤◌, length};
+
 use blocks::Fetched;
 use input::LARGE_BUFFER;
 use std::io;
@@ -13,9 +15,10 @@ const CALL: usize = 8;
 const HEAD: usize = 4;
 
 // The end of a line: whether the lent bytes from a place on are as they were.
-fn end_line<W: Write>(writer: &mut W, table: &[u8], at: usize, first: u8) -> io::Result<()> {
-    let rest = table.get(at..).unwrap_or(&[]);
-    let same = output::is_filled(rest, first.wrapping_add((at % 256) as u8));
+fn end_line<W: Write>(writer: &mut W, table: &[u8], at: usize, first: u8) -> io::Result<()>
+    requires { at ≤ length table.now }
+{
+    let same = output::is_filled(&table[at..], first.wrapping_add((at % 256) as u8));
     writeln!(writer, " {}", if same { "=" } else { "changed" })
 }
 
@@ -28,19 +31,20 @@ fn run_fetch<W: Write>(
     table: &mut [u8],
 ) -> io::Result<()> {
     output::fill(table, first);
-    let fetched = blocks::fetch(file, program, table);
-    match fetched {
-        Fetched::Done {
-            length,
-            edition,
-            parts,
-        } => {
+    match blocks::fetch(file, program, table) {
+        Ok(
+            Fetched {
+                length,
+                edition,
+                parts,
+            },
+        ) => {
             write!(writer, "done {length} {edition} {parts}")?;
-            output::write_hex(writer, table.get(..length).unwrap_or(&[]))?;
+            output::write_hex(writer, &table[..length])?;
             end_line(writer, table, length, first)
         }
-        Fetched::Refused { number, node } => {
-            output::write_refusal(writer, number, node)?;
+        Err(refusal) => {
+            output::write_refusal(writer, refusal)?;
             end_line(writer, table, 0, first)
         }
     }

@@ -3,7 +3,6 @@
 #![tactic(auto)]
 
 use input::LARGE_BUFFER;
-use question::Asked;
 use std::io;
 use std::io::{Read, Write};
 
@@ -19,11 +18,10 @@ fn run_case<R: Read, W: Write>(
     code: usize,
 ) -> io::Result<()> {
     input::read_full(reader, table)?;
-    let asked = question::ask(table, node, code);
-    match asked {
-        Asked::Known { answer, count } => writeln!(writer, "known {} {count}", answer as u8),
-        Asked::Refused { number, node: at } => {
-            output::write_refusal(writer, number, at)?;
+    match question::ask(table, node, code) {
+        Ok(asked) => writeln!(writer, "known {} {}", asked.answer as u8, asked.count),
+        Err(refusal) => {
+            output::write_refusal(writer, refusal)?;
             writeln!(writer)
         }
     }

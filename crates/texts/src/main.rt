@@ -11,22 +11,17 @@ use text::Reading;
 // Writes what a text is read as.
 fn read_one<W: Write>(writer: &mut W, text: &[u8]) -> io::Result<()> {
     let mut table = [0u8; 2 * esterel::MAX_NODES];
-    let reading = text::read(text, &mut table);
-    match reading {
-        Reading::Done { nodes, signals } => {
+    match text::read(text, &mut table) {
+        Ok(Reading { nodes, signals }) => {
             write!(writer, "ok {nodes} {signals}")?;
             for byte in &table[..2 * nodes] {
                 write!(writer, " {byte}")?;
             }
             writeln!(writer)
         }
-        Reading::Refused {
-            number,
-            node,
-            place,
-        } => {
-            output::write_refusal(writer, number, node)?;
-            writeln!(writer, " {place}")
+        Err(fault) => {
+            output::write_refusal(writer, fault.refusal)?;
+            writeln!(writer, " {}", fault.place)
         }
     }
 }

@@ -5,6 +5,8 @@
 use input::BUFFER;
 use std::io::Write;
 
+// Tried, and the proof didn't close: one function over the renderer for tables, ticks and plans. No proof is made of a bound `FnOnce` that names a
+// const parameter, here the buffer's size.
 fn main(rt: HostRuntime) {
     let mut reader = rt.stdin();
     let mut writer = rt.stdout();

@@ -5,7 +5,6 @@
 use input::LARGE_BUFFER;
 use std::io;
 use std::io::{Read, Write};
-use trial::Tried;
 
 // The bytes of the head of a case: the table's length and the node.
 const HEAD: usize = 10;
@@ -18,11 +17,10 @@ fn run_case<R: Read, W: Write>(
     node: usize,
 ) -> io::Result<()> {
     input::read_full(reader, table)?;
-    let tried = trial::trial(table, node);
-    match tried {
-        Tried::Gathered { set, presents } => writeln!(writer, "tried {set} {presents}"),
-        Tried::Refused { number, node: at } => {
-            output::write_refusal(writer, number, at)?;
+    match trial::trial(table, node) {
+        Ok(tried) => writeln!(writer, "tried {} {}", tried.set, tried.presents),
+        Err(refusal) => {
+            output::write_refusal(writer, refusal)?;
             writeln!(writer)
         }
     }
