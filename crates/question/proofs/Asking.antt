@@ -1,5 +1,5 @@
 -- One law for each return of `ask`.
-use mathlib.Core.Path.{◌≡◌, refl, sym, ap, subst, ◌∙◌}
+use mathlib.Core.Path.{◌≡◌, refl, sym, ap, ◌∙◌}
 use mathlib.Core.Bool.{Bool, true, false, cond}
 use mathlib.Core.List.{List}
 use Prim.Native.Nat.{ℕ, ◌<◌, ◌≤◌}
@@ -12,7 +12,6 @@ use Rattle.esterel.specs.Checks.{verdict}
 use Rattle.table.specs.Program.{program_of}
 use Rattle.table.specs.Columns.{stmt_at, first_at}
 use Rattle.table.specs.declared.Tree.{Tree}
-use Rattle.analysis.specs.Passes.{Placed}
 use Rattle.analysis.specs.Analysis.{checked, Sized, TreeChecked}
 use Rattle.analysis.proofs.Analyses.{verdict-refused}
 use Rattle.analysis.proofs.Theorems.{checked-room}
@@ -34,9 +33,6 @@ module _ {t : List ℕ} (node code : ℕ) where
     -- the tree's table is the one that was lent
     same : x.table.now ≡ t
     same = o.same x refl
-
-    pub placed : Placed x.table.now
-    placed = subst Placed (sym same) sized.ready.placed
 
     by-node : {b : Bool} → ltb node (size (program_of x.table.now)) ≡ b → asked_of (verdict t) node code ≡ cond b (yields (told_of (question_at (program_of x.table.now) node code))) (rejects 21 0)
     unfolding asked_of

@@ -1,7 +1,7 @@
 -- One law for each return.
 use Rattle.std.proofs.Common.{◌∙◌, arith}
 use Rattle.esterel.proofs.Replies.{handed}
-use Rattle.question.proofs.Asking.{table-refused, placed, outside, above, known}
+use Rattle.question.proofs.Asking.{table-refused, outside, above, known}
 use Rattle.question.proofs.ask.Goals as goal
 
 pub returns-in_err-tree : goal.returns-in_err-tree
@@ -13,11 +13,6 @@ returns-then-nodes-node c = outside c.args.node c.args.code c.in_ok-tree.ensures
 
 pub returns-then-code-gt-MAX_CODE : goal.returns-then-code-gt-MAX_CODE
 returns-then-code-gt-MAX_CODE c = above c.args.node c.args.code c.in_ok-tree.ensures (omega arith) c.if-code-gt-MAX_CODE.true
-
-pub look_at-requires : goal.look_at-requires
-look_at-requires c =
-    let o = c.in_ok-tree.ensures in
-    (placed c.args.node c.args.code o, omega arith, omega arith)
 
 pub returns : goal.returns
 returns c = known c.args.node c.args.code c.in_ok-tree.ensures (omega arith) c.if-code-gt-MAX_CODE.false c.look_at.ensures

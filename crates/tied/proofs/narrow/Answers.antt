@@ -1,6 +1,5 @@
 -- One law for each return.
 use Rattle.std.proofs.Common.{◌∙◌, refl, sym, ap, subst}
-use Rattle.table.proofs.Trees.{few}
 use Rattle.esterel.proofs.Replies.{handed}
 use Rattle.esterel.specs.Refusal.{rejects, number_of}
 use Rattle.tied.specs.Calls.{Narrowing}
@@ -17,9 +16,6 @@ returns-in_err-tied c =
     let refusal = ap (λ r. rejects (number_of r.check) r.node) c.in_err-tied.ensures.1 in
     subst (Narrowing _ _ _ _) (sym (handed c.from_residual-in_err-tied.result _ c.from_residual-in_err-tied.ensures.1 ∙ refusal))
     (ties-refused c.args.ties.now c.args.sets.now c.has_room-room.ensures c.in_ok-tree.ensures c.in_err-tied.ensures.0)
-
-pub find_known-requires : goal.find_known-requires
-find_known-requires c = few c.in_ok-tree.tree.tree
 
 pub fill_narrowed-requires : goal.fill_narrowed-requires
 fill_narrowed-requires c =
