@@ -15,11 +15,12 @@ use Rattle.esterel.specs.Limits.{max_nodes}
 use Rattle.esterel.specs.Statement.{Unary, signal, suspend, loop, trap, Binary, present, sequence, parallel, Stmt, leaf, one, two, kind, size}
 use Rattle.esterel.specs.Sets.{start_set}
 use Rattle.table.specs.Kinds.{kind_of, arity_of, is_sequence}
-use Rattle.table.specs.Program.{program_of}
+use Rattle.table.specs.Program.{program_of, Readable}
 use Rattle.table.specs.Columns.{stmt_at, first_at}
 use Rattle.table.specs.declared.Kind.{Kind}
-use Rattle.table.proofs.Views.{spans, Over, Both, kind-is, has_last, one_of, two_of_lem, first_le}
-use Rattle.analysis.specs.Analysis.{Sized}
+use Rattle.table.proofs.Surveying.{few-nodes}
+use Rattle.table.proofs.TreeViews.{kind-is, has_last, one_of, two_of_lem, first_le}
+use Rattle.table.proofs.Views.{spans, Over, Both}
 use Rattle.question.specs.Question.{Found, found, asking, after, or_else, asks_second, and_then, max_code, range, whole, look}
 use Rattle.question.specs.Calls.{told, told_of}
 use Rattle.question.specs.declared.Asked.{Asked}
@@ -129,28 +130,28 @@ then-asks j i n a k (found b ms) e =
 
 -- ---- at a node of an accepted table
 
-module _ {t sizes : List ℕ} (ok : Sized true t sizes) {i : ℕ} (h : i < size (program_of t)) where
+module _ {t : List ℕ} (ok : Readable t) {i : ℕ} (h : i < size (program_of t)) where
   -- a subtree has at most all nodes
   size_few : size (stmt_at t i) ≤ max_nodes
-  size_few = omega (arith, spans t i h, ok.few)
+  size_few = omega (arith, spans t i h, few-nodes t ok)
 
   pub looked-few : (k : ℕ) {r : Asked} → r ≡ look_at t i k → r.count ≤ max_nodes
   looked-few k e = omega (arith, ap (λ r. r.count) e, (look-fits (first_at t i) (stmt_at t i) k).most, size_few)
 
-  pub own-few : {n : ℕ} → n ≡ get_or sizes i 0 → n ≤ max_nodes
-  own-few e = omega (arith, ok.measured.sized i h, size_few)
+  pub own-few : {n : ℕ} → n ≡ size (stmt_at t i) → n ≤ max_nodes
+  own-few e = omega (arith, size_few)
 
   -- its kind was read, and whether every node is looked at
   module _ {k : Kind} (ek : k ≡ kind_of (get_or t (2 * i) 0)) {code : ℕ} (low : code ≤ max_code) {all : Bool} (ea : all ≡ looks_at_all k code) where
     kind_of_lem : {w : Stmt} → stmt_at t i ≡ w → k ≡ kind_of (kind w)
-    kind_of_lem e = sym (kind-is ok.measured h ek refl e)
+    kind_of_lem e = sym (kind-is ok h ek refl e)
 
     by_all : {b : Bool} → all ≡ b → {w : Stmt} → stmt_at t i ≡ w → looks_at_all (kind_of (kind w)) code ≡ b
     by_all a e = ap (λ y. looks_at_all y code) (sym (kind_of_lem e)) ∙ sym ea ∙ a
 
-    pub all_looks : all ≡ true → {set n : ℕ} {m : Bool} → set ≡ word (start_set (stmt_at t i)) → m ≡ (set ∋ code) → n ≡ get_or sizes i 0 → told m n ≡ look_at t i code
+    pub all_looks : all ≡ true → {set n : ℕ} {m : Bool} → set ≡ word (start_set (stmt_at t i)) → m ≡ (set ∋ code) → n ≡ size (stmt_at t i) → told m n ≡ look_at t i code
     all_looks a es em en =
-        ap₂ told (em ∙ ap (λ y. y ∋ code) es ∙ ∋_word (start_set (stmt_at t i)) code (omega arith)) (en ∙ ok.measured.sized i h ∙ sym (length-range (first_at t i) (size (stmt_at t i))))
+        ap₂ told (em ∙ ap (λ y. y ∋ code) es ∙ ∋_word (start_set (stmt_at t i)) code (omega arith)) (en ∙ sym (length-range (first_at t i) (size (stmt_at t i))))
         ∙ sym (ap told_of (all-is (first_at t i) (stmt_at t i) code (by_all a refl)))
 
     module _ (a : all ≡ false) where
@@ -158,16 +159,16 @@ module _ {t sizes : List ℕ} (ok : Sized true t sizes) {i : ℕ} (h : i < size 
       has-child z = false-not-true (sym ea ∙ a) (inl_true _ _ (inl_true (eqb (arity_of k) 0) _ (eq-eqb (arity_of k) 0 z)))
 
       pub after-child : 0 < i
-      after-child = has_last ok.measured h ek refl has-child
+      after-child = has_last ok h ek refl has-child
 
       module _ {n : ℕ} (en : n ≡ arity_of k) where
         -- one child
         module _ (z : n ≡ 1) {stop : Bool} (eq : stop ≡ stops_at k code) where
           abbrev Child : Unary → Stmt → Type 0
-          Child u p = Over t i (get_or sizes (i - 1) 0) u p
+          Child u p = Over t i (size (stmt_at t (i - 1))) u p
 
           child : (u : Unary) × (p : Stmt) × Child u p
-          child = one_of ok.measured h ek en refl z
+          child = one_of ok h ek en z
 
           look_one : {u : Unary} {p : Stmt} → Child u p → look_at t i code ≡ told_of (look (first_at t i) (one u p) code)
           look_one v = ap (λ w. told_of (look (first_at t i) w code)) v.is
@@ -196,12 +197,12 @@ module _ {t sizes : List ℕ} (ok : Sized true t sizes) {i : ℕ} (h : i < size 
                 ∙ sym (look_one v ∙ ap told_of (passes u p v).is)
 
         -- two children, of which the second has s nodes
-        module _ (z : n ≡ 1 → ⊥) {s : ℕ} (es : s ≡ get_or sizes (i - 1) 0) where
+        module _ (z : n ≡ 1 → ⊥) {s : ℕ} (es : s ≡ size (stmt_at t (i - 1))) where
           children : (b : Binary) × (p q : Stmt) × Both t i s b p q
-          children = two_of_lem ok.measured h ek en es (λ e. has-child (sym en ∙ e)) z
+          children = two_of_lem ok h ek en es (λ e. has-child (sym en ∙ e)) z
 
           pub first_below : s ≤ i - 1
-          first_below = first_le ok.measured h ek en es (λ e. has-child (sym en ∙ e)) z
+          first_below = first_le ok h ek en es (λ e. has-child (sym en ∙ e)) z
 
           look-two : {b : Binary} {p q : Stmt} → Both t i s b p q → look_at t i code ≡ told_of (look (first_at t i) (two b p q) code)
           look-two v = ap (λ w. told_of (look (first_at t i) w code)) v.is
@@ -214,7 +215,7 @@ module _ {t sizes : List ℕ} (ok : Sized true t sizes) {i : ℕ} (h : i < size 
             by_kind y v = ap is_sequence (sym (kind_of_lem v.is)) ∙ sym eq ∙ y
 
             -- a sequence: the first's set and size, whether it has the code, above 0, and whether it has 0
-            module _ (y : seq ≡ true) {set own ended : ℕ} {stays ends : Bool} (set_is : set ≡ word (start_set (stmt_at t (i - 1 - s)))) (own_is : own ≡ get_or sizes (i - 1 - s) 0) (ended_is : ended ≡ without_ended_of set) (stays-is : stays ≡ (ended ∋ code)) (ends_is : ends ≡ (set ∋ 0)) where
+            module _ (y : seq ≡ true) {set own ended : ℕ} {stays ends : Bool} (set_is : set ≡ word (start_set (stmt_at t (i - 1 - s)))) (own_is : own ≡ size (stmt_at t (i - 1 - s))) (ended_is : ended ≡ without_ended_of set) (stays-is : stays ≡ (ended ∋ code)) (ends_is : ends ≡ (set ∋ 0)) where
               ordered : (p q : Stmt) × Both t i s sequence p q
               ordered =
                   let (b, p, q, v) = children in
@@ -231,7 +232,7 @@ module _ {t sizes : List ℕ} (ok : Sized true t sizes) {i : ℕ} (h : i < size 
                 ends_as = ends_is ∙ ap (λ x. x ∋ 0) (set_is ∙ ap (λ w. word (start_set w)) v.left) ∙ ∋_word (start_set p) 0 (omega arith)
 
                 own_as : own ≡ size p
-                own_as = own_is ∙ ok.measured.sized (i - 1 - s) (omega arith) ∙ ap size v.left
+                own_as = own_is ∙ ap size v.left
 
                 asked_as : {x : Bool} → (stays || not ends) ≡ x → (without_ended (start_set p) code || not (start_set p 0)) ≡ x
                 asked_as e = ap₂ (λ x y. x || not y) (sym stays_as) (sym ends_as) ∙ e

@@ -1,7 +1,7 @@
 // One question (F-12): whether a code is in a node's start set, by looking at few nodes.
 #![tactic(auto)]
 
-ghost use Rattle.std.specs.Prelude.{◌≡◌, true, ◌≤◌, ◌<◌};
+ghost use Rattle.std.specs.Prelude.{◌≡◌, ◌≤◌, ◌<◌};
 ghost use Rattle.codes.specs.Codes.{word};
 ghost use Rattle.esterel.specs.Limits.{max_nodes};
 ghost use Rattle.esterel.specs.Refusal.{reply};
@@ -10,13 +10,13 @@ ghost use Rattle.esterel.specs.Sets.{start_set};
 ghost use Rattle.esterel.specs.Checks.{verdict};
 ghost use Rattle.table.specs.Program.{program_of};
 ghost use Rattle.table.specs.Columns.{stmt_at};
-ghost use Rattle.analysis.specs.Analysis.{Sized};
+ghost use Rattle.analysis.specs.Passes.{Placed};
 ghost use Rattle.question.specs.Question.{max_code};
 ghost use Rattle.question.specs.Steps.{look_at, passed_up, joined_of, looks_at_all, stops_at, passed_code};
 ghost use Rattle.question.specs.Calls.{asked_of};
 
 use esterel::{Check, Refusal};
-use table::Kind;
+use table::{Kind, Tree};
 
 // The greatest code that a set can have.
 const MAX_CODE: usize = 63;
@@ -80,35 +80,35 @@ fn passed_code(kind: Kind, code: usize) -> usize
 // The start set of the statement at a node, from those of the statements beneath it: every node of the subtree is looked at, and no other.
 // The new form is no plainer: one function for this and `set_at` of the crate tied would be handed the way to a child's set, which is a read
 // of a list there and a call of the function itself here.
-fn set_at(table: &[u8], sizes: &[u16], node: usize) -> u64
-    requires { Sized true table.now sizes.now × (node < size (program_of table.now)) }
-    ensures { result ≡ word (start_set (stmt_at table.now node)) }
+fn set_at(tree: &Tree, node: usize) -> u64
+    requires { Placed tree.now.table.now × (node < size (program_of tree.now.table.now)) }
+    ensures { result ≡ word (start_set (stmt_at tree.now.table.now node)) }
 {
-    let kind = table::kind_at(table, node);
-    let field = table::field_at(table, node);
+    let kind = tree.kind(node);
+    let field = tree.field(node);
     let children = kind.arity();
     if children == 0 {
         return analysis::codes_of(false, kind, field, 0, 0);
     }
-    let last = set_at(table, sizes, node - 1);
+    let last = set_at(tree, node - 1);
     if children == 1 {
         return analysis::codes_of(false, kind, field, last, 0);
     }
-    let first = set_at(table, sizes, node - 1 - table::size_at(sizes, node - 1));
+    let first = set_at(tree, node - 1 - tree.size(node - 1));
     analysis::codes_of(false, kind, field, first, last)
 }
 
 // The statement at a node is asked for a code. Each call is upon a child, and no node is looked at that the rule does not name.
-fn look_at(table: &[u8], sizes: &[u16], node: usize, code: usize) -> Asked
-    requires { Sized true table.now sizes.now × (node < size (program_of table.now)) × (code ≤ max_code) }
-    ensures { result ≡ look_at table.now node code }
+fn look_at(tree: &Tree, node: usize, code: usize) -> Asked
+    requires { Placed tree.now.table.now × (node < size (program_of tree.now.table.now)) × (code ≤ max_code) }
+    ensures { result ≡ look_at tree.now.table.now node code }
 {
-    let kind = table::kind_at(table, node);
+    let kind = tree.kind(node);
     if looks_at_all(kind, code) {
-        let set = set_at(table, sizes, node);
+        let set = set_at(tree, node);
         return Asked {
             answer: codes::has(set, code as u32),
-            count: table::size_at(sizes, node),
+            count: tree.size(node),
         };
     }
     let last = node - 1;
@@ -119,28 +119,28 @@ fn look_at(table: &[u8], sizes: &[u16], node: usize, code: usize) -> Asked
                 count: 1,
             };
         }
-        let inner = look_at(table, sizes, last, passed_code(kind, code));
+        let inner = look_at(tree, last, passed_code(kind, code));
         return inner.passed_up();
     }
-    let first = last - table::size_at(sizes, last);
+    let first = last - tree.size(last);
     if kind == Kind::Sequence {
-        let set = set_at(table, sizes, first);
+        let set = set_at(tree, first);
         let stays = codes::has(codes::without_ended(set), code as u32);
         let own = Asked {
             answer: stays,
-            count: table::size_at(sizes, first),
+            count: tree.size(first),
         };
         if stays | !codes::has(set, 0) {
             return own.passed_up();
         }
-        return own.joined(look_at(table, sizes, last, code));
+        return own.joined(look_at(tree, last, code));
     }
-    let then = look_at(table, sizes, first, code);
+    let then = look_at(tree, first, code);
     let has = then.answer;
     if has {
         return then.passed_up();
     }
-    then.joined(look_at(table, sizes, last, code))
+    then.joined(look_at(tree, last, code))
 }
 
 // Whether a code is in the start set of a node of an accepted table: checks 1, 2 and 4 to 11, then 21 for a node outside the table. A
@@ -149,8 +149,8 @@ pub fn ask(table: &[u8], node: usize, code: usize) -> Result<Asked, Refusal>
     ensures { reply result ≡ asked_of (verdict table.now) node code }
 {
     let mut sizes = [0u16; esterel::MAX_NODES];
-    analysis::check_sized(table, true, &mut sizes)?;
-    if table.len() / 2 <= node {
+    let tree = analysis::check_tree(table, true, &mut sizes)?;
+    if tree.nodes() <= node {
         return Err(Refusal {
             check: Check::NoNode,
             node: 0,
@@ -162,5 +162,5 @@ pub fn ask(table: &[u8], node: usize, code: usize) -> Result<Asked, Refusal>
             count: 0,
         });
     }
-    Ok(look_at(table, &sizes, node, code))
+    Ok(look_at(&tree, node, code))
 }

@@ -12,4 +12,5 @@ pub mod Descending
 pub mod Surveying
 pub mod Sizing
 pub mod Trees
+pub mod TreeViews
 pub mod Views

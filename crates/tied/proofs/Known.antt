@@ -2,7 +2,7 @@
 use mathlib.Core.Path.{◌≡◌, refl, sym, ap, subst, ◌∙◌}
 use mathlib.Core.Bool.{Bool, true, false, ◌&&◌, cond}
 use mathlib.Core.List.{List}
-use Prim.Native.Nat.{ℕ, suc, ◌+◌, ◌-◌, ◌*◌, ◌/◌, ◌≤◌, ◌<◌}
+use Prim.Native.Nat.{ℕ, suc, ◌+◌, ◌-◌, ◌*◌, ◌≤◌, ◌<◌}
 use native.Mathlib.Decide.{dec_le, dec_lt}
 use native.Mathlib.Omega.{arith}
 use borrow.Author.Tests.{eqb-true, eqb-false, le-leb, lt-leb, lt-ltb, le-ltb}
@@ -15,9 +15,9 @@ use Rattle.esterel.specs.Outcome.{statement_at}
 use Rattle.esterel.proofs.Subtrees.{inside}
 use Rattle.table.specs.Kinds.{kind_of, is_signal}
 use Rattle.table.specs.Program.{program_of, Readable}
-use Rattle.table.specs.Columns.{stmt_at, Measured}
+use Rattle.table.specs.Columns.{stmt_at}
 use Rattle.table.specs.declared.Kind.{Kind}
-use Rattle.table.proofs.Bytes.{table-length, kind_byte, field_byte}
+use Rattle.table.proofs.Bytes.{kind_byte, field_byte}
 use Rattle.table.proofs.Surveying.{few-nodes}
 use Rattle.table.proofs.Views.{spans}
 use Rattle.tied.specs.Ties.{Ties}
@@ -124,9 +124,8 @@ pub record Finding (c : Ties) (t : List ℕ) (room known : List Tie) (lowest : L
   pub same : length known ≡ length room
   pub long : length lowest ≡ signals
 
-pub begin : (c : Ties) {t : List ℕ} (room : List Tie) → Readable t → Finding c t room room (replicate signals max_nodes) (length t / 2)
-begin c {t} room ok =
-    let nodes-are : length t / 2 ≡ size (program_of t) = omega (arith, table-length t ok) in
+pub begin : (c : Ties) {t : List ℕ} (room : List Tie) {n : ℕ} → Readable t → n ≡ size (program_of t) → Finding c t room room (replicate signals max_nodes) n
+begin c {t} room {n} ok nodes-are =
     let few = few-nodes t ok in
     record {
       bound = omega arith;
@@ -137,26 +136,26 @@ begin c {t} room ok =
     }
 
 -- the next node is i - 1
-module _ {c : Ties} {t sizes lowest : List ℕ} {room known : List Tie} {i : ℕ} (ok : Measured t sizes) (o : Finding c t room known lowest i) (some : 0 < i) where
+module _ {c : Ties} {t lowest : List ℕ} {room known : List Tie} {i : ℕ} (ok : Readable t) (o : Finding c t room known lowest i) (some : 0 < i) where
   here : i - 1 < size (program_of t)
   here = omega (arith, o.bound)
 
   low-here : (s : ℕ) → s < signals → Lowest (program_of t) s (suc (i - 1)) (get_or lowest s 0)
   low-here s l = let e : i ≡ suc (i - 1) = omega arith in subst (λ n. Lowest (program_of t) s n (get_or lowest s 0)) e (o.lows s l)
 
-  pub fits : get_or sizes (i - 1) 0 ≤ i - 1 + 1
-  fits = omega (arith, ok.sized (i - 1) here, spans t (i - 1) here)
+  pub fits : size (stmt_at t (i - 1)) ≤ i - 1 + 1
+  fits = omega (arith, spans t (i - 1) here)
 
-  ends : i - 1 + 1 - get_or sizes (i - 1) 0 + size (stmt_at t (i - 1)) ≡ suc (i - 1)
-  ends = omega (arith, ok.sized (i - 1) here, fits)
+  ends : i - 1 + 1 - size (stmt_at t (i - 1)) + size (stmt_at t (i - 1)) ≡ suc (i - 1)
+  ends = omega (arith, fits)
 
   -- with its kind and its field, and what the code makes of them
-  module _ {k : Kind} {f : ℕ} (ek : k ≡ kind_of (get_or t (2 * (i - 1)) 0)) (ef : f ≡ get_or t (2 * (i - 1) + 1) 0) (low : f < signals) {v : Tie} {v' : ℕ} (ev : v ≡ cond (leb (get_or lowest f 0) (i - 1)) Unknown (c f)) (ev' : v' ≡ cond (is_signal k && ltb (i - 1 + 1 - get_or sizes (i - 1) 0) (get_or lowest f 0)) (i - 1 + 1 - get_or sizes (i - 1) 0) (get_or lowest f 0)) where
+  module _ {k : Kind} {f : ℕ} (ek : k ≡ kind_of (get_or t (2 * (i - 1)) 0)) (ef : f ≡ get_or t (2 * (i - 1) + 1) 0) (low : f < signals) {v : Tie} {v' : ℕ} (ev : v ≡ cond (leb (get_or lowest f 0) (i - 1)) Unknown (c f)) (ev' : v' ≡ cond (is_signal k && ltb (i - 1 + 1 - size (stmt_at t (i - 1))) (get_or lowest f 0)) (i - 1 + 1 - size (stmt_at t (i - 1))) (get_or lowest f 0)) where
     is-kind : k ≡ kind_of (kind (stmt_at t (i - 1)))
-    is-kind = ek ∙ ap kind_of (kind_byte t ok.readable (i - 1) here)
+    is-kind = ek ∙ ap kind_of (kind_byte t ok (i - 1) here)
 
     is_field : f ≡ field (stmt_at t (i - 1))
-    is_field = ef ∙ field_byte t ok.readable (i - 1) here
+    is_field = ef ∙ field_byte t ok (i - 1) here
 
     own : v ≡ ties_at c (program_of t) (i - 1) (field (stmt_at t (i - 1)))
     own = ev ∙ tie_here c (program_of t) f (i - 1) (get_or lowest f 0) here (low-here f low) ∙ ap (ties_at c (program_of t) (i - 1)) is_field
@@ -170,11 +169,11 @@ module _ {c : Ties} {t sizes lowest : List ℕ} {room known : List Tie} {i : ℕ
     lows : (s : ℕ) → s < signals → (e : Bool) → eqb s f ≡ e → Lowest (program_of t) s (i - 1) (get_or (set lowest f v') s 0)
     lows s l true e =
         let z : s ≡ f = eqb-true s f e in
-        let new : get_or (set lowest f v') s 0 ≡ cond (is_signal k && ltb (i - 1 + 1 - get_or sizes (i - 1) 0) (get_or lowest s 0)) (i - 1 + 1 - get_or sizes (i - 1) 0) (get_or lowest s 0) = rw z (get_or-set_same lowest f v' 0 (omega (arith, o.long)) ∙ ev') in
-        rw new (lower (program_of t) s (i - 1) (get_or lowest s 0) (i - 1 + 1 - get_or sizes (i - 1) 0) (low-here s l) ends k f is-kind is_field z)
+        let new : get_or (set lowest f v') s 0 ≡ cond (is_signal k && ltb (i - 1 + 1 - size (stmt_at t (i - 1))) (get_or lowest s 0)) (i - 1 + 1 - size (stmt_at t (i - 1))) (get_or lowest s 0) = rw z (get_or-set_same lowest f v' 0 (omega (arith, o.long)) ∙ ev') in
+        rw new (lower (program_of t) s (i - 1) (get_or lowest s 0) (i - 1 + 1 - size (stmt_at t (i - 1))) (low-here s l) ends k f is-kind is_field z)
     lows s l false e =
         let d : s ≡ f → ⊥ = eqb-false s f e in
-        rw (get_or-set_other lowest f s v' 0 d) (keep (program_of t) s (i - 1) (get_or lowest s 0) (i - 1 + 1 - get_or sizes (i - 1) 0) (low-here s l) ends f is_field d)
+        rw (get_or-set_other lowest f s v' 0 d) (keep (program_of t) s (i - 1) (get_or lowest s 0) (i - 1 + 1 - size (stmt_at t (i - 1))) (low-here s l) ends f is_field d)
 
     pub finding-next : size (program_of t) ≤ length room → Finding c t room (set known (i - 1) v) (set lowest f v') (i - 1)
     finding-next holds =

@@ -14,10 +14,12 @@ use Rattle.esterel.specs.Refusal.{yields, rejects}
 use Rattle.esterel.specs.Statement.{size}
 use Rattle.esterel.specs.Table.{passed, refused}
 use Rattle.table.specs.Program.{program_of}
-use Rattle.analysis.specs.Analysis.{checked, Sized, SizesChecked}
+use Rattle.table.specs.declared.Tree.{Tree}
+use Rattle.analysis.specs.Passes.{Placed}
+use Rattle.analysis.specs.Analysis.{checked, Sized, TreeChecked}
 use Rattle.analysis.proofs.Analyses.{verdict-refused, nodes-are}
 use Rattle.tied.specs.Ties.{ties_of}
-use Rattle.tied.specs.Passes.{TiesRead, tied_by, Sound, Known, SetsFilled}
+use Rattle.tied.specs.Passes.{TiesRead, tied_by, Known, SetsFilled}
 use Rattle.tied.specs.Calls.{room_for, are_ties, check_ties, verdict_for, answer_of, sets_after, Narrowing}
 use Rattle.tied.specs.declared.Tie.{Tie}
 
@@ -26,19 +28,23 @@ refusing : {t ties sets : List ℕ} {number node : ℕ} → verdict_for t ties s
 unfolding answer_of sets_after
 refusing {t} {ties} {sets} v = record { answer = sym (ap answer_of v); sets_are = sym (ap (λ w. sets_after w ties sets) v) }
 
-module _ (ties sets : List ℕ) {t sizes : List ℕ} {room : Bool} (er : room ≡ room_for (length t / 2) (length sets) (length ties)) where
-  pub table-refused : {number node : ℕ} → SizesChecked room t sizes (rejects number node) → Narrowing t ties sets sets (rejects number node)
+module _ (ties sets : List ℕ) {t : List ℕ} {room : Bool} (er : room ≡ room_for (length t / 2) (length sets) (length ties)) where
+  pub table-refused : {number node : ℕ} → TreeChecked room t (rejects number node) → Narrowing t ties sets sets (rejects number node)
   table-refused o = refusing (ap (check_ties ties) (ap (λ b. checked b t) (sym er) ∙ verdict-refused (checked room t) _ _ o.answer))
 
-  module _ (o : SizesChecked room t sizes (yields tt)) where
-    sized : Sized (room_for (length t / 2) (length sets) (length ties)) t sizes
-    sized = subst (λ b. Sized b t sizes) er (o.sized refl)
+  module _ {x : Tree} (o : TreeChecked room t (yields x)) where
+    sized : Sized (room_for (length t / 2) (length sets) (length ties)) t x.sizes.now
+    sized = subst (λ b. Sized b t x.sizes.now) er (o.sized x refl)
 
-    pub sound : Sound t sizes
-    sound = record { placed = sized.ready.placed; measured = sized.measured }
+    -- the tree's table is the one that was lent
+    same : x.table.now ≡ t
+    same = o.same x refl
 
-    pub sets-lent : size (program_of t) ≤ length sets
-    sets-lent = omega (arith, nodes-are sized.ready, leb-true (length t / 2) (length sets) (left (leb (length t / 2) (length sets)) (leb signals (length ties)) sized.suffices))
+    pub placed : Placed x.table.now
+    placed = subst Placed (sym same) sized.ready.placed
+
+    pub sets-lent : size (program_of x.table.now) ≤ length sets
+    sets-lent = rw same (omega (arith, nodes-are sized.ready, leb-true (length t / 2) (length sets) (left (leb (length t / 2) (length sets)) (leb signals (length ties)) sized.suffices)))
 
     then-ties : (b : Bool) → are_ties (take signals ties) ≡ b → verdict_for t ties sets ≡ cond b (passed (program_of t)) (refused 19 0)
     then-ties b e = ap (check_ties ties) sized.verdict ∙ ap (λ a. cond a (passed (program_of t)) (refused 19 0)) e
@@ -46,11 +52,13 @@ module _ (ties sets : List ℕ) {t sizes : List ℕ} {room : Bool} (er : room �
     pub ties-refused : are_ties (take signals ties) ≡ false → Narrowing t ties sets sets (rejects 19 0)
     ties-refused e = refusing (then-ties false e)
 
-    pub narrowed : (read : List Tie) {known : List Tie} {sets' : List ℕ} {n : ℕ} → TiesRead ties (Ok read) → n ≡ length t / 2 → Known (tied_by read) t known → SetsFilled t known sets sets' → Narrowing t ties sets sets' (yields n)
+    pub narrowed : (read : List Tie) {known : List Tie} {sets' : List ℕ} {n : ℕ} → TiesRead ties (Ok read) → n ≡ length t / 2 → Known (tied_by read) x.table.now known → SetsFilled x.table.now known sets sets' → Narrowing t ties sets sets' (yields n)
     unfolding answer_of sets_after
-    narrowed read {known} e en k f =
+    narrowed read {known} {sets'} e en k f =
         let v = then-ties true e.0 in
+        let filled : SetsFilled t known sets sets' = subst (λ u. SetsFilled u known sets sets') same f in
+        let own : Known (tied_by read) t known = subst (λ u. Known (tied_by read) u known) same k in
         record {
           answer = ap yields (en ∙ nodes-are sized.ready) ∙ sym (ap answer_of v);
-          sets_are = f.is (ties_of (take signals ties)) (subst (λ c. Known c t known) e.1 k) ∙ sym (ap (λ w. sets_after w ties sets) v);
+          sets_are = filled.is (ties_of (take signals ties)) (subst (λ c. Known c t known) e.1 own) ∙ sym (ap (λ w. sets_after w ties sets) v);
         }

@@ -16,7 +16,8 @@ use Rattle.table.specs.Program.{program_of}
 use Rattle.table.specs.Columns.{stmt_at}
 use Rattle.table.specs.declared.Kind.{Kind}
 use Rattle.table.proofs.Filling.{map_at, Filling, filling-at, filling-next, filling-end, whole}
-use Rattle.table.proofs.Views.{leaf_of_lem, one_of, two_of_lem, has_last}
+use Rattle.table.proofs.TreeViews.{leaf_of_lem, one_of, two_of_lem, has_last}
+use Rattle.analysis.specs.Passes.{Placed}
 use Rattle.analysis.specs.Steps.{codes_of}
 use Rattle.analysis.proofs.Nodes.{leaf-step, one-step, two-step, few, kind-is, field_is}
 use Rattle.tied.specs.Ties.{Ties, by_tie}
@@ -24,7 +25,7 @@ use Rattle.tied.specs.declared.Tie.{Tie}
 use Rattle.tied.specs.declared.Tie.TheVariants.{Unknown, Absent, Present}
 use Rattle.tied.specs.Narrowed.{ties_under, at, narrowed_in, spots, outside, spot_at, ties_at, narrowed_at, word_in, words_of}
 use Rattle.tied.specs.Theorems.{replaced}
-use Rattle.tied.specs.Passes.{tested_of, codes_under, Sound, Known, NextSet, SetsFilled}
+use Rattle.tied.specs.Passes.{tested_of, codes_under, Known, NextSet, SetsFilled}
 use Rattle.tied.proofs.Replaced.{narrowed_as}
 use Rattle.tied.proofs.Spots.{length-spots, narrowed_at_lem, under_one, under-two}
 use Rattle.tied.proofs.Theorems.{fewer}
@@ -58,26 +59,26 @@ own-set : (c : Ties) (p : Stmt) (i : ℕ) (w : Stmt) → statement_at (nodes p) 
 own-set c p i w e = narrowed_at_lem c p i ∙ narrowed_as (ties_at c p i) (statement_at (nodes p) i) ∙ ap (λ q. start_set (replaced (ties_at c p i) q)) e
 
 -- a node of an accepted table, with its kind, its field and the number of its children
-module _ {t sizes : List ℕ} (ok : Sound t sizes) {node : ℕ} (h : node < size (program_of t)) {k : Kind} {f n : ℕ} (ek : k ≡ kind_of (get_or t (2 * node) 0)) (ef : f ≡ get_or t (2 * node + 1) 0) (en : n ≡ arity_of k) where
+module _ {t : List ℕ} (ok : Placed t) {node : ℕ} (h : node < size (program_of t)) {k : Kind} {f n : ℕ} (ek : k ≡ kind_of (get_or t (2 * node) 0)) (ef : f ≡ get_or t (2 * node + 1) 0) (en : n ≡ arity_of k) where
   kind_of_lem : {w : Stmt} → stmt_at t node ≡ w → k ≡ kind_of (kind w)
-  kind_of_lem e = kind-is ok.placed node h ek ef ∙ ap (λ w. kind_of (kind w)) e
+  kind_of_lem e = kind-is ok node h ek ef ∙ ap (λ w. kind_of (kind w)) e
 
   field_of : {w : Stmt} → stmt_at t node ≡ w → f ≡ field w
-  field_of e = field_is ok.placed node h ek ef ∙ ap field e
+  field_of e = field_is ok node h ek ef ∙ ap field e
 
   -- no set has code 64
   no_64 : (c : Ties) (j : ℕ) (q : Stmt) → narrowed_at c (program_of t) j ≡ start_set q → start_set q 64 ≡ false
-  no_64 c j q e = cannot_pass (start_set q 64) (λ z. omega (arith, few ok.placed false j 64 (fewer.in_k c (program_of t) j 64 (ap (λ a. a 64) e ∙ z))))
+  no_64 c j q e = cannot_pass (start_set q 64) (λ z. omega (arith, few ok false j 64 (fewer.in_k c (program_of t) j 64 (ap (λ a. a 64) e ∙ z))))
 
   pub leaf-set : {known : List Tie} {words : List ℕ} {r : ℕ} → n ≡ 0 → r ≡ codes_of false k f 0 0 → NextSet t known words node r
   leaf-set z er =
-      let (l, e) = leaf_of_lem ok.measured h ek en z in
+      let (l, e) = leaf_of_lem ok.readable h ek en z in
       record { is = λ c o words_are. er ∙ ap₂ (λ a b. codes_of false a b 0 0) (kind_of_lem e) (field_of e) ∙ leaf-step false l 0 0 ∙ sym (ap word (own-set c (program_of t) node (leaf l) e)) }
 
   pub one_set : {known : List Tie} {words : List ℕ} {r : ℕ} → n ≡ 1 → r ≡ codes_of false k f (get_or words (node - 1) 0) 0 → NextSet t known words node r
   one_set {known} {words} z er =
-      let (u, q, v) = one_of ok.measured h ek en refl z in
-      let pos = has_last ok.measured h ek en (λ y. omega arith) in
+      let (u, q, v) = one_of ok.readable h ek en z in
+      let pos = has_last ok.readable h ek en (λ y. omega arith) in
       record {
         is = λ c o words_are.
             let d = ties_under u (ties_at c (program_of t) node) in
@@ -88,10 +89,10 @@ module _ {t sizes : List ℕ} (ok : Sound t sizes) {node : ℕ} (h : node < size
             ∙ sym (ap word (own-set c (program_of t) node (one u q) v.is));
       }
 
-  pub two-set : {known : List Tie} {words : List ℕ} {r s : ℕ} → s ≡ get_or sizes (node - 1) 0 → (n ≡ 0 → ⊥) → (n ≡ 1 → ⊥) → r ≡ codes_under (get_or known node Unknown) k (get_or words (node - 1 - s) 0) (get_or words (node - 1) 0) → NextSet t known words node r
+  pub two-set : {known : List Tie} {words : List ℕ} {r s : ℕ} → s ≡ size (stmt_at t (node - 1)) → (n ≡ 0 → ⊥) → (n ≡ 1 → ⊥) → r ≡ codes_under (get_or known node Unknown) k (get_or words (node - 1 - s) 0) (get_or words (node - 1) 0) → NextSet t known words node r
   two-set {known} {words} {s = s} es z y er =
-      let (b, q, w, v) = two_of_lem ok.measured h ek en es z y in
-      let pos = has_last ok.measured h ek en z in
+      let pos = has_last ok.readable h ek en z in
+      let (b, q, w, v) = two_of_lem ok.readable h ek en es z y in
       record {
         is = λ c o words_are.
             let d = ties_at c (program_of t) node in

@@ -8,10 +8,9 @@ use Rattle.esterel.specs.declared.Check.TheVariants.{BadTie}
 use Rattle.esterel.specs.declared.Refusal.{Refusal}
 use Rattle.table.specs.Kinds.{is_present}
 use Rattle.table.specs.Program.{program_of}
-use Rattle.table.specs.Columns.{onto, stmt_at, Measured}
+use Rattle.table.specs.Columns.{onto, stmt_at}
 use Rattle.table.specs.declared.Kind.{Kind}
 use Rattle.analysis.specs.Steps.{codes_of}
-use Rattle.analysis.specs.Passes.{Placed}
 use Rattle.tied.specs.Ties.{Ties, tie_of, ties_of, by_tie}
 use Rattle.tied.specs.declared.Tie.{Tie}
 use Rattle.tied.specs.declared.Tie.TheVariants.{Unknown}
@@ -41,11 +40,6 @@ tested_of t x y = by_tie t (union_of x y) y x
 -- a statement of two children; only a test differs from K
 abbrev pub codes_under : Tie → Kind → (first second : ℕ) → ℕ
 codes_under t k x y = cond (is_present k) (tested_of t x y) (codes_of false k 0 x y)
-
--- a table that passes checks 1 to 10, with the sizes of its subtrees
-pub record Sound (t sizes : List ℕ) : Type 0 where
-  pub placed : Placed t
-  pub measured : Measured t sizes
 
 -- what is known of each node's own signal, at its place
 pub record Known (c : Ties) (t : List ℕ) (known : List Tie) : Type 0 where

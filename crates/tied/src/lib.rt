@@ -8,13 +8,13 @@ ghost use Rattle.esterel.specs.Refusal.{reply};
 ghost use Rattle.esterel.specs.Statement.{size};
 ghost use Rattle.table.specs.Kinds.{is_signal};
 ghost use Rattle.table.specs.Program.{program_of};
-ghost use Rattle.table.specs.Columns.{Measured};
+ghost use Rattle.analysis.specs.Passes.{Placed};
 ghost use Rattle.tied.specs.declared.Tie.TheVariants.{Unknown};
-ghost use Rattle.tied.specs.Passes.{TieRead, TiesRead, tied_by, tested_of, codes_under, Known, Sound, NextSet, SetsFilled};
+ghost use Rattle.tied.specs.Passes.{TieRead, TiesRead, tied_by, tested_of, codes_under, Known, NextSet, SetsFilled};
 ghost use Rattle.tied.specs.Calls.{room_for, Narrowing};
 
 use esterel::{Check, Refusal};
-use table::Kind;
+use table::{Kind, Tree};
 
 // Whether there is a set for each of n nodes, and a byte for each signal.
 fn has_room(n: usize, sets: usize, ties: usize) -> bool
@@ -92,16 +92,16 @@ fn reach(kind: Kind, lowest: usize, first: usize) -> usize
 // What is known of each node's own signal. From the last node to the first, `lowest` keeps for each signal the lowest node of the
 // signal statements of its number so far. A subtree is a run of nodes, so a node still to come is in one of them exactly if its number is
 // at least that one: no test looks for the signal statements around it.
-fn find_known(table: &[u8], sizes: &[u16], ties: &[Tie; esterel::SIGNALS], known: &mut [Tie])
-    requires { Measured table.now sizes.now × (size (program_of table.now) ≤ length known.old) }
-    ensures { Known (tied_by ties.now) table.now known.new }
+fn find_known(tree: &Tree, ties: &[Tie; esterel::SIGNALS], known: &mut [Tie])
+    requires { size (program_of tree.now.table.now) ≤ length known.old }
+    ensures { Known (tied_by ties.now) tree.now.table.now known.new }
 {
     let mut lowest = [esterel::MAX_NODES; esterel::SIGNALS];
-    for i in (0..table.len() / 2).rev() {
-        let kind = table::kind_at(table, i);
-        let signal = table::field_at(table, i);
+    for i in (0..tree.nodes()).rev() {
+        let kind = tree.kind(i);
+        let signal = tree.field(i);
         known[i] = tie_at(ties, &lowest, signal, i);
-        lowest[signal] = reach(kind, lowest[signal], i + 1 - table::size_at(sizes, i));
+        lowest[signal] = reach(kind, lowest[signal], i + 1 - tree.size(i));
     }
 }
 
@@ -127,18 +127,12 @@ fn codes_under(tie: Tie, kind: Kind, first: u64, second: u64) -> u64
 }
 
 // The set of a node, from those of the nodes before it.
-fn set_at(
-    table: &[u8],
-    sizes: &[u16],
-    known: &[Tie; esterel::MAX_NODES],
-    sets: &[u64],
-    node: usize,
-) -> u64
-    requires { Sound table.now sizes.now × (node < size (program_of table.now)) × (node ≤ length sets.now) }
-    ensures { NextSet table.now known.now sets.now node result }
+fn set_at(tree: &Tree, known: &[Tie; esterel::MAX_NODES], sets: &[u64], node: usize) -> u64
+    requires { Placed tree.now.table.now × (node < size (program_of tree.now.table.now)) × (node ≤ length sets.now) }
+    ensures { NextSet tree.now.table.now known.now sets.now node result }
 {
-    let kind = table::kind_at(table, node);
-    let field = table::field_at(table, node);
+    let kind = tree.kind(node);
+    let field = tree.field(node);
     let children = kind.arity();
     if children == 0 {
         return analysis::codes_of(false, kind, field, 0, 0);
@@ -147,17 +141,17 @@ fn set_at(
     if children == 1 {
         return analysis::codes_of(false, kind, field, sets[last], 0);
     }
-    let first = last - table::size_at(sizes, last);
+    let first = last - tree.size(last);
     codes_under(known[node], kind, sets[first], sets[last])
 }
 
 // The sets of all nodes, children before parents.
-fn fill_narrowed(table: &[u8], sizes: &[u16], known: &[Tie; esterel::MAX_NODES], sets: &mut [u64])
-    requires { Sound table.now sizes.now × (size (program_of table.now) ≤ length sets.old) }
-    ensures { SetsFilled table.now known.now sets.old sets.new }
+fn fill_narrowed(tree: &Tree, known: &[Tie; esterel::MAX_NODES], sets: &mut [u64])
+    requires { Placed tree.now.table.now × (size (program_of tree.now.table.now) ≤ length sets.old) }
+    ensures { SetsFilled tree.now.table.now known.now sets.old sets.new }
 {
-    for i in 0..table.len() / 2 {
-        sets[i] = set_at(table, sizes, known, sets, i);
+    for i in 0..tree.nodes() {
+        sets[i] = set_at(tree, known, sets, i);
     }
 }
 
@@ -169,10 +163,10 @@ pub fn narrow(table: &[u8], ties: &[u8], sets: &mut [u64]) -> Result<usize, Refu
     let nodes = table.len() / 2;
     let mut sizes = [0u16; esterel::MAX_NODES];
     let room = has_room(nodes, sets.len(), ties.len());
-    analysis::check_sized(table, room, &mut sizes)?;
+    let tree = analysis::check_tree(table, room, &mut sizes)?;
     let tied = read_ties(ties)?;
     let mut known = [Tie::Unknown; esterel::MAX_NODES];
-    find_known(table, &sizes, &tied, &mut known);
-    fill_narrowed(table, &sizes, &known, sets);
+    find_known(&tree, &tied, &mut known);
+    fill_narrowed(&tree, &known, sets);
     Ok(nodes)
 }

@@ -4,4 +4,4 @@ use Rattle.tied.proofs.Known.{Finding}
 use Rattle.tied.proofs.find_known.Given as goal
 
 abbrev pub invariant-loop-i : goal.invariant-loop-i
-invariant-loop-i l = Finding (tied_by l.ties) l.table l.fn.known l.known l.lowest l.i
+invariant-loop-i l = Finding (tied_by l.ties) l.tree.table.now l.fn.known l.known l.lowest l.i

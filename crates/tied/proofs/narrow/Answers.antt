@@ -3,24 +3,24 @@ use Rattle.std.proofs.Common.{◌∙◌, refl, sym, ap, subst}
 use Rattle.esterel.proofs.Replies.{handed}
 use Rattle.esterel.specs.Refusal.{rejects, number_of}
 use Rattle.tied.specs.Calls.{Narrowing}
-use Rattle.tied.proofs.Narrows.{table-refused, sound, sets-lent, ties-refused, narrowed}
+use Rattle.tied.proofs.Narrows.{table-refused, placed, sets-lent, ties-refused, narrowed}
 use Rattle.tied.proofs.narrow.Goals as goal
 
-pub returns-in_err-check_sized : goal.returns-in_err-check_sized
-returns-in_err-check_sized c =
+pub returns-in_err-tree : goal.returns-in_err-tree
+returns-in_err-tree c =
     subst (Narrowing _ _ _ _) (sym (handed c.from_residual.result _ c.from_residual.ensures.1))
-    (table-refused c.args.ties.now c.args.sets.now c.has_room-room.ensures c.in_err-check_sized.ensures)
+    (table-refused c.args.ties.now c.args.sets.now c.has_room-room.ensures c.in_err-tree.ensures)
 
 pub returns-in_err-tied : goal.returns-in_err-tied
 returns-in_err-tied c =
     let refusal = ap (λ r. rejects (number_of r.check) r.node) c.in_err-tied.ensures.1 in
     subst (Narrowing _ _ _ _) (sym (handed c.from_residual-in_err-tied.result _ c.from_residual-in_err-tied.ensures.1 ∙ refusal))
-    (ties-refused c.args.ties.now c.args.sets.now c.has_room-room.ensures c.in_ok-check_sized.ensures c.in_err-tied.ensures.0)
+    (ties-refused c.args.ties.now c.args.sets.now c.has_room-room.ensures c.in_ok-tree.ensures c.in_err-tied.ensures.0)
 
 pub fill_narrowed-requires : goal.fill_narrowed-requires
 fill_narrowed-requires c =
-    (sound c.args.ties.now c.args.sets.now c.has_room-room.ensures c.in_ok-check_sized.ensures, sets-lent c.args.ties.now c.args.sets.now c.has_room-room.ensures c.in_ok-check_sized.ensures)
+    (placed c.args.ties.now c.args.sets.now c.has_room-room.ensures c.in_ok-tree.ensures, sets-lent c.args.ties.now c.args.sets.now c.has_room-room.ensures c.in_ok-tree.ensures)
 
 pub returns : goal.returns
 returns c =
-    narrowed c.args.ties.now c.args.sets.now c.has_room-room.ensures c.in_ok-check_sized.ensures _ c.in_ok-tied.ensures refl c.find_known.ensures c.fill_narrowed.ensures
+    narrowed c.args.ties.now c.args.sets.now c.has_room-room.ensures c.in_ok-tree.ensures _ c.in_ok-tied.ensures refl c.find_known.ensures c.fill_narrowed.ensures
