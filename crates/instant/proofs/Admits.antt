@@ -9,7 +9,8 @@ use borrow.Author.Tests.{lt-ltb, le-ltb}
 use lib.Dec.{ltb}
 use lib.ListN.{length, get_or, take, drop, length-append}
 use lib.Seq.{take-take, take-add, take_at, get_or-take, length-take-le}
-use Rattle.codes.proofs.Bools.{both, left, right}
+use Rattle.std.specs.List.{list_all, range_with_len}
+use Rattle.codes.proofs.Bools.{both, left, right, same_test}
 use Rattle.esterel.specs.Statement.{Binary, Stmt, leaf, one, two, size, nodes}
 use Rattle.esterel.specs.Instant.{holds, first, second, apart, at_pauses, one_branch, admitted}
 use Rattle.esterel.specs.Outcome.{statement_at}
@@ -98,20 +99,18 @@ module _ (ps : List Stmt) (h : List ℕ) where
       (both (sym (own-two b p q f _ refl) ∙ own)
       (both (apart-each p f w.0 (λ i a z. o i a (omega arith))) (apart-each q (f + size p) w.1 (λ i a z. o i (omega arith) (omega arith)))))
 
--- all nodes before i fit
-pub record FitsTo (p : Stmt) (state : List ℕ) (i : ℕ) : Type 0 where
-  pub bound : i ≤ size p
-  pub fits : (j : ℕ) → j < i → node_fits (nodes p) state j ≡ true
-
-pub fits-begin : {p : Stmt} {state : List ℕ} → FitsTo p state 0
-fits-begin = record { bound = omega arith; fits = λ j h. absurd (omega arith) }
-
-pub fits_next : {p : Stmt} {state : List ℕ} {i : ℕ} → FitsTo p state i → i < size p → node_fits (nodes p) state i ≡ true → FitsTo p state (i + 1)
-fits_next {p} {state} {i} o h e = record { bound = omega arith; fits = λ j k. go j k (dec_lt j i) }
+-- a test of each of n numbers from a on
+all-of : (test : ℕ → Bool) (a n : ℕ) → list_all test (range_with_len a n) ≡ true → (i : ℕ) → a ≤ i → i < a + n → test i ≡ true
+all-of test a zero e i lo hi = absurd (omega arith)
+all-of test a (suc n) e i lo hi = go (dec_lt a i) (λ l. all-of test (a + 1) n (right (test a) e) i (omega arith) (omega arith))
   where
-    go : (j : ℕ) → j < i + 1 → Dec (j < i) → node_fits (nodes p) state j ≡ true
-    go j k (yes c) = o.fits j c
-    go j k (no c) = let z : j ≡ i = omega arith in rw z e
+    go : Dec (a < i) → (a < i → test i ≡ true) → test i ≡ true
+    go (yes l) next = next l
+    go (no l) next = let z : i ≡ a = omega arith in rw z (left (test a) (list_all test (range_with_len (a + 1) n)) e)
+
+of-all : (test : ℕ → Bool) (a n : ℕ) → ((i : ℕ) → a ≤ i → i < a + n → test i ≡ true) → list_all test (range_with_len a n) ≡ true
+of-all test a zero f = refl
+of-all test a (suc n) f = both (f a (omega arith) (omega arith)) (of-all test (a + 1) n (λ i lo hi. f i (omega arith) (omega arith)))
 
 module _ (p : Stmt) (state : List ℕ) (room : size p ≤ length state) where
   abbrev own : List ℕ
@@ -129,13 +128,6 @@ module _ (p : Stmt) (state : List ℕ) (room : size p ≤ length state) where
       both (rw (own_byte i h) at (byte_of (nodes p) own (left (at_pauses (nodes p) own) (one_branch p own) rest) i (omega (arith, length-nodes p))))
       (each-apart (nodes p) state p 0 (sits-own p) (right (at_pauses (nodes p) own) rest) i (omega arith) (omega arith))
 
-  pub not-admitted : (i : ℕ) → i < size p → node_fits (nodes p) state i ≡ false → false ≡ admitted p own
-  not-admitted i h n = go (admitted p own) refl
-    where
-      go : (b : Bool) → admitted p own ≡ b → false ≡ b
-      go false e = refl
-      go true e = sym n ∙ node-fits e i h
-
   module _ {counts : List ℕ} (c : Counted state counts (size p)) {n : ℕ} (en : n ≡ size p) where
     own-holds : holds own ≡ ltb 0 (get_or counts n 0)
     own-holds = rw en (holds-count own ∙ ap (ltb 0) (sym (c.entry (size p) (omega arith))))
@@ -143,11 +135,17 @@ module _ (p : Stmt) (state : List ℕ) (room : size p ≤ length state) where
     pub nothing-held : get_or counts n 0 ≡ 0 → false ≡ admitted p own
     nothing-held e = sym (ap (λ x. x && (at_pauses (nodes p) own && one_branch p own)) (own-holds ∙ ap (ltb 0) e))
 
-    pub is-admitted : (get_or counts n 0 ≡ 0 → ⊥) → {i : ℕ} → FitsTo p state i → size p ≤ i → true ≡ admitted p own
-    is-admitted some o h =
-        sym (both (own-holds ∙ lt-ltb 0 (get_or counts n 0) (omega (arith, some)))
-        (both (all-bytes (nodes p) own own-length (λ j k. let l : j < size p = omega (arith, length-nodes p) in rw (own_byte j l) (left (byte_fits (statement_at (nodes p) j) (get_or state j 0)) _ (o.fits j (omega arith)))))
-        (apart-each (nodes p) state p 0 (sits-own p) (λ j k l. right (byte_fits (statement_at (nodes p) j) (get_or state j 0)) (o.fits j (omega arith))))))
+    is-admitted : (get_or counts n 0 ≡ 0 → ⊥) → ((i : ℕ) → i < size p → node_fits (nodes p) state i ≡ true) → admitted p own ≡ true
+    is-admitted some fits =
+        both (own-holds ∙ lt-ltb 0 (get_or counts n 0) (omega (arith, some)))
+        (both (all-bytes (nodes p) own own-length (λ j k. let l : j < size p = omega (arith, length-nodes p) in rw (own_byte j l) (left (byte_fits (statement_at (nodes p) j) (get_or state j 0)) _ (fits j l))))
+        (apart-each (nodes p) state p 0 (sits-own p) (λ j k l. right (byte_fits (statement_at (nodes p) j) (get_or state j 0)) (fits j (omega arith)))))
+
+    pub all-fit : (get_or counts n 0 ≡ 0 → ⊥) → {r : Bool} → r ≡ list_all (node_fits (nodes p) state) (range_with_len 0 n) → r ≡ admitted p own
+    all-fit some {r} e =
+        same_test r (admitted p own)
+        (λ y. is-admitted some (λ i l. all-of (node_fits (nodes p) state) 0 n (sym e ∙ y) i (omega arith) (omega arith)))
+        (λ y. e ∙ of-all (node_fits (nodes p) state) 0 n (λ i lo hi. node-fits y i (omega arith)))
 
 -- the front of what is unpacked
 pub front-unpacked : (state old : List ℕ) {held : List ℕ} (n : ℕ) → held ≡ unpack n state ++ drop n old → take n held ≡ unpack n state

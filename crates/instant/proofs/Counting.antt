@@ -23,10 +23,6 @@ pub record Counting (state counts₀ counts : List ℕ) (n held i : ℕ) : Type 
   pub entry : (j : ℕ) → j ≤ i → get_or counts j 0 ≡ count_held (take j state)
   pub same : length counts ≡ length counts₀
 
-pub counting_begin : {state : List ℕ} (counts : List ℕ) {n : ℕ} → n < length counts → Counting state (set counts 0 0) (set counts 0 0) n 0 0
-counting_begin counts room =
-    record { bound = omega arith; own = refl; low = omega arith; entry = λ j h. let e : j ≡ 0 = omega arith in rw e (get_or-set_same counts 0 0 0 (omega arith)); same = refl }
-
 module _ {state counts₀ : List ℕ} {n : ℕ} (room : n < length counts₀) where
   module _ {counts : List ℕ} {held i : ℕ} (o : Counting state counts₀ counts n held i) (h : i < n) (long : n ≤ length state) where
     one_more : {b : ℕ} → get_or state i 0 ≡ b → count_held (take (i + 1) state) ≡ held + count_held (b ∷ [])

@@ -10,7 +10,6 @@ pub mod Resumes
 pub mod Admits
 pub mod Counting
 pub mod Fitting
-pub mod Checking
 pub mod Emissions
 pub mod Entering
 pub mod Closing

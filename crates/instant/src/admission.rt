@@ -66,15 +66,7 @@ fn check_nodes(table: &[u8], sizes: &[u16], counts: &[u16], held: &[u8]) -> bool
     ensures { result ≡ admitted (program_of table.now) (take (size (program_of table.now)) held.now) }
 {
     let n = table.len() / 2;
-    if counts[n] == 0 {
-        return false;
-    }
-    for i in 0..n {
-        if !node_fits(table, sizes, counts, held, i) {
-            return false;
-        }
-    }
-    true
+    counts[n] != 0 && (0..n).all(|i| node_fits(table, sizes, counts, held, i))
 }
 
 // Whether a packed state is admitted (check 12), and what a run resumes from: the bytes of the program's nodes, and their counts.

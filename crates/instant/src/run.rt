@@ -1,5 +1,6 @@
 // A run of a statement: each call is upon a child. What a run reads is lent as one struct and the call's own buffers as arrays:
-// a frame keeps one word of each, and of a slice two words for itself and two for every call that it makes.
+// a frame keeps one word of each, and of a slice two words for itself and two for every call that it makes. The two buffers are
+// no struct, which is no plainer: what admits, leaves, packs and clears takes the first alone.
 ghost use Rattle.std.specs.Prelude.{◌≡◌, ◌+◌, ◌*◌, ◌<◌, slice_get, length, get_or};
 ghost use Rattle.table.specs.Kinds.{kind_of};
 ghost use Rattle.instant.specs.Run.{Runnable, Room, Clear, Started, Holding, Resumed};

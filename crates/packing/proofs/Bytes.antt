@@ -16,7 +16,7 @@ use Rattle.codes.proofs.WordBits.{below_lt, below-same, below_none, below-first}
 use Rattle.esterel.specs.Limits.{max_nodes}
 use Rattle.esterel.specs.Instant.{zeros}
 use Rattle.table.proofs.Buffers.{front-suc}
-use Rattle.table.proofs.Filling.{Filling, filling-length, filling-next}
+use Rattle.table.proofs.Filling.{Filling, filling-next}
 use Rattle.packing.specs.Packing.{state_bytes, bits_from, byte_of, pack}
 use Rattle.packing.proofs.Columns.{front-more}
 use Rattle.packing.proofs.Bits.{length-pack, pack-at}
@@ -64,9 +64,6 @@ module _ (bytes : List ℕ) where
         let rest : byte ≡ bits_from bytes (suc (i - 1)) (8 - i) = o.is ∙ ap (λ y. bits_from bytes y (8 - i)) (sym up) in
         record { high = omega (arith, o.high); is = omega (arith, step, e, rest) }
 
-  pub gather_end : {i byte : ℕ} → Gathered bytes i byte → i ≡ 0 → byte ≡ bits_from bytes 0 8
-  gather_end {i} o z = o.is ∙ ap (λ j. bits_from bytes j (8 - j)) z
-
 -- ---- all bytes
 
 -- those past the nodes are 0
@@ -107,9 +104,6 @@ module _ (bytes old : List ℕ) {n : ℕ} (long : n ≤ length bytes) (few : n �
 
   -- the whole ones
   module _ {state : List ℕ} {j : ℕ} (o : Filling (pack (take n bytes)) old state (n / 8) j) where
-    pub packed-length : length state ≡ length old
-    packed-length = filling-length (omega (arith, length-pack (take n bytes))) (omega arith) o
-
     pub packed-next : (v : ℕ) → j < n / 8 → v ≡ bits_from (take (8 * j + 8 - 8 * j) (drop (8 * j) bytes)) 0 8 → Filling (pack (take n bytes)) old (set state j v) (n / 8) (j + 1)
     packed-next v l e =
         filling-next (omega (arith, length-pack (take n bytes))) (omega arith) o v l

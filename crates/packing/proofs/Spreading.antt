@@ -1,8 +1,7 @@
 -- The bytes of the nodes as they are made: those of one byte of the state from its lowest bit on, and all from the first on.
-use mathlib.Core.Path.{◌≡◌, refl, sym, ap, ◌∙◌}
+use mathlib.Core.Path.{◌≡◌, sym, ap, ◌∙◌}
 use mathlib.Core.List.{List, [], ◌++◌}
 use Prim.Native.Nat.{ℕ, ◌+◌, ◌*◌, ◌/◌, ◌%◌, ◌^◌, ◌≤◌, ◌<◌}
-use native.Mathlib.Nat.{div-one}
 use native.Mathlib.Omega.{arith}
 use lib.ListN.{length, get_or, set, take, drop, length-drop}
 use lib.Pow.{shr-shr}
@@ -31,9 +30,6 @@ pub record Spread (w : ℕ) (old now : List ℕ) (rest i : ℕ) : Type 0 where
 module _ (w : ℕ) (old : List ℕ) where
   long : length old ≤ length (column (bit_of w) 0 (length old))
   long = let e = length-column (bit_of w) 0 (length old) in omega arith
-
-  pub spread_begin : Spread w old old w 0
-  spread_begin = record { left = sym (div-one w); is = record { bound = omega arith; is = refl } }
 
   module _ {now : List ℕ} {rest i : ℕ} (o : Spread w old now rest i) where
     pub spread_next : i < length old → Spread w old (set now i (rest % 2)) (rest / 2) (i + 1)

@@ -14,6 +14,7 @@ use Rattle.esterel.specs.Codes.{Represents}
 use Rattle.esterel.specs.Limits.{max_nodes}
 use Rattle.esterel.specs.Statement.{Stmt, size, nodes}
 use Rattle.esterel.specs.Sets.{start_set}
+use Rattle.esterel.specs.Refusal.{Reply, yields, rejects}
 use Rattle.esterel.specs.Table.{Verdict, passed, refused}
 use Rattle.esterel.specs.Checks.{verdict}
 use Rattle.esterel.specs.Outcome.{statement_at}
@@ -21,29 +22,27 @@ use Rattle.esterel.proofs.Accepted.{acceptance}
 use Rattle.esterel.proofs.Caught.{low_codes}
 use Rattle.esterel.proofs.Refusals.{refusals, one-program}
 use Rattle.esterel.proofs.Subtrees.{subtrees}
-use Rattle.analysis.specs.Analysis.{Analysis}
-use Rattle.analysis.specs.declared.Analysed.TheVariants.{Done}
+use Rattle.analysis.specs.Analysis.{Analysis, done}
 use Rattle.analysis.proofs.Theorems.{demand2_of_call}
 use Rattle.starts.specs.Ticks.{presents}
 use Rattle.trial.specs.Trials.{tried, trial_answers}
-use Rattle.trial.specs.Calls.{tried_of}
+use Rattle.trial.specs.Calls.{tells, tried_of}
 use Rattle.trial.specs.Theorems.{Refusal, of_table, outside, too_many, Found, OfTrial}
 use Rattle.trial.specs.declared.Tried.{Tried}
-use Rattle.trial.specs.declared.Tried.TheVariants.{Gathered, Refused}
 use Rattle.trial.proofs.Theorems.{trials}
 use Rattle.trial.proofs.Told.{of_table_lem, outside-is, too_many_is, gathered-is}
 
 module _ (t : List ℕ) (node : ℕ) where
   -- what is gathered is K
-  gathered-at : (p : Stmt) → verdict t ≡ passed p → {r : Tried} → r ≡ tried_of (verdict t) node → node < size p → presents (statement_at (nodes p) node) ≤ trial_answers → r ≡ Gathered (word (start_set (statement_at (nodes p) node))) (presents (statement_at (nodes p) node))
+  gathered-at : (p : Stmt) → verdict t ≡ passed p → {r : Reply Tried} → r ≡ tried_of (verdict t) node → node < size p → presents (statement_at (nodes p) node) ≤ trial_answers → r ≡ tells (word (start_set (statement_at (nodes p) node))) (presents (statement_at (nodes p) node))
   gathered-at p e er h few =
       gathered-is t node er p e h few
-      ∙ ap (λ s. Gathered s (presents (statement_at (nodes p) node))) (word_same _ _ (λ k j. trials.exact trial_answers _ (statement_at (nodes p) node) few k))
+      ∙ ap (λ s. tells s (presents (statement_at (nodes p) node))) (word_same _ _ (λ k j. trials.exact trial_answers _ (statement_at (nodes p) node) few k))
 
   -- an answer is of one of these kinds
-  data Settled : Tried → Type 0 where
-    refuses : (number at : ℕ) → Refusal t node number at → Settled (Refused number at)
-    finds : (set count : ℕ) → Found t node set count → Settled (Gathered set count)
+  data Settled : Reply Tried → Type 0 where
+    refuses : (number at : ℕ) → Refusal t node number at → Settled (rejects number at)
+    finds : (x : Tried) → Found t node x.set x.presents → Settled (yields x)
 
   found_at : (p : Stmt) → verdict t ≡ passed p → node < size p → presents (statement_at (nodes p) node) ≤ trial_answers → Found t node (word (start_set (statement_at (nodes p) node))) (presents (statement_at (nodes p) node))
   found_at p e h few =
@@ -60,14 +59,14 @@ module _ (t : List ℕ) (node : ℕ) where
         is_k = is_k;
       }
 
-  settled : {r : Tried} → r ≡ tried_of (verdict t) node → (v : Verdict) → verdict t ≡ v → Settled r
+  settled : {r : Reply Tried} → r ≡ tried_of (verdict t) node → (v : Verdict) → verdict t ≡ v → Settled r
   settled {r} er (refused number at) e = subst Settled (sym (of_table_lem t node er number at e)) (refuses number at (of_table number at e (refusals t number at e)))
   settled {r} er (passed p) e = go (ltb node (size p)) refl
     where
       within : node < size p → (b : Bool) → leb (presents (statement_at (nodes p) node)) trial_answers ≡ b → Settled r
       within h true z =
           let few = leb-true (presents (statement_at (nodes p) node)) trial_answers z in
-          subst Settled (sym (gathered-at p e er h few)) (finds _ _ (found_at p e h few))
+          subst Settled (sym (gathered-at p e er h few)) (finds _ (found_at p e h few))
       within h false z =
           let l = leb-false (presents (statement_at (nodes p) node)) trial_answers z in
           subst Settled (sym (too_many_is t node er p e h l)) (refuses 22 0 (too_many p e h l))
@@ -76,20 +75,20 @@ module _ (t : List ℕ) (node : ℕ) where
       go true z = within (ltb-true node (size p) z) (leb (presents (statement_at (nodes p) node)) trial_answers) refl
       go false z = let l = ltb-false node (size p) z in subst Settled (sym (outside-is t node er p e l)) (refuses 21 0 (outside p e l))
 
-  known_at : (set count : ℕ) → Gathered set count ≡ tried_of (verdict t) node → Found t node set count
+  known_at : (set count : ℕ) → tells set count ≡ tried_of (verdict t) node → Found t node set count
   known_at set count er = go (settled er (verdict t) refl)
     where
-      go : Settled (Gathered set count) → Found t node set count
-      go (finds s c o) = o
+      go : Settled (tells set count) → Found t node set count
+      go (finds x o) = o
 
-  refused-at : (number at : ℕ) → Refused number at ≡ tried_of (verdict t) node → Refusal t node number at
+  refused-at : (number at : ℕ) → rejects number at ≡ tried_of (verdict t) node → Refusal t node number at
   refused-at number at er = go (settled er (verdict t) refl)
     where
-      go : Settled (Refused number at) → Refusal t node number at
+      go : Settled (rejects number at) → Refusal t node number at
       go (refuses n a o) = o
 
   -- its number, and a node that a table can have
-  pub numbered : (number at : ℕ) → Refused number at ≡ tried_of (verdict t) node → (1 ≤ number) × (number ≤ 22) × (at < max_nodes)
+  pub numbered : (number at : ℕ) → rejects number at ≡ tried_of (verdict t) node → (1 ≤ number) × (number ≤ 22) × (at < max_nodes)
   numbered number at er = go (refused-at number at er)
     where
       go : {n a : ℕ} → Refusal t node n a → (1 ≤ n) × (n ≤ 22) × (a < max_nodes)
@@ -97,7 +96,7 @@ module _ (t : List ℕ) (node : ℕ) where
       go (outside p e h) = (omega arith, omega arith, omega arith)
       go (too_many p e h l) = (omega arith, omega arith, omega arith)
 
-listed_at : (t k a s m k' a' s' m' : List ℕ) (n d node set count : ℕ) → Analysis t k a s m k' a' s' m' (Done n d) → Gathered set count ≡ tried_of (verdict t) node → (node < n) × (set ≡ get_or k' node 0)
+listed_at : (t k a s m k' a' s' m' : List ℕ) (n d node set count : ℕ) → Analysis t k a s m k' a' s' m' (done n d) → tells set count ≡ tried_of (verdict t) node → (node < n) × (set ≡ get_or k' node 0)
 listed_at t k a s m k' a' s' m' n d node set count o er =
     let x = demand2_of_call.sets t k a s m k' a' s' m' n d o in
     let y = known_at t node set count er in

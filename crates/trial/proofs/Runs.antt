@@ -2,6 +2,7 @@
 use mathlib.Core.Path.{◌≡◌, refl, sym, ap, ap₂, ◌∙◌}
 use mathlib.Core.Bool.{true, ◌||◌, or-false, or_assoc}
 use mathlib.Core.List.{List, [], ◌∷◌, ◌++◌, append-nil}
+use Rattle.std.specs.Prelude.{Option}
 use Prim.Native.Nat.{ℕ, suc, ◌+◌, ◌-◌, ◌/◌, ◌%◌, ◌^◌, ◌≤◌, ◌<◌}
 use native.Mathlib.Numerals.{add-one}
 use native.Mathlib.Omega.{arith}
@@ -23,14 +24,11 @@ use Rattle.table.proofs.Surveying.{few-nodes}
 use Rattle.table.proofs.Views.{spans}
 use Rattle.table.proofs.Filling.{Filling, filling-next, filling-end}
 use Rattle.instant.specs.Run.{stmt_at, first_at, Runnable, Room, Clear, RanIs, ran, starves, Started}
-use Rattle.instant.specs.declared.Ran.{Ran}
-use Rattle.instant.specs.declared.Ran.TheVariants.{Closed, Starved}
-use Rattle.instant.proofs.Algebra.{em_length}
+use Rattle.instant.specs.declared.Reaction.{Reaction}
 use Rattle.instant.proofs.Sets.{sets-at}
 use Rattle.instant.proofs.Nodes.{accepted}
 use Rattle.trial.specs.Lists.{lists, list_at}
-use Rattle.starts.proofs.Theorems.{takes_few}
-use Rattle.trial.specs.Trials.{completion, gathered, tried, trial_answers}
+use Rattle.trial.specs.Trials.{completion, gathered, tried}
 use Rattle.trial.specs.Steps.{Triable, code_set, LowCode}
 use Rattle.trial.proofs.Lists.{length-lists, list-long, list_at_lem, half}
 
@@ -41,11 +39,6 @@ pub record Writing (m number rest i : ℕ) (now : List ℕ) : Type 0 where
   pub filling : Filling (list_at m number) (zeros m) now m i
   pub low : rest < 2 ^ (m - i)
   pub left : drop i (list_at m number) ≡ list_at (m - i) rest
-
-pub writing_starts : (m number : ℕ) → number < 2 ^ m → Writing m number number 0 (zeros m)
-writing_starts m number h =
-    let all : m - 0 ≡ m = omega arith in
-    record { filling = record { bound = omega arith; is = refl }; low = rw all h; left = sym (ap (λ n. list_at n number) all) }
 
 module _ {m number rest i : ℕ} {now : List ℕ} (l : number < 2 ^ m) (o : Writing m number rest i now) where
   pub writing_next : i < m → (v : ℕ) → v ≡ rest % 2 → Writing m number (rest / 2) (i + 1) (set now i v)
@@ -72,9 +65,6 @@ module _ {m number rest i : ℕ} {now : List ℕ} (l : number < 2 ^ m) (o : Writ
       ∙ append-nil (list_at m number)
 
 -- ---- one run
-
-pub low_of : {r : Ran} {code taken entries : ℕ} → r ≡ Closed code taken entries → LowCode r → code < 64
-low_of e l = rw e at l
 
 module _ {t sizes : List ℕ} {first node : ℕ} (w : Triable t sizes first node) where
   -- a code that a start gives is in K, and so below 64
@@ -103,27 +93,19 @@ module _ {t sizes : List ℕ} {first node : ℕ} (w : Triable t sizes first node
       let same : length (sets held first (zeros (node + 1 - first))) ≡ length held = length-sets held first (zeros (node + 1 - first)) in
       (w.runnable, record { within = w.countable.within; places = rw cleans (omega arith); marks = wide; lent = omega arith }, rw cleans (cleared held long))
 
-  pub run-low : {answers held held' marks marks' : List ℕ} {r : Ran} → Started t answers held held' marks marks' node 0 r → LowCode r
+  pub run-low : {answers held held' marks marks' : List ℕ} {r : Option Reaction} → Started t answers held held' marks marks' node 0 r → LowCode r
   run-low {answers} {held} {held'} {marks} {marks'} {r} o = go (start (first_at t node) (stmt_at t node) answers) r o (low answers)
     where
-      go : (x : Result) (r : Ran) → RanIs t answers (first_at t node) held held' marks marks' x r → ((k : ℕ) (u : List Entry) (h s : List ℕ) → x ≡ closed k u h s → k < 64) → LowCode r
+      go : (x : Result) (r : Option Reaction) → RanIs t answers (first_at t node) held held' marks marks' x r → ((k : ℕ) (u : List Entry) (h s : List ℕ) → x ≡ closed k u h s → k < 64) → LowCode r
       go x r (ran code taken trail h le es em) lo = lo code trail h (drop taken answers) refl
       go x r starves lo = tt
 
-  set_is : {answers held held' marks marks' : List ℕ} {f : ℕ} {x : Result} {r : Ran} → RanIs t answers f held held' marks marks' x r → code_set r ≡ word (completion x)
+  set_is : {answers held held' marks marks' : List ℕ} {f : ℕ} {x : Result} {r : Option Reaction} → RanIs t answers f held held' marks marks' x r → code_set r ≡ word (completion x)
   set_is (ran code taken trail h le es em) = singleton_word code
   set_is starves = sym (word-empty empty (λ k. refl))
 
-  pub run-returns : {answers held held' marks marks' : List ℕ} {s : ℕ} {r : Ran} → Started t answers held held' marks marks' node 0 r → s ≡ code_set r → s ≡ word (completion (start (first_at t node) (stmt_at t node) answers))
+  pub run-returns : {answers held held' marks marks' : List ℕ} {s : ℕ} {r : Option Reaction} → Started t answers held held' marks marks' node 0 r → s ≡ code_set r → s ≡ word (completion (start (first_at t node) (stmt_at t node) answers))
   run-returns o es = es ∙ set_is o
-
-  -- no run is starved of answers, so that the emissions are as long as they were
-  pub run-kept : {answers held held' marks marks' : List ℕ} {r : Ran} → length answers ≡ trial_answers → signals ≤ length marks → Started t answers held held' marks marks' node 0 r → signals ≤ length marks'
-  run-kept {answers} {held} {held'} {marks} {marks'} {r} many wide o = go (start (first_at t node) (stmt_at t node) answers) refl r o
-    where
-      go : (x : Result) → start (first_at t node) (stmt_at t node) answers ≡ x → (r : Ran) → RanIs t answers (first_at t node) held held' marks marks' x r → signals ≤ length marks'
-      go x e (Closed code taken entries) o = omega (arith, em_length o)
-      go x e Starved starves = absurd (omega (arith, takes_few.starves (stmt_at t node) (first_at t node) answers e, w.few))
 
 -- ---- all runs
 

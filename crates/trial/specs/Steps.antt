@@ -1,12 +1,11 @@
 -- What the functions beneath `trial` need and answer.
-use Rattle.std.specs.Prelude.{ℕ, ◌≤◌, ◌<◌, ◌≡◌, List}
+use Rattle.std.specs.Prelude.{ℕ, ◌≤◌, ◌<◌, ◌≡◌, List, Option, Some, None}
 use Rattle.codes.specs.Words.{singleton_of}
 use Rattle.esterel.specs.Statement.{size}
 use Rattle.table.specs.Program.{program_of, Readable}
 use Rattle.table.specs.Columns.{stmt_at, first_at}
 use Rattle.instant.specs.Run.{Runnable}
-use Rattle.instant.specs.declared.Ran.{Ran}
-use Rattle.instant.specs.declared.Ran.TheVariants.{Closed, Starved}
+use Rattle.instant.specs.declared.Reaction.{Reaction}
 use Rattle.starts.specs.Ticks.{presents}
 use Rattle.trial.specs.Trials.{trial_answers}
 
@@ -23,11 +22,11 @@ pub record Triable (t sizes : List ℕ) (first node : ℕ) : Type 0 where
   pub few : presents (stmt_at t node) ≤ trial_answers
 
 -- the code of a run as a set, if it closed
-abbrev pub code_set : Ran → ℕ
-code_set (Closed code taken entries) = singleton_of code
-code_set Starved = 0
+abbrev pub code_set : Option Reaction → ℕ
+code_set (Some r) = singleton_of r.code
+code_set None = 0
 
 -- which needs that it has a place in 64 bits
-abbrev pub LowCode : Ran → Type 0
-LowCode (Closed code taken entries) = code < 64
-LowCode Starved = Unit {0}
+abbrev pub LowCode : Option Reaction → Type 0
+LowCode (Some r) = r.code < 64
+LowCode None = Unit {0}

@@ -7,18 +7,17 @@ use Rattle.esterel.specs.Limits.{max_nodes}
 use Rattle.esterel.specs.Codes.{Represents}
 use Rattle.esterel.specs.Statement.{Stmt, size, nodes}
 use Rattle.esterel.specs.Sets.{start_set}
+use Rattle.esterel.specs.Refusal.{Reply, rejects}
 use Rattle.esterel.specs.Table.{passed, refused}
 use Rattle.esterel.specs.Checks.{verdict}
 use Rattle.esterel.specs.Instant.{Entry, closed, start}
 use Rattle.esterel.specs.Outcome.{statement_at}
-use Rattle.analysis.specs.Analysis.{Analysis}
-use Rattle.analysis.specs.declared.Analysed.TheVariants.{Done}
+use Rattle.analysis.specs.Analysis.{Analysis, done}
 use Rattle.starts.specs.Ticks.{Bits, presents}
 use Rattle.trial.specs.Lists.{lists, list_at}
 use Rattle.trial.specs.Trials.{tried, trial_answers}
-use Rattle.trial.specs.Calls.{tried_of}
+use Rattle.trial.specs.Calls.{tells, tried_of}
 use Rattle.trial.specs.declared.Tried.{Tried}
-use Rattle.trial.specs.declared.Tried.TheVariants.{Gathered, Refused}
 
 -- The lists are all that there are: 2 ^ m of m answers, each of 0 or 1, none twice, and every such list is among them. For 12 answers
 -- there are 4,096.
@@ -73,17 +72,17 @@ pub record Found (t : List ℕ) (node set count : ℕ) : Type 0 where
 pub record OfTrial : Type 0 where
   -- a node of an accepted table with at most 12 presents: the set is its start set
   pub gathered :
-      (t : List ℕ) (p : Stmt) (node : ℕ) (r : Tried) →
+      (t : List ℕ) (p : Stmt) (node : ℕ) (r : Reply Tried) →
       verdict t ≡ passed p → node < size p → presents (statement_at (nodes p) node) ≤ trial_answers → r ≡ tried_of (verdict t) node →
-      r ≡ Gathered (word (start_set (statement_at (nodes p) node))) (presents (statement_at (nodes p) node))
-  pub known : (t : List ℕ) (node set count : ℕ) → Gathered set count ≡ tried_of (verdict t) node → Found t node set count
+      r ≡ tells (word (start_set (statement_at (nodes p) node))) (presents (statement_at (nodes p) node))
+  pub known : (t : List ℕ) (node set count : ℕ) → tells set count ≡ tried_of (verdict t) node → Found t node set count
   -- it is the number that `analyse` leaves at the node, in whatever buffers
   pub as_listed :
       (t k a s m k' a' s' m' : List ℕ) (n d node set count : ℕ) →
-      Analysis t k a s m k' a' s' m' (Done n d) → Gathered set count ≡ tried_of (verdict t) node → (node < n) × (set ≡ get_or k' node 0)
-  pub refusals : (t : List ℕ) (node number at : ℕ) → Refused number at ≡ tried_of (verdict t) node → Refusal t node number at
-  pub of_table : (t : List ℕ) (node number at : ℕ) (r : Tried) → verdict t ≡ refused number at → r ≡ tried_of (verdict t) node → r ≡ Refused number at
-  pub outside : (t : List ℕ) (p : Stmt) (node : ℕ) (r : Tried) → verdict t ≡ passed p → size p ≤ node → r ≡ tried_of (verdict t) node → r ≡ Refused 21 0
+      Analysis t k a s m k' a' s' m' (done n d) → tells set count ≡ tried_of (verdict t) node → (node < n) × (set ≡ get_or k' node 0)
+  pub refusals : (t : List ℕ) (node number at : ℕ) → rejects number at ≡ tried_of (verdict t) node → Refusal t node number at
+  pub of_table : (t : List ℕ) (node number at : ℕ) (r : Reply Tried) → verdict t ≡ refused number at → r ≡ tried_of (verdict t) node → r ≡ rejects number at
+  pub outside : (t : List ℕ) (p : Stmt) (node : ℕ) (r : Reply Tried) → verdict t ≡ passed p → size p ≤ node → r ≡ tried_of (verdict t) node → r ≡ rejects 21 0
   pub too_many :
-      (t : List ℕ) (p : Stmt) (node : ℕ) (r : Tried) →
-      verdict t ≡ passed p → node < size p → trial_answers < presents (statement_at (nodes p) node) → r ≡ tried_of (verdict t) node → r ≡ Refused 22 0
+      (t : List ℕ) (p : Stmt) (node : ℕ) (r : Reply Tried) →
+      verdict t ≡ passed p → node < size p → trial_answers < presents (statement_at (nodes p) node) → r ≡ tried_of (verdict t) node → r ≡ rejects 22 0

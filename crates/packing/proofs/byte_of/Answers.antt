@@ -3,7 +3,7 @@ use Rattle.std.proofs.Common.{◌-◌, arith, slice_index_or}
 use Rattle.std.proofs.Math.Bool.{not}
 use Rattle.std.proofs.Math.Dec.{eqb}
 use Rattle.packing.proofs.Bits.{bit_le}
-use Rattle.packing.proofs.Bytes.{gather_begin, gather_lt, gather_next, gather_end}
+use Rattle.packing.proofs.Bytes.{gather_begin, gather_lt, gather_next}
 use Rattle.packing.proofs.byte_of.Goals as goal
 
 pub loop-i-init : goal.loop-i-init
@@ -20,6 +20,3 @@ overflow_add-byte c =
 
 pub loop-i-preserved : goal.loop-i-preserved
 loop-i-preserved c = gather_next c.args.bytes.now c.requires c.loop-i.invariant c.loop-i-test.true _ c.from.ensures
-
-pub returns : goal.returns
-returns c = gather_end c.args.bytes.now c.loop-i.invariant (omega arith)

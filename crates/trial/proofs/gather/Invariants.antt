@@ -1,5 +1,4 @@
-use Rattle.std.proofs.Common.{◌≡◌, ◌≤◌, length}
-use Rattle.esterel.specs.Limits.{signals}
+use Rattle.std.proofs.Common.{◌≡◌}
 use Rattle.esterel.specs.Instant.{start}
 use Rattle.table.specs.Columns.{stmt_at, first_at}
 use Rattle.trial.specs.Trials.{trial_answers}
@@ -8,5 +7,4 @@ use Rattle.trial.proofs.gather.Given as goal
 
 -- the codes of the lists before `number` are gathered
 abbrev pub invariant-loop-number : goal.invariant-loop-number
-invariant-loop-number l =
-    (signals ≤ length l.emissions) × (l.set ≡ gathered_to (start (first_at l.table l.node) (stmt_at l.table l.node)) trial_answers l.number)
+invariant-loop-number l = l.set ≡ gathered_to (start (first_at l.table l.node) (stmt_at l.table l.node)) trial_answers l.number

@@ -1,34 +1,31 @@
--- All nodes before `i` fit: proofs/Admits.antt.
-use Rattle.std.proofs.Common.{sym, ◌∙◌, arith}
+-- All nodes fit: proofs/Admits.antt.
+use Rattle.std.proofs.Common.{refl, ap, ◌∙◌, ◌/◌, not, length, arith, rules, tests}
+use Rattle.std.proofs.lemmas.Iterator.{serves_from_Range, YieldsList-from_range}
+use Rattle.std.proofs.lemmas.Iterator.Search.{all_from_yields_List}
+use borrow.Author.Tests.{eq-eqb}
+use Rattle.esterel.specs.Statement.{nodes}
 use Rattle.table.specs.Program.{program_of}
 use Rattle.table.proofs.Bytes.{table-length}
-use Rattle.instant.proofs.Admits.{fits_next, not-admitted, nothing-held, is-admitted}
+use Rattle.instant.specs.Admission.{node_fits}
+use Rattle.instant.proofs.Admits.{nothing-held, all-fit}
 use Rattle.instant.proofs.admission.check_nodes.Goals as goal
 
 pub bounds-counts-n : goal.bounds-counts-n
-bounds-counts-n c = let nodes = table-length c.args.table.now c.requires.0.readable in omega (arith, c.requires.2.long)
+bounds-counts-n c = let many = table-length c.args.table.now c.requires.0.readable in omega (arith, c.requires.2.long)
 
-pub returns-then-counts-n-eq0 : goal.returns-then-counts-n-eq0
-returns-then-counts-n-eq0 c =
-    let nodes = table-length c.args.table.now c.requires.0.readable in
-    nothing-held (program_of c.args.table.now) c.args.held.now c.requires.1 c.requires.2 (omega arith) c.if-counts-n-eq0.true
+pub all-requires-clause-callable : goal.all-requires-clause-callable
+all-requires-clause-callable c =
+    let many = table-length c.args.table.now c.requires.0.readable in
+    serves_from_Range (λ x q k. search (rules, tests)) (λ x low high l p g e r f a b d h k. (c.requires.0, omega arith, c.requires.1, c.requires.2))
 
-pub node_fits-requires : goal.node_fits-requires
-node_fits-requires c =
-    let nodes = table-length c.args.table.now c.requires.0.readable in
-    (c.requires.0, omega arith, c.requires.1, c.requires.2)
+pub returns-then-counts-n-ne0 : goal.returns-then-counts-n-ne0
+returns-then-counts-n-ne0 c =
+    let many = table-length c.args.table.now c.requires.0.readable in
+    all-fit (program_of c.args.table.now) c.args.held.now c.requires.1 c.requires.2 (omega arith) c.if-counts-n-ne0.true
+    (all_from_yields_List (node_fits (nodes (program_of c.args.table.now)) c.args.held.now) _ _ _ c.all.ensures.ran (YieldsList-from_range 0 (length c.args.table.now / 2) (length c.args.table.now / 2) refl (omega arith)) (λ x b q k. search (rules, tests)))
 
-pub returns-then-not-node_fits : goal.returns-then-not-node_fits
-returns-then-not-node_fits c =
-    let nodes = table-length c.args.table.now c.requires.0.readable in
-    not-admitted (program_of c.args.table.now) c.args.held.now c.requires.1 c.loop-i.i (omega arith) (sym c.node_fits.ensures ∙ c.if-not-node_fits.true)
-
-pub loop-i-preserved : goal.loop-i-preserved
-loop-i-preserved c =
-    let nodes = table-length c.args.table.now c.requires.0.readable in
-    fits_next c.loop-i.invariant (omega arith) (sym c.node_fits.ensures ∙ c.if-not-node_fits.false)
-
-pub returns : goal.returns
-returns c =
-    let nodes = table-length c.args.table.now c.requires.0.readable in
-    is-admitted (program_of c.args.table.now) c.args.held.now c.requires.1 c.requires.2 (omega arith) c.if-counts-n-eq0.false c.loop-i.invariant (omega arith)
+pub returns-else-counts-n-ne0 : goal.returns-else-counts-n-ne0
+returns-else-counts-n-ne0 c =
+    let many = table-length c.args.table.now c.requires.0.readable in
+    ap not (eq-eqb _ 0 c.if-counts-n-ne0.false)
+    ∙ nothing-held (program_of c.args.table.now) c.args.held.now c.requires.1 c.requires.2 (omega arith) c.if-counts-n-ne0.false
