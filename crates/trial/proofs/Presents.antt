@@ -16,7 +16,7 @@ use Rattle.esterel.proofs.Subtrees.{subtrees}
 use Rattle.table.specs.Kinds.{kind_of, is_present}
 use Rattle.table.specs.Program.{program_of, Readable}
 use Rattle.table.specs.Columns.{stmt_at, first_at}
-use Rattle.table.proofs.Bytes.{kind_byte, table-length}
+use Rattle.table.proofs.Bytes.{kind_byte}
 use Rattle.table.proofs.Said.{bit-small}
 use Rattle.table.proofs.Surveying.{few-nodes as few-in}
 use Rattle.table.proofs.Views.{spans}

@@ -1,5 +1,5 @@
 -- The nodes that are counted are the statement's presents: proofs/Presents.antt.
-use Rattle.std.proofs.Common.{refl, ◌∙◌, ◌+◌, ap, arith, length, rules, tests}
+use Rattle.std.proofs.Common.{refl, ◌∙◌, ◌+◌, ap, arith, rules, tests}
 use Rattle.std.proofs.lemmas.Iterator.{serves_from_Range, YieldsList-from_range}
 use Rattle.std.proofs.lemmas.Iterator.Consumers.{count_from_yields_List, YieldsList-from_filter}
 use Rattle.esterel.specs.Statement.{size}
