@@ -1,21 +1,10 @@
 -- The nodes that are counted are the statement's presents: proofs/Presents.antt.
-use Rattle.std.proofs.Common.{refl, ◌∙◌, ◌+◌, ap, arith, rules, tests}
-use Rattle.std.proofs.lemmas.Iterator.{serves_from_Range, YieldsList-from_range}
+use Rattle.std.proofs.Common.{refl, ◌∙◌, ◌+◌, rules, tests}
+use Rattle.std.proofs.lemmas.Iterator.{YieldsList-from_range}
 use Rattle.std.proofs.lemmas.Iterator.Consumers.{count_from_yields_List, YieldsList-from_filter}
-use Rattle.esterel.specs.Statement.{size}
-use Rattle.table.specs.Program.{program_of}
 use Rattle.table.proofs.Trees.{readable}
-use Rattle.trial.proofs.Presents.{is_present_at, few-nodes, presents_are}
+use Rattle.trial.proofs.Presents.{is_present_at, presents_are}
 use Rattle.trial.proofs.count_presents.Goals as goal
-
-pub overflow_add-node : goal.overflow_add-node
-overflow_add-node c = let few = few-nodes (readable c.args.tree.now.tree) c.requires in omega arith
-
-pub count-requires-clause-can : goal.count-requires-clause-can
-count-requires-clause-can c =
-    let end = ap (λ r. r.end) c.filter.ensures.source in
-    let same = ap (λ p. size (program_of p.0.now.table.now)) c.filter.ensures.closure in
-    (tt, tt, serves_from_Range (λ x q k. search (rules, tests)) (λ x low high y e _ _ _ _ _ _. omega (arith, c.requires.within)))
 
 pub returns : goal.returns
 returns c =
