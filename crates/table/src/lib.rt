@@ -175,8 +175,8 @@ struct Nesting {
     waiting: usize,
 }
 
-// The lowest node of those seen so far at which check 8, 9 and 10 fails, or MAX_NODES. Numbers: with options, which was tried, the checks
-// of a call take an eighth more instructions.
+// The lowest node of those seen so far at which check 8, 9 and 10 fails, or MAX_NODES. Options, which were tried, take an eighth more
+// instructions for the checks of every call; the calls are to stay as fast as they were, to a fiftieth.
 #[derive(Drop)]
 struct Faults {
     depths: usize,
