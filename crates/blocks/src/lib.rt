@@ -63,8 +63,7 @@ fn all_zero(bytes: &[u8]) -> bool
 }
 
 // Whether a block is good: its check bytes, its used length and its filler.
-fn is_good(block: &[u8]) -> bool
-    requires { length block.now ≡ block_size }
+fn is_good(block: &[u8; BLOCK]) -> bool
     ensures { result ≡ good_of block.now }
 {
     let sums = sum_bytes(&block[0..CHECKS_AT]);
@@ -85,8 +84,7 @@ fn is_good(block: &[u8]) -> bool
 }
 
 // Whether a block is a good one of the program; one of another program is not summed.
-fn is_usable(block: &[u8], program: u16) -> bool
-    requires { length block.now ≡ block_size }
+fn is_usable(block: &[u8; BLOCK], program: u16) -> bool
     ensures { result ≡ usable program block.now }
 {
     if word(block, 0) != program {
@@ -96,16 +94,14 @@ fn is_usable(block: &[u8], program: u16) -> bool
 }
 
 // Whether a block is for an edition and a part.
-fn is_part(block: &[u8], edition: u16, number: u8) -> bool
-    requires { length block.now ≡ block_size }
+fn is_part(block: &[u8; BLOCK], edition: u16, number: u8) -> bool
     ensures { result ≡ is_part edition number block.now }
 {
     (word(block, 2) == edition) & (block[4] == number)
 }
 
 // Whether a block is a good one for a program, an edition and a part; one for another is not summed.
-fn is_good_for(block: &[u8], program: u16, edition: u16, number: u8) -> bool
-    requires { length block.now ≡ block_size }
+fn is_good_for(block: &[u8; BLOCK], program: u16, edition: u16, number: u8) -> bool
     ensures { result ≡ is_good_for program edition number block.now }
 {
     if !is_part(block, edition, number) {
@@ -121,12 +117,11 @@ fn fits(file: &[u8]) -> bool
     (file.len() % BLOCK == 0) & (file.len() <= MAX_BLOCKS * BLOCK)
 }
 
-fn block_at(file: &[u8], i: usize) -> &[u8]
+fn block_at(file: &[u8], i: usize) -> &[u8; BLOCK]
     requires { block_size * i + block_size ≤ length file.now }
-    ensures { (result.now ≡ block_at file.now i) × (length result.now ≡ block_size) }
+    ensures { result.now ≡ block_at file.now i }
 {
-    let at = BLOCK * i;
-    &file[at..at + BLOCK]
+    file[BLOCK * i..].first_chunk().unwrap()
 }
 
 // A part of the file.
