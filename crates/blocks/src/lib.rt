@@ -24,7 +24,7 @@ const MAX_BLOCKS: usize = 64;
 // The longest table.
 const MAX_TABLE: usize = 2 * esterel::MAX_NODES;
 
-// Two bytes, lowest first.
+// Two bytes, lowest first. No plainer as one function with the programs' `input::word_at`: no crate lies below both.
 fn word(block: &[u8], at: usize) -> u16
     requires { at + 1 < length block.now }
     ensures { result ≡ word_of block.now at }
@@ -32,7 +32,7 @@ fn word(block: &[u8], at: usize) -> u16
     u16::from_le_bytes([block[at], block[at + 1]])
 }
 
-// The two check bytes of some bytes.
+// The two sums of some bytes, reduced to check bytes.
 #[derive(Drop)]
 struct Sums {
     first: u32,
@@ -97,7 +97,7 @@ fn is_usable(block: &[u8; BLOCK], program: u16) -> bool
 fn is_part(block: &[u8; BLOCK], edition: u16, number: u8) -> bool
     ensures { result ≡ is_part edition number block.now }
 {
-    (word(block, 2) == edition) & (block[4] == number)
+    word(block, 2) == edition && block[4] == number
 }
 
 // Whether a block is a good one for a program, an edition and a part; one for another is not summed.
@@ -114,7 +114,7 @@ fn is_good_for(block: &[u8; BLOCK], program: u16, edition: u16, number: u8) -> b
 fn fits(file: &[u8]) -> bool
     ensures { result ≡ file_fits file.now }
 {
-    (file.len() % BLOCK == 0) & (file.len() <= MAX_BLOCKS * BLOCK)
+    file.len() % BLOCK == 0 && file.len() <= MAX_BLOCKS * BLOCK
 }
 
 fn block_at(file: &[u8], i: usize) -> &[u8; BLOCK]
@@ -172,8 +172,8 @@ fn is_higher(edition: u16, best: Option<Fetched>) -> bool
     }
 }
 
-// Copies some bytes to the front of others that have room for them; how many they are. No plainer in `join` itself: the library's copy speaks of
-// two parts of one length, and this contract of what stays behind the bytes.
+// Copies some bytes to the front of others that have room for them; how many they are. No plainer in `join` itself: the library's
+// copy speaks of two parts of one length, and this contract of what stays behind the bytes.
 fn copy(from: &[u8], to: &mut [u8]) -> usize
     requires { length from.now ≤ length to.old }
     ensures { (result ≡ length from.now) × (to.new ≡ from.now ++ drop (length from.now) to.old) }
