@@ -58,7 +58,7 @@ fn write_answer<W: Write>(writer: &mut W, answer: Result<Reaction, Refusal>) -> 
                 entries,
             },
         ) => write!(writer, "closed {code} {taken} {entries}"),
-        Err(refusal) => output::write_refusal(writer, refusal),
+        Err(refusal) => output::write_refusal(writer, refusal.check as u8, refusal.node),
     }
 }
 

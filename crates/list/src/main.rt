@@ -24,5 +24,11 @@ fn main(rt: HostRuntime) -> ExitCode {
     // One byte more than a table may have decides refusal 1, so no more is read.
     let mut buffer = [0u8; 2 * esterel::MAX_NODES + 1];
     let mut text = [0u8; listing::MAX_TEXT];
-    program::run::<{ listing::MAX_TEXT }, Listing>(&rt, "list", &mut buffer, &mut text)
+    program::run::<{ listing::MAX_TEXT }, Listing>(
+        &rt,
+        "list: standard input",
+        "list: standard output",
+        &mut buffer,
+        &mut text,
+    )
 }

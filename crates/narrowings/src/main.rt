@@ -42,7 +42,7 @@ fn run_case<R: Read, W: Write>(
             nodes
         }
         Err(refusal) => {
-            output::write_refusal(writer, refusal)?;
+            output::write_refusal(writer, refusal.check as u8, refusal.node)?;
             0
         }
     };

@@ -6,7 +6,6 @@ ghost use Rattle.std.specs.Prelude.{◌≡◌, ◌+◌, ◌%◌, ◌<◌, OnOk};
 ghost use Rattle.std.specs.Io.KnownBytes.{Appends};
 ghost use Rattle.output.specs.Lines.{line_end};
 
-use esterel::Refusal;
 use std::io;
 use std::io::Write;
 use std::process::ExitCode;
@@ -83,13 +82,16 @@ pub fn write_hex<W: Write>(writer: &mut W, bytes: &[u8]) -> io::Result<()> {
     writer.write_all(&text[..2 * bytes.len()])
 }
 
-// The word and the two figures of a refusal.
-pub fn write_refusal<W: Write>(writer: &mut W, refusal: Refusal) -> io::Result<()> {
-    write!(writer, "refused {} {}", refusal.check as u8, refusal.node)
+// The word and the two figures of a refusal, of any number.
+pub fn write_refusal<W: Write>(writer: &mut W, number: u8, node: usize) -> io::Result<()> {
+    write!(writer, "refused {number} {node}")
 }
 
 // Says on standard error what could not be done, and the system's reason, and answers the status that the program ends with.
-pub fn tell_failure<E: Eprint>(rt: &E, program: &str, what: &str, reason: io::Error) -> ExitCode {
-    let _ = eprintln!(rt; "{program}: {what}: {reason}");
+pub fn tell_failure<E: Eprint>(rt: &E, what: &str, reason: Option<io::Error>) -> ExitCode {
+    let _ = match reason {
+        Some(e) => eprintln!(rt; "{what}: {e}"),
+        None => eprintln!(rt; "{what}"),
+    };
     ExitCode::FAILURE
 }

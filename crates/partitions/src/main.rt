@@ -48,7 +48,7 @@ fn run_fetch<W: Write>(
             length
         }
         Err(refusal) => {
-            output::write_refusal(writer, refusal)?;
+            output::write_refusal(writer, refusal.check as u8, refusal.node)?;
             0
         }
     };

@@ -36,10 +36,11 @@ pub fn show_input<const N: usize, T: Text<N>, R: Read>(
     Ok(T::render(&buffer[..read], text))
 }
 
-// The program of that name: shows standard input on standard output, and says what could not be read or written.
+// A program that shows standard input on standard output. By these names it tells which of them could not be read or written.
 pub fn run<const N: usize, T: Text<N>>(
     rt: &HostRuntime,
-    name: &str,
+    source: &str,
+    sink: &str,
     buffer: &mut [u8],
     text: &mut [u8; N],
 ) -> ExitCode
@@ -49,8 +50,8 @@ pub fn run<const N: usize, T: Text<N>>(
     match show_input::<N, T, _>(&mut rt.stdin(), buffer, text) {
         Ok(end) => match rt.stdout().write_all(&text[..end]) {
             Ok(()) => ExitCode::SUCCESS,
-            Err(e) => output::tell_failure(rt, name, "standard output", e),
+            Err(e) => output::tell_failure(rt, sink, Some(e)),
         },
-        Err(e) => output::tell_failure(rt, name, "standard input", e),
+        Err(e) => output::tell_failure(rt, source, Some(e)),
     }
 }

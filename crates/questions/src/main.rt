@@ -21,7 +21,7 @@ fn run_case<R: Read, W: Write>(
     match question::ask(table, node, code) {
         Ok(asked) => writeln!(writer, "known {} {}", u8::from(asked.answer), asked.count),
         Err(refusal) => {
-            output::write_refusal(writer, refusal)?;
+            output::write_refusal(writer, refusal.check as u8, refusal.node)?;
             writeln!(writer)
         }
     }

@@ -20,7 +20,7 @@ fn read_one<W: Write>(writer: &mut W, text: &[u8]) -> io::Result<()> {
             writeln!(writer)
         }
         Err(fault) => {
-            output::write_refusal(writer, fault.refusal)?;
+            output::write_refusal(writer, fault.refusal.check as u8, fault.refusal.node)?;
             writeln!(writer, " {}", fault.place)
         }
     }

@@ -65,12 +65,12 @@ fn main(rt: HostRuntime) -> ExitCode {
     let mut table = [0u8; 2 * esterel::MAX_NODES];
     let read = match translate_input(&mut rt.stdin(), &mut buffer, &mut table) {
         Ok(read) => read,
-        Err(e) => return output::tell_failure(&rt, "translate", "standard input", e),
+        Err(e) => return output::tell_failure(&rt, "translate: standard input", Some(e)),
     };
     match read {
         Ok(reading) => match rt.stdout().write_all(&table[..2 * reading.nodes]) {
             Ok(()) => ExitCode::SUCCESS,
-            Err(e) => output::tell_failure(&rt, "translate", "standard output", e),
+            Err(e) => output::tell_failure(&rt, "translate: standard output", Some(e)),
         },
         Err(fault) => {
             tell_fault(&mut rt.stderr(), &buffer, fault);

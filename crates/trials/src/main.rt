@@ -20,7 +20,7 @@ fn run_case<R: Read, W: Write>(
     match trial::trial(table, node) {
         Ok(tried) => writeln!(writer, "tried {} {}", tried.set, tried.presents),
         Err(refusal) => {
-            output::write_refusal(writer, refusal)?;
+            output::write_refusal(writer, refusal.check as u8, refusal.node)?;
             writeln!(writer)
         }
     }
