@@ -8,15 +8,6 @@ use Rattle.table.proofs.Trees.{readable}
 use Rattle.trial.proofs.Presents.{is_present_at, few-nodes, presents_are}
 use Rattle.trial.proofs.count_presents.Goals as goal
 
-pub overflow_add-node : goal.overflow_add-node
-overflow_add-node c = let few = few-nodes (readable c.args.tree.now.tree) c.requires in omega arith
-
-pub count-requires-clause-can : goal.count-requires-clause-can
-count-requires-clause-can c =
-    let end = ap (λ r. r.end) c.filter.ensures.source in
-    let same = ap (λ p. size (program_of p.0.now.table.now)) c.filter.ensures.closure in
-    (tt, tt, serves_from_Range (λ x q k. search (rules, tests)) (λ x low high y e _ _ _ _ _ _. omega (arith, c.requires.within)))
-
 pub returns : goal.returns
 returns c =
     count_from_yields_List _ _ c.count.ensures.ran

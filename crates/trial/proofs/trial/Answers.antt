@@ -13,18 +13,9 @@ returns-then-nodes-node c = outside c.args.node c.in_ok-tree.ensures c.nodes.ens
 pub overflow_sub-first : goal.overflow_sub-first
 overflow_sub-first c = size_fits c.args.node c.in_ok-tree.ensures c.nodes.ensures c.if-nodes-node.false c.size.ensures
 
-pub count_presents-presents-requires : goal.count_presents-presents-requires
-count_presents-presents-requires c =
-    countable c.args.node c.in_ok-tree.ensures c.nodes.ensures c.if-nodes-node.false (first-is c.args.node c.in_ok-tree.ensures c.nodes.ensures c.if-nodes-node.false c.size.ensures)
-
 pub returns-then-presents-gt-ANSWERS : goal.returns-then-presents-gt-ANSWERS
 returns-then-presents-gt-ANSWERS c =
     too_many c.args.node c.in_ok-tree.ensures c.nodes.ensures c.if-nodes-node.false c.count_presents-presents.ensures c.if-presents-gt-ANSWERS.true
-
-pub gather-set-requires : goal.gather-set-requires
-gather-set-requires c =
-    triable c.args.node c.in_ok-tree.ensures c.nodes.ensures c.if-nodes-node.false (first-is c.args.node c.in_ok-tree.ensures c.nodes.ensures c.if-nodes-node.false c.size.ensures)
-    c.count_presents-presents.ensures c.if-presents-gt-ANSWERS.false
 
 pub returns : goal.returns
 returns c =
