@@ -1,11 +1,9 @@
 -- The nodes that are counted are the statement's presents: proofs/Presents.antt.
-use Rattle.std.proofs.Common.{refl, ◌∙◌, ◌+◌, ap, arith, rules, tests}
-use Rattle.std.proofs.lemmas.Iterator.{serves_from_Range, YieldsList-from_range}
+use Rattle.std.proofs.Common.{refl, ◌∙◌, ◌+◌, rules, tests}
+use Rattle.std.proofs.lemmas.Iterator.{YieldsList-from_range}
 use Rattle.std.proofs.lemmas.Iterator.Consumers.{count_from_yields_List, YieldsList-from_filter}
-use Rattle.esterel.specs.Statement.{size}
-use Rattle.table.specs.Program.{program_of}
 use Rattle.table.proofs.Trees.{readable}
-use Rattle.trial.proofs.Presents.{is_present_at, few-nodes, presents_are}
+use Rattle.trial.proofs.Presents.{is_present_at, presents_are}
 use Rattle.trial.proofs.count_presents.Goals as goal
 
 pub returns : goal.returns

@@ -1,7 +1,7 @@
 -- One law for each return: proofs/Calling.antt.
 use Rattle.std.proofs.Common.{◌∙◌}
 use Rattle.esterel.proofs.Replies.{handed}
-use Rattle.trial.proofs.Calling.{table-refused, outside, size_fits, first-is, countable, triable, too_many, found}
+use Rattle.trial.proofs.Calling.{table-refused, outside, size_fits, too_many, found}
 use Rattle.trial.proofs.trial.Goals as goal
 
 pub returns-in_err-tree : goal.returns-in_err-tree
