@@ -1,9 +1,9 @@
 -- The greatest number in the row of an accepted program, and one lemma for each return of `most_entries` and `find_longest`.
 use mathlib.Core.Path.{◌≡◌, refl, sym, ap, ap₂, subst, ◌∙◌}
-use mathlib.Core.Bool.{true}
+use mathlib.Core.Bool.{Bool, true}
 use mathlib.Core.Option.{Option, none, some}
 use mathlib.Core.List.{List}
-use Prim.Native.Nat.{ℕ, zero, suc, ◌+◌, ◌-◌, ◌/◌, ◌≤◌, max}
+use Prim.Native.Nat.{ℕ, zero, suc, ◌+◌, ◌-◌, ◌≤◌, max}
 use native.Mathlib.Omega.{arith}
 use borrow.Author.Tests.{leb-true}
 use lib.Dec.{leb}
@@ -12,10 +12,10 @@ use lib.Seq.{sets}
 use Rattle.esterel.specs.Limits.{max_nodes}
 use Rattle.esterel.specs.Statement.{Stmt, size, nodes}
 use Rattle.esterel.specs.Table.{passed}
-use Rattle.esterel.specs.Refusal.{yields, rejects}
+use Rattle.esterel.specs.Refusal.{Reply, yields, rejects}
 use Rattle.esterel.specs.Checks.{verdict}
 use Rattle.esterel.specs.Outcome.{statement_at}
-use Rattle.esterel.specs.Theorems.{Accepted, Closed}
+use Rattle.esterel.specs.Theorems.{WellFormed, Accepted, Closed}
 use Rattle.esterel.proofs.Accepted.{acceptance}
 use Rattle.esterel.proofs.Nodes.{last-node}
 use Rattle.esterel.proofs.Sizes.{size_pos}
@@ -24,8 +24,9 @@ use Rattle.table.specs.Program.{program_of}
 use Rattle.table.specs.Columns.{stmt_at}
 use Rattle.table.proofs.Buffers.{sets-front}
 use Rattle.analysis.specs.Passes.{Placed}
-use Rattle.analysis.specs.Analysis.{TableChecked, Sized, SizesChecked}
-use Rattle.analysis.proofs.Analyses.{table-refused, ready, table-passed, verdict-refused, nodes-are}
+use Rattle.table.specs.declared.Tree.{Tree}
+use Rattle.analysis.specs.Analysis.{TableChecked, Sized, TreeChecked}
+use Rattle.analysis.proofs.Analyses.{table-refused, ready, table-passed, verdict-refused}
 use Rattle.analysis.proofs.Nodes.{well_formed_lem}
 use Rattle.analysis.proofs.Theorems.{checked-room, checked-passed}
 use Rattle.starts.specs.declared.Weight.TheVariants.{Entries}
@@ -39,11 +40,12 @@ use Rattle.starts.proofs.Theorems.{few-tests, codes-below}
 use Rattle.starts.proofs.Entries.{first_tick, composed}
 use Rattle.rows.specs.Rows.{value_of, values_of, Holds}
 use Rattle.rows.specs.declared.Row.{Row}
-use Rattle.rows.specs.Filled.{Formed, numbers_at, RowsTo}
+use Rattle.rows.specs.Filled.{numbers_at, RowsTo}
 use Rattle.rows.proofs.Said.{row_low}
 use Rattle.walk.specs.declared.Walked.{Walked}
 use Rattle.walk.specs.declared.Ground.{Ground}
 use Rattle.walk.specs.Walks.{Walking, Walks}
+use Rattle.planning.specs.declared.Longest.{Longest}
 use Rattle.planning.specs.Rows.{larger01, top_of, Tops, AnyCode}
 use Rattle.planning.specs.Planning.{Plans, reaches, Hands}
 
@@ -126,70 +128,66 @@ any-is =
 
 -- ---- find_longest
 
-pub refused-hands : (old : List ℕ) {t sizes : List ℕ} {number node : ℕ} → SizesChecked (leb tick_answers (length old)) t sizes (rejects number node) → Hands t old old (rejects number node)
+pub refused-hands : (old : List ℕ) {t : List ℕ} {number node : ℕ} → TreeChecked (leb tick_answers (length old)) t (rejects number node) → Hands t old old (rejects number node)
 refused-hands old o = Hands.refuses _ _ (verdict-refused _ _ _ o.answer) refl refl
 
-module _ (old : List ℕ) {t sizes : List ℕ} (o : SizesChecked (leb tick_answers (length old)) t sizes (yields tt)) where
-  sized : Sized (leb tick_answers (length old)) t sizes
-  sized = o.sized refl
+-- of a tree that is handed out: what was checked is its table
+pub own : {room : Bool} {t : List ℕ} {x : Tree} → TreeChecked room t (yields x) → Sized room x.table.now x.sizes.now
+own {room} {x = x} o = subst (λ u. Sized room u x.sizes.now) (sym (o.same x refl)) (o.sized x refl)
 
+pub as_lent : {t u old new : List ℕ} {r : Reply Longest} → u ≡ t → Hands u old new r → Hands t old new r
+as_lent {old = old} {new = new} {r = r} e o = subst (λ x. Hands x old new r) e o
+
+module _ (old : List ℕ) {t sizes : List ℕ} (o : Sized (leb tick_answers (length old)) t sizes) where
   accepts : Accepted (program_of t)
-  accepts = (acceptance t (program_of t) (checked-passed _ t (program_of t) sized.verdict)).1
+  accepts = (acceptance t (program_of t) (checked-passed _ t (program_of t) o.verdict)).1
 
-  count : length t / 2 ≡ size (program_of t)
-  count = nodes-are sized.ready
-
-  pub formed : Formed t sizes
-  formed = record { well_formed = well_formed_lem sized.ready.placed; measured = sized.measured }
-
-  pub all-nodes : length t / 2 ≤ size (program_of t)
-  all-nodes = omega (arith, count)
-
-  pub some-node : 1 ≤ length t / 2
-  some-node = omega (arith, count, size_pos (program_of t))
-
-  pub few-nodes : length t / 2 ≤ max_nodes
-  few-nodes = omega (arith, count, sized.few)
-
-  pub last-is : stmt_at t (length t / 2 - 1) ≡ program_of t
-  last-is = ap (λ i. statement_at (nodes (program_of t)) (i - 1)) count ∙ last-node (program_of t)
+  pub well_formed : WellFormed t (program_of t)
+  well_formed = well_formed_lem o.ready.placed
 
   few-presents : presents (program_of t) ≤ 511
-  few-presents = omega (arith, few-tests (program_of t), sized.few)
+  few-presents = omega (arith, few-tests (program_of t), o.few)
 
   room : tick_answers ≤ length old
-  room = leb-true tick_answers (length old) sized.suffices
+  room = leb-true tick_answers (length old) o.suffices
 
-  module _ {rows : List Row} (done : RowsTo Entries t (length t / 2) rows) where
-    says : Holds (most_entries (program_of t)) (numbers_at rows (length t / 2 - 1))
-    says = subst (λ p. Holds (most_entries p) (numbers_at rows (length t / 2 - 1))) last-is (done.at (length t / 2 - 1) (omega (arith, some-node)))
+  module _ {n : ℕ} (count : n ≡ size (program_of t)) where
+    pub some-node : 1 ≤ n
+    some-node = omega (arith, count, size_pos (program_of t))
 
-    pub last_tops : Tops (numbers_at rows (length t / 2 - 1))
-    last_tops = tops (program_of t) accepts says
+    last-is : stmt_at t (n - 1) ≡ program_of t
+    last-is = ap (λ i. statement_at (nodes (program_of t)) (i - 1)) count ∙ last-node (program_of t)
 
-    pub handed : {need new : List ℕ} {x : Walked} {n : ℕ} → AnyCode need → n ≡ top_of (numbers_at rows (length t / 2 - 1)) → Walks Entries (stmt_at t (length t / 2 - 1)) need old new 0 x → Hands t old new (reaches n x.at)
-    handed {need} {new} {x} {n} g en w =
-        let p = program_of t in
-        let below : Below 63 p = subst (Below 63) last-is (codes-below formed.well_formed (length t / 2 - 1)) in
-        let same : walk Entries 63 (stmt_at t (length t / 2 - 1)) (values_of need) ≡ walk Entries 63 p any_code = ap (λ q. walk Entries 63 q (values_of need)) last-is ∙ walk_agree Entries 63 p below (values_of need) any_code (λ k h. g.holds.at k (omega arith)) in
-        let list = answers_of (walk Entries 63 p any_code) in
-        let y = top_of_lem p (numbers_at rows (length t / 2 - 1)) accepts says in
-        let entries : n ≡ y.most = omega (arith, y.is) in
-        let long : x.at ≡ length list = (let k : 0 + length list ≡ length list = omega arith in w.after ∙ ap (λ v. 0 + length (answers_of v)) same ∙ k) in
-        Hands.hands p y.most list sized.verdict y.greatest (composed.found 63 p below y.most y.greatest) (ap₂ reaches entries long)
-        (w.written ∙ ap (λ v. sets old 0 (answers_of v)) same ∙ sets-front list old (omega (arith, walk-short Entries 63 p any_code, few-presents, room)))
+    module _ {rows : List Row} (done : RowsTo Entries t n rows) where
+      says : Holds (most_entries (program_of t)) (numbers_at rows (n - 1))
+      says = subst (λ p. Holds (most_entries p) (numbers_at rows (n - 1))) last-is (done.at (n - 1) (omega (arith, some-node)))
+
+      pub last_tops : Tops (numbers_at rows (n - 1))
+      last_tops = tops (program_of t) accepts says
+
+      pub handed : {need new : List ℕ} {x : Walked} {m : ℕ} → AnyCode need → m ≡ top_of (numbers_at rows (n - 1)) → Walks Entries (stmt_at t (n - 1)) need old new 0 x → Hands t old new (reaches m x.at)
+      handed {need} {new} {x} {m} g em w =
+          let p = program_of t in
+          let below : Below 63 p = subst (Below 63) last-is (codes-below well_formed (n - 1)) in
+          let same : walk Entries 63 (stmt_at t (n - 1)) (values_of need) ≡ walk Entries 63 p any_code = ap (λ q. walk Entries 63 q (values_of need)) last-is ∙ walk_agree Entries 63 p below (values_of need) any_code (λ k h. g.holds.at k (omega arith)) in
+          let list = answers_of (walk Entries 63 p any_code) in
+          let y = top_of_lem p (numbers_at rows (n - 1)) accepts says in
+          let entries : m ≡ y.most = omega (arith, y.is) in
+          let long : x.at ≡ length list = (let k : 0 + length list ≡ length list = omega arith in w.after ∙ ap (λ v. 0 + length (answers_of v)) same ∙ k) in
+          Hands.hands p y.most list o.verdict y.greatest (composed.found 63 p below y.most y.greatest) (ap₂ reaches entries long)
+          (w.written ∙ ap (λ v. sets old 0 (answers_of v)) same ∙ sets-front list old (omega (arith, walk-short Entries 63 p any_code, few-presents, room)))
 
 -- the walk over that ground begins at the whole program
-pub walking : {g : Ground} {need old : List ℕ} → g.weight ≡ Entries → SizesChecked (leb tick_answers (length old)) g.table.now g.sizes.now (yields tt) → RowsTo Entries g.table.now (length g.table.now / 2) g.rows.now → AnyCode need → Walking g need old (length g.table.now / 2 - 1) 0
-walking {g} {need} {old} w o done will =
+pub walking : {g : Ground} {need old : List ℕ} {n : ℕ} → g.weight ≡ Entries → Sized (leb tick_answers (length old)) g.tree.table.now g.tree.sizes.now → n ≡ size (program_of g.tree.table.now) → RowsTo Entries g.tree.table.now n g.rows.now → AnyCode need → Walking g need old (n - 1) 0
+walking {g} {need} {old} {n} w o count done will =
     record {
-      formed = formed old o;
-      top = length g.table.now / 2;
-      within = omega (arith, some-node old o);
-      known = all-nodes old o;
-      filled = subst (λ x. RowsTo x g.table.now (length g.table.now / 2) g.rows.now) (sym w) done;
+      well_formed = well_formed old o;
+      top = n;
+      within = omega (arith, some-node old o count);
+      known = omega (arith, count);
+      filled = subst (λ x. RowsTo x g.tree.table.now n g.rows.now) (sym w) done;
       most = 0;
       low = will.low;
-      few = subst (λ p. 0 + size p ≤ max_nodes) (sym (last-is old o)) (omega (arith, (o.sized refl).few));
-      room = subst (λ p. 0 + presents p ≤ length old) (sym (last-is old o)) (omega (arith, few-tests (program_of g.table.now), (o.sized refl).few, leb-true tick_answers (length old) (o.sized refl).suffices));
+      few = subst (λ p. 0 + size p ≤ max_nodes) (sym (last-is old o count)) (omega (arith, o.few));
+      room = subst (λ p. 0 + presents p ≤ length old) (sym (last-is old o count)) (omega (arith, few-presents old o, room old o));
     }

@@ -90,16 +90,15 @@ pub fn find_longest(table: &[u8], answers: &mut [u8]) -> Result<Longest, Refusal
     let weight = Weight::Entries;
     let mut sizes = [0; esterel::MAX_NODES];
     let room = starts::TICK_ANSWERS <= answers.len();
-    analysis::check_sized(table, room, &mut sizes)?;
-    let n = table.len() / 2;
+    let tree = analysis::check_tree(table, room, &mut sizes)?;
+    let n = tree.nodes();
     let mut rows = [rows::NO_START; esterel::MAX_NODES];
-    rows::fill_rows(weight, table, &sizes, n, &mut rows);
+    rows::fill_rows(weight, &tree, n, &mut rows);
     let last = n - 1;
     let entries = top(&rows[last]);
     let ground = Ground {
         weight,
-        table,
-        sizes: &sizes,
+        tree,
         rows: &rows,
     };
     let length = ground.walk_at(last, &any_code(), answers, 0).at;

@@ -15,13 +15,15 @@ use Rattle.codes.proofs.Members.{only_in}
 use Rattle.esterel.specs.Limits.{max_nodes}
 use Rattle.esterel.specs.Statement.{Leaf, nothing, pause, emit, exit, Unary, signal, suspend, loop, trap, Binary, present, sequence, parallel, Stmt, leaf, one, two, kind, field, size}
 use Rattle.esterel.specs.Sets.{start_set}
+use Rattle.esterel.specs.Theorems.{WellFormed}
 use Rattle.table.specs.Kinds.{kind_of, arity_of, leaf_of, leaf_code}
-use Rattle.table.specs.Program.{program_of}
+use Rattle.table.specs.Program.{program_of, Readable}
 use Rattle.table.specs.Columns.{stmt_at}
 use Rattle.table.specs.declared.Kind.{Kind}
 use Rattle.table.proofs.Surveying.{few-nodes}
 use Rattle.table.proofs.Bytes.{leaf-is, field_byte}
-use Rattle.table.proofs.Views.{spans, kind-is, leaf_of_lem, one_of, two_of_lem}
+use Rattle.table.proofs.TreeViews.{kind-is, leaf_of_lem, one_of, two_of_lem}
+use Rattle.table.proofs.Views.{spans}
 use Rattle.starts.specs.declared.Weight.{Weight}
 use Rattle.starts.specs.Summary.{given, only, weigh, weights, best}
 use Rattle.starts.specs.Walk.{Low}
@@ -32,7 +34,7 @@ use Rattle.starts.proofs.Theorems.{few-best, codes-below}
 use Rattle.rows.specs.Rows.{value_of, values_of, max_number, LowRow, Holds}
 use Rattle.rows.specs.Steps.{row_of, IsRow}
 use Rattle.rows.specs.declared.Row.{Row}
-use Rattle.rows.specs.Filled.{Formed, numbers_at, RowsTo}
+use Rattle.rows.specs.Filled.{numbers_at, RowsTo}
 
 -- ---- one node
 
@@ -132,13 +134,16 @@ row_is {w} {k} {a} {b} s ek c o =
       at = λ j l. o.is.at j l ∙ ap (λ x. row_of w x (values_of a) (values_of b) j) ek ∙ row_step w s (values_of a) (values_of b) j c;
     }
 
-module _ {t sizes : List ℕ} (ok : Formed t sizes) where
+module _ {t : List ℕ} (ok : WellFormed t (program_of t)) where
+  pub readable : Readable t
+  readable = record { reads = ok.reads }
+
   -- no node has a code above 63
   pub codes-low : (j : ℕ) → Low 63 (stmt_at t j)
-  codes-low j = below-low 63 (stmt_at t j) (codes-below ok.well_formed j)
+  codes-low j = below-low 63 (stmt_at t j) (codes-below ok j)
 
   size_low : (j : ℕ) → j < size (program_of t) → size (stmt_at t j) ≤ max_nodes
-  size_low j h = omega (arith, spans t j h, few-nodes t ok.measured.readable)
+  size_low j h = omega (arith, spans t j h, few-nodes t readable)
 
   -- the row of a node that is done
   module _ {w : Weight} {i : ℕ} {rows : List Row} (done : RowsTo w t i rows) (j : ℕ) (lt : j < i) where
@@ -156,8 +161,8 @@ module _ {t sizes : List ℕ} (ok : Formed t sizes) where
     -- a leaf, as the code reads it
     leaf-at : n ≡ 0 → stmt_at t i ≡ leaf (leaf_of k f)
     leaf-at z =
-        let (l, e) = leaf_of_lem ok.measured h ek en z in
-        e ∙ ap leaf (sym (ap₂ leaf_of (sym (kind-is ok.measured h ek en e)) (ef ∙ field_byte t ok.measured.readable i h ∙ ap field e) ∙ leaf-is l))
+        let (l, e) = leaf_of_lem readable h ek en z in
+        e ∙ ap leaf (sym (ap₂ leaf_of (sym (kind-is readable h ek en e)) (ef ∙ field_byte t readable i h ∙ ap field e) ∙ leaf-is l))
 
     pub leaf-low : n ≡ 0 → leaf_code (leaf_of k f) < 64
     leaf-low z = let low = subst (Low 63) (leaf-at z) (codes-low i) in omega (arith, low (leaf_code (leaf_of k f)) (own_code (leaf_of k f)))
@@ -167,17 +172,17 @@ module _ {t sizes : List ℕ} (ok : Formed t sizes) where
 
   module _ {w : Weight} {i : ℕ} (h : i < size (program_of t)) {k : Kind} {n : ℕ} (ek : k ≡ kind_of (get_or t (2 * i) 0)) (en : n ≡ arity_of k) where
     as_read : {a b r : List ℕ} (s : Stmt) → stmt_at t i ≡ s → OfChildren w s (values_of a) (values_of b) → IsRow w k a b r → Holds (best w (stmt_at t i)) r
-    as_read {r = r} s e c o = subst (λ x. Holds (best w x) r) (sym e) (row_is s (sym (kind-is ok.measured h ek en e)) c o)
+    as_read {r = r} s e c o = subst (λ x. Holds (best w x) r) (sym e) (row_is s (sym (kind-is readable h ek en e)) c o)
 
     module _ {rows : List Row} (done : RowsTo w t i rows) where
       pub one-child : {b r : List ℕ} → IsRow w k (numbers_at rows (i - 1)) b r → n ≡ 1 → Holds (best w (stmt_at t i)) r
       one-child o z =
-          let (u, p, v) = one_of ok.measured h ek en refl z in
+          let (u, p, v) = one_of readable h ek en z in
           as_read (one u p) v.is (said-is done (i - 1) (omega (arith, v.ends, v.some)) v.child) o
 
-      pub two-child : {s : ℕ} {r : List ℕ} → IsRow w k (numbers_at rows (i - 1 - s)) (numbers_at rows (i - 1)) r → s ≡ get_or sizes (i - 1) 0 → (n ≡ 0 → ⊥) → (n ≡ 1 → ⊥) → Holds (best w (stmt_at t i)) r
+      pub two-child : {s : ℕ} {r : List ℕ} → IsRow w k (numbers_at rows (i - 1 - s)) (numbers_at rows (i - 1)) r → s ≡ size (stmt_at t (i - 1)) → (n ≡ 0 → ⊥) → (n ≡ 1 → ⊥) → Holds (best w (stmt_at t i)) r
       two-child {s} o es z y =
-          let (c, p, q, v) = two_of_lem ok.measured h ek en es z y in
+          let (c, p, q, v) = two_of_lem readable h ek en es z y in
           as_read (two c p q) v.is
           (said-is done (i - 1 - s) (omega (arith, v.ends, v.some_right)) v.left, said-is done (i - 1) (omega (arith, v.ends, v.some_right)) v.right) o
 

@@ -15,7 +15,7 @@ use Rattle.table.specs.declared.Kind.TheVariants.{Nothing, Pause, Emit, Exit, Si
 use Rattle.starts.specs.declared.Weight.{Weight}
 use Rattle.starts.specs.Summary.{up_to, either, together, prefer, weigh, weights}
 use Rattle.rows.specs.Rows.{value_of, values_of, max_number, Picks, Joins, LowRow, Found}
-use Rattle.rows.specs.Steps.{beside_at, inner_at, IsInner, row_of, IsRow}
+use Rattle.rows.specs.Steps.{beside_at, inner_at, IsInner, row_of}
 
 pub either-none : (pick : ℕ → ℕ → ℕ) (x : Option ℕ) → either pick x none ≡ x
 either-none pick none = refl
@@ -68,17 +68,6 @@ pub record Running (w : Weight) (kind : Kind) (a b of : List ℕ) (x y k : ℕ) 
   pub long : length of ≡ 64
   pub ups : Ups w kind a b x y k
   pub done : (j : ℕ) → j < k → value_of (get_or of j 0) ≡ row_of w kind (values_of a) (values_of b) j
-
-pub begins : {w : Weight} {kind : Kind} {a b of : List ℕ} → length of ≡ 64 → Running w kind a b of 0 0 0
-begins z =
-    record {
-      long = z;
-      ups = record { left = λ e. refl; right = λ e. refl; small-left = omega arith; small-right = omega arith };
-      done = λ j h. absurd (omega arith);
-    }
-
-pub ends : {w : Weight} {kind : Kind} {a b of : List ℕ} {x y k : ℕ} → Running w kind a b of x y k → 64 ≤ k → IsRow w kind a b of
-ends o h = record { is = record { long = o.long; at = λ j l. o.done j (omega arith) } }
 
 -- what is preferred up to the code counts in a parallel alone
 at-ups : (w : Weight) (kind : Kind) (f g : ℕ → Option ℕ) (x y x' y' : Option ℕ) (k : ℕ) → (is_parallel kind ≡ true → x ≡ x') → (is_parallel kind ≡ true → y ≡ y') → inner_at w kind f g x y k ≡ inner_at w kind f g x' y' k

@@ -1,18 +1,11 @@
 -- The rows of a program's nodes.
 use Rattle.std.specs.Prelude.{ℕ, ◌<◌, ◌≤◌, List, [], length, slice_index_or}
 use Rattle.esterel.specs.Limits.{max_nodes}
-use Rattle.esterel.specs.Theorems.{WellFormed}
-use Rattle.table.specs.Program.{program_of}
-use Rattle.table.specs.Columns.{stmt_at, Measured}
+use Rattle.table.specs.Columns.{stmt_at}
 use Rattle.starts.specs.declared.Weight.{Weight}
 use Rattle.starts.specs.Summary.{best}
 use Rattle.rows.specs.declared.Row.{Row}
 use Rattle.rows.specs.Rows.{Holds}
-
--- a table that passes checks 1, 2 and 4 to 10, with the sizes of its subtrees
-pub record Formed (t sizes : List ℕ) : Type 0 where
-  pub well_formed : WellFormed t (program_of t)
-  pub measured : Measured t sizes
 
 -- the numbers of the row at place j; past the end there are none
 abbrev pub numbers_at : List Row → ℕ → List ℕ

@@ -5,6 +5,7 @@
 ghost use Rattle.std.specs.Prelude.{◌≡◌, [], ◌∷◌, suc, ◌+◌, ◌*◌, ◌<◌, ◌≤◌, length, slice_index};
 ghost use Rattle.esterel.specs.Limits.{max_nodes};
 ghost use Rattle.esterel.specs.Statement.{leaf, size};
+ghost use Rattle.esterel.specs.Theorems.{WellFormed};
 ghost use Rattle.table.specs.Kinds.{leaf_of, leaf_code};
 ghost use Rattle.table.specs.Program.{program_of};
 ghost use Rattle.table.specs.Columns.{stmt_at};
@@ -12,10 +13,10 @@ ghost use Rattle.starts.specs.declared.Weight.TheVariants.{Answers, Entries};
 ghost use Rattle.starts.specs.Summary.{tested as tested_of, without_ended, followed as followed_of, caught as caught_of, weigh, weights, best};
 ghost use Rattle.rows.specs.Rows.{value_of, values_of, max_number, Gets, Picks, Joins, LowRow, Holds, Found};
 ghost use Rattle.rows.specs.Steps.{beside_at, IsInner, IsRow};
-ghost use Rattle.rows.specs.Filled.{Formed, RowsTo};
+ghost use Rattle.rows.specs.Filled.{RowsTo};
 
 use starts::Weight;
-use table::Kind;
+use table::{Kind, Tree};
 
 // The numbers of a node's first and second child for a code.
 #[derive(Clone, Copy)]
@@ -229,32 +230,31 @@ pub fn best_sum(weight: Weight, row: &Row, need: &Row) -> u16
 }
 
 // The row of a node, from those of the nodes before it.
-fn row_at(weight: Weight, table: &[u8], sizes: &[u16], rows: &[Row], node: usize) -> Row
-    requires { Formed table.now sizes.now × (node < size (program_of table.now)) × RowsTo weight table.now node rows.now }
-    ensures { Holds (best weight (stmt_at table.now node)) result.of }
+fn row_at(weight: Weight, tree: &Tree, rows: &[Row], node: usize) -> Row
+    requires { WellFormed tree.now.table.now (program_of tree.now.table.now) × (node < size (program_of tree.now.table.now)) × RowsTo weight tree.now.table.now node rows.now }
+    ensures { Holds (best weight (stmt_at tree.now.table.now node)) result.of }
 {
-    let kind = table::kind_at(table, node);
-    let field = table::field_at(table, node);
+    let kind = tree.kind(node);
     let children = kind.arity();
     if children == 0 {
-        return leaf_row(weight, kind, field);
+        return leaf_row(weight, kind, tree.field(node));
     }
     let last = node - 1;
     let first = if children == 1 {
         last
     } else {
-        last - table::size_at(sizes, last)
+        last - tree.size(last)
     };
     row_of(weight, kind, &rows[first], &rows[last])
 }
 
-// The rows of the nodes before one, children before parents. No plainer with a struct for the table, as `walk::Ground`: that lends the
-// rows which this fills in.
-pub fn fill_rows(weight: Weight, table: &[u8], sizes: &[u16], nodes: usize, rows: &mut [Row])
-    requires { Formed table.now sizes.now × (nodes ≤ size (program_of table.now)) × (max_nodes ≤ length rows.old) }
-    ensures { RowsTo weight table.now nodes rows.new }
+// The rows of the nodes before one, children before parents. No plainer as a method of `walk::Ground`: that lends the rows which this fills
+// in.
+pub fn fill_rows(weight: Weight, tree: &Tree, nodes: usize, rows: &mut [Row])
+    requires { WellFormed tree.now.table.now (program_of tree.now.table.now) × (nodes ≤ size (program_of tree.now.table.now)) × (max_nodes ≤ length rows.old) }
+    ensures { RowsTo weight tree.now.table.now nodes rows.new }
 {
     for i in 0..nodes {
-        rows[i] = row_at(weight, table, sizes, rows, i);
+        rows[i] = row_at(weight, tree, rows, i);
     }
 }

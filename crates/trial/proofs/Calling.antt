@@ -1,8 +1,8 @@
 -- One law for each return of `trial`.
-use mathlib.Core.Path.{◌≡◌, refl, sym, ap, ap₂, subst, ◌∙◌}
+use mathlib.Core.Path.{◌≡◌, refl, sym, ap, ap₂, ◌∙◌}
 use mathlib.Core.Bool.{true}
 use mathlib.Core.List.{List}
-use Prim.Native.Nat.{ℕ, ◌+◌, ◌-◌, ◌<◌, ◌≤◌}
+use Prim.Native.Nat.{ℕ, ◌+◌, ◌<◌, ◌≤◌}
 use native.Mathlib.Omega.{arith}
 use Rattle.codes.specs.Codes.{word}
 use Rattle.esterel.specs.Statement.{size}
@@ -16,10 +16,8 @@ use Rattle.analysis.specs.Analysis.{checked, TreeChecked}
 use Rattle.analysis.proofs.Analyses.{verdict-refused}
 use Rattle.analysis.proofs.Theorems.{checked-room, checked-passed}
 use Rattle.table.proofs.Views.{spans}
-use Rattle.instant.specs.Run.{Runnable}
 use Rattle.starts.specs.Ticks.{presents}
 use Rattle.trial.specs.Trials.{tried, trial_answers}
-use Rattle.trial.specs.Steps.{Countable, Triable}
 use Rattle.trial.specs.Calls.{tells, tried_of}
 use Rattle.trial.proofs.Told.{of_table_lem, outside-is, too_many_is, gathered-is}
 
@@ -32,11 +30,8 @@ module _ {t : List ℕ} (node : ℕ) where
     abbrev u : List ℕ
     u = tree.table.now
 
-    runnable : Runnable u
-    runnable = subst Runnable (sym (o.same tree refl)) (record { accepted = checked-passed true t (program_of t) (o.sized tree refl).verdict })
-
     accepted : verdict t ≡ passed (program_of u)
-    accepted = ap verdict (sym (o.same tree refl)) ∙ runnable.accepted
+    accepted = checked-passed true t (program_of t) (o.sized tree refl).verdict ∙ ap (λ x. passed (program_of x)) (sym (o.same tree refl))
 
     module _ {nodes : ℕ} (en : nodes ≡ size (program_of u)) where
       pub outside : nodes ≤ node → rejects 21 0 ≡ tried_of (verdict t) node
@@ -47,19 +42,8 @@ module _ {t : List ℕ} (node : ℕ) where
         within = omega arith
 
         -- the size that is found is the statement's
-        module _ {s : ℕ} (es : s ≡ size (stmt_at u node)) where
-          pub size_fits : s ≤ node + 1
-          size_fits = omega (arith, spans u node within)
-
-          pub first-is : node + 1 - s ≡ first_at u node
-          first-is = omega (arith, spans u node within)
-
-        module _ {first : ℕ} (ef : first ≡ first_at u node) where
-          pub countable : Countable u first node
-          countable = record { within = within; starts = ef }
-
-          pub triable : {n : ℕ} → n ≡ presents (stmt_at u node) → n ≤ trial_answers → Triable u first node
-          triable en l = record { runnable = runnable; countable = countable; few = omega arith }
+        pub size_fits : {s : ℕ} → s ≡ size (stmt_at u node) → s ≤ node + 1
+        size_fits es = omega (arith, spans u node within)
 
         module _ {n : ℕ} (ep : n ≡ presents (stmt_at u node)) where
           pub too_many : trial_answers < n → rejects 22 0 ≡ tried_of (verdict t) node

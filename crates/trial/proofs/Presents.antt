@@ -9,7 +9,6 @@ use lib.ListN.{length, get_or, take, drop}
 use lib.Seq.{drop-cons, take_at, drop_at}
 use Rattle.std.specs.List.{range_with_len, filter}
 use Rattle.codes.specs.Codes.{bit}
-use Rattle.esterel.specs.Limits.{max_nodes}
 use Rattle.esterel.specs.Statement.{Leaf, nothing, pause, emit, exit, Unary, signal, suspend, loop, trap, Binary, present, sequence, parallel, Stmt, leaf, one, two, kind, size, nodes}
 use Rattle.esterel.proofs.Sizes.{length-nodes}
 use Rattle.esterel.proofs.Subtrees.{subtrees}
@@ -18,7 +17,6 @@ use Rattle.table.specs.Program.{program_of, Readable}
 use Rattle.table.specs.Columns.{stmt_at, first_at}
 use Rattle.table.proofs.Bytes.{kind_byte}
 use Rattle.table.proofs.Said.{bit-small}
-use Rattle.table.proofs.Surveying.{few-nodes as few-in}
 use Rattle.table.proofs.Views.{spans}
 use Rattle.starts.specs.Ticks.{presents}
 use Rattle.trial.specs.Steps.{Countable}
@@ -99,9 +97,6 @@ module _ {t : List ℕ} {first node : ℕ} (ok : Readable t) (w : Countable t fi
       let (pre, post, is, len) = subtrees.piece (program_of t) node w.within in
       let first : length pre ≡ first_at t node = omega arith in
       ap (λ l. take (size (stmt_at t node)) (drop (first_at t node) l)) is ∙ ap (take (size (stmt_at t node))) (drop_at pre (nodes (stmt_at t node) ++ post) (first_at t node) first) ∙ take_at (nodes (stmt_at t node)) post (size (stmt_at t node)) (length-nodes (stmt_at t node))
-
-  pub few-nodes : node < max_nodes
-  few-nodes = omega (arith, w.within, few-in t ok)
 
   pub presents_are : length (filter (is_present_at t) (range_with_len first (node + 1 - first))) ≡ presents (stmt_at t node)
   presents_are =

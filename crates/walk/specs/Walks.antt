@@ -4,6 +4,7 @@ use Rattle.std.proofs.lemmas.List.Edits.{sets}
 use Rattle.esterel.specs.Limits.{max_nodes}
 use Rattle.esterel.specs.Codes.{catch_code}
 use Rattle.esterel.specs.Statement.{Stmt, size}
+use Rattle.esterel.specs.Theorems.{WellFormed}
 use Rattle.table.specs.Kinds.{is_trap}
 use Rattle.table.specs.Program.{program_of}
 use Rattle.table.specs.Columns.{stmt_at}
@@ -12,7 +13,7 @@ use Rattle.starts.specs.declared.Weight.{Weight}
 use Rattle.starts.specs.Ticks.{presents}
 use Rattle.starts.specs.Walk.{walk, answers_of, code_of}
 use Rattle.rows.specs.Rows.{values_of, LowRow}
-use Rattle.rows.specs.Filled.{Formed, RowsTo}
+use Rattle.rows.specs.Filled.{RowsTo}
 use Rattle.walk.specs.declared.Walked.{Walked}
 use Rattle.walk.specs.declared.Ground.{Ground}
 
@@ -23,15 +24,15 @@ pub record Leaves (k : Kind) (inner r : Walked) : Type 0 where
 
 -- what a walk at a node needs: the rows of the nodes below `top`, what is needed after each code, at most `most`, and room for the answers
 pub record Walking (g : Ground) (need answers : List ℕ) (node at : ℕ) : Type 0 where
-  pub formed : Formed g.table.now g.sizes.now
+  pub well_formed : WellFormed g.tree.table.now (program_of g.tree.table.now)
   pub top : ℕ
   pub within : node < top
-  pub known : top ≤ size (program_of g.table.now)
-  pub filled : RowsTo g.weight g.table.now top g.rows.now
+  pub known : top ≤ size (program_of g.tree.table.now)
+  pub filled : RowsTo g.weight g.tree.table.now top g.rows.now
   pub most : ℕ
   pub low : LowRow (suc most) need
-  pub few : most + size (stmt_at g.table.now node) ≤ max_nodes
-  pub room : at + presents (stmt_at g.table.now node) ≤ length answers
+  pub few : most + size (stmt_at g.tree.table.now node) ≤ max_nodes
+  pub room : at + presents (stmt_at g.tree.table.now node) ≤ length answers
 
 -- the code and the answers of the walk of p, written from `at` on
 pub record Walks (w : Weight) (p : Stmt) (need answers answers' : List ℕ) (at : ℕ) (r : Walked) : Type 0 where

@@ -11,7 +11,7 @@ ghost use Rattle.walk.specs.Walks.{Leaves, Walking, Walks};
 
 use rows::Row;
 use starts::Weight;
-use table::Kind;
+use table::{Kind, Tree};
 
 // Where a walk led: the code, and the place after its answers.
 #[derive(Clone, Copy)]
@@ -130,12 +130,11 @@ fn leave(kind: Kind, inner: Walked) -> Walked
     }
 }
 
-// What a walk goes over: a program with the sizes of its subtrees and the rows of its nodes, by a weight.
+// What a walk goes over: a program and the rows of its nodes, by a weight.
 #[derive(Clone, Copy)]
 pub struct Ground<'a> {
     pub weight: Weight,
-    pub table: &'a [u8],
-    pub sizes: &'a [u16],
+    pub tree: Tree<'a>,
     pub rows: &'a [Row],
 }
 
@@ -144,12 +143,12 @@ impl Ground<'_> {
     // `at` on.
     pub fn walk_at(&self, node: usize, need: &Row, answers: &mut [u8], at: usize) -> Walked
         requires { Walking self.now need.now.of answers.old node at }
-        ensures { Walks self.now.weight (stmt_at self.now.table.now node) need.now.of answers.old answers.new at result }
+        ensures { Walks self.now.weight (stmt_at self.now.tree.table.now node) need.now.of answers.old answers.new at result }
     {
-        let kind = table::kind_at(self.table, node);
+        let kind = self.tree.kind(node);
         let children = kind.arity();
         if children == 0 {
-            let code = rows::leaf_code(kind, table::field_at(self.table, node));
+            let code = rows::leaf_code(kind, self.tree.field(node));
             return Walked { code, at };
         }
         let last = node - 1;
@@ -158,7 +157,7 @@ impl Ground<'_> {
             let inner = self.walk_at(last, &under, answers, at);
             return leave(kind, inner);
         }
-        let first = last - table::size_at(self.sizes, last);
+        let first = last - self.tree.size(last);
         if kind == Kind::Present {
             let absent = goes_absent(self.weight, &self.rows[first], &self.rows[last], need);
             answers[at] = u8::from(!absent);

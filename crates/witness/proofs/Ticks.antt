@@ -28,10 +28,9 @@ use Rattle.esterel.proofs.Sizes.{size_pos}
 use Rattle.esterel.proofs.Subtrees.{only_child_lem}
 use Rattle.esterel.proofs.Theorems.{loop_check}
 use Rattle.table.specs.Program.{program_in, program_of, Readable}
-use Rattle.table.specs.Columns.{onto, stmt_at, sizes_of}
+use Rattle.table.specs.Columns.{stmt_at}
 use Rattle.table.proofs.Buffers.{sets-front}
 use Rattle.table.proofs.Surveying.{few-nodes}
-use Rattle.table.proofs.Sizing.{measured}
 use Rattle.analysis.specs.Analysis.{TableChecked}
 use Rattle.analysis.proofs.Analyses.{table-refused, ready, table-passed, depth-is, nodes-are}
 use Rattle.analysis.proofs.Theorems.{refused_late}
@@ -43,7 +42,7 @@ use Rattle.starts.proofs.Agree.{walk_agree}
 use Rattle.starts.proofs.Short.{walk-short}
 use Rattle.starts.proofs.Theorems.{few-tests, walks_right, codes-below}
 use Rattle.rows.specs.Rows.{value_of, values_of}
-use Rattle.rows.specs.Filled.{Formed, RowsTo}
+use Rattle.rows.specs.Filled.{RowsTo}
 use Rattle.rows.proofs.Said.{row_low}
 use Rattle.walk.specs.declared.Walked.{Walked}
 use Rattle.walk.specs.declared.Ground.{Ground}
@@ -122,21 +121,21 @@ module _ {t : List ℕ} {node : ℕ} (o : Faulty t node) where
   pub known-nodes : node ≤ size (program_of t)
   known-nodes = let (body, b) = body_of in b.known
 
-  module _ {sizes : List ℕ} (old : List ℕ) (long : max_nodes ≤ length sizes) (s : sizes ≡ onto (sizes_of (program_of t)) old) where
-    pub formed : Formed t sizes
-    formed = record { well_formed = well_formed_lem; measured = measured old readable (omega (arith, few)) s }
+-- the same of a tree's table
+pub in_tree : {t u : List ℕ} {node : ℕ} → u ≡ t → Faulty t node → Faulty u node
+in_tree {node = node} e o = subst (λ x. Faulty x node) (sym e) o
 
 -- the walk over that ground begins at the body
-module _ {g : Ground} (w : g.weight ≡ Answers) {node : ℕ} (o : Faulty g.table.now node) (old : List ℕ) (long : max_nodes ≤ length g.sizes.now) (s : g.sizes.now ≡ onto (sizes_of (program_of g.table.now)) old) (done : RowsTo Answers g.table.now node g.rows.now) where
+module _ {g : Ground} (w : g.weight ≡ Answers) {node : ℕ} (o : Faulty g.tree.table.now node) (done : RowsTo Answers g.tree.table.now node g.rows.now) where
   pub body_call : {need answers : List ℕ} → Goal need → tick_answers ≤ length answers → Walking g need answers (node - 1) 0
   body_call {need} {answers} will room =
       let (body, b) = body_of o in
       record {
-        formed = formed o old long s;
+        well_formed = well_formed_lem o;
         top = node;
         within = omega (arith, b.some);
         known = b.known;
-        filled = subst (λ x. RowsTo x g.table.now node g.rows.now) (sym w) done;
+        filled = subst (λ x. RowsTo x g.tree.table.now node g.rows.now) (sym w) done;
         most = 0;
         low = will.low;
         few = subst (λ p. 0 + size p ≤ max_nodes) (sym b.child) (omega (arith, b.few-nodes));

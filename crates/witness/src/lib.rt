@@ -11,6 +11,7 @@ ghost use Rattle.witness.specs.Ticks.{Tells};
 use esterel::{Check, Refusal};
 use rows::Row;
 use starts::Weight;
+use table::Tree;
 use walk::Ground;
 
 // What is told of a table: the loop whose body ends at once and the length of the list; or the nodes and the loop depth of an
@@ -37,13 +38,12 @@ fn show(table: &[u8], node: usize, answers: &mut [u8]) -> usize
 {
     let weight = Weight::Answers;
     let mut sizes = [0; esterel::MAX_NODES];
-    table::fill_sizes(table, &mut sizes);
+    let tree = Tree::new(table, &mut sizes);
     let mut rows = [rows::NO_START; esterel::MAX_NODES];
-    rows::fill_rows(weight, table, &sizes, node, &mut rows);
+    rows::fill_rows(weight, &tree, node, &mut rows);
     let ground = Ground {
         weight,
-        table,
-        sizes: &sizes,
+        tree,
         rows: &rows,
     };
     ground.walk_at(node - 1, &goal(), answers, 0).at

@@ -1,33 +1,28 @@
 -- A node's children are in the table before it, and their rows are done.
 use Rattle.std.proofs.Common.{◌-◌, ◌<◌, ◌≤◌, arith}
-use Rattle.table.proofs.Views.{in_table, in_place, has_last, first_le}
-use Rattle.rows.proofs.Said.{said-low, leaf-low, no_child, one-child, two-child}
+use Rattle.table.proofs.TreeViews.{has_last, first_le}
+use Rattle.table.proofs.Trees.{few}
+use Rattle.rows.proofs.Said.{readable, said-low, leaf-low, no_child, one-child, two-child}
 use Rattle.rows.proofs.row_at.Goals as goal
 use Rattle.rows.proofs.row_at.Goals.{Else-children-eq0, Joined-children-eq1, then-children-eq1, else-children-eq1}
 
-pub kind_at-kind-requires : goal.kind_at-kind-requires
-kind_at-kind-requires c = in_table c.requires.0.measured c.requires.1
-
-pub field_at-field-requires : goal.field_at-field-requires
-field_at-field-requires c = in_table c.requires.0.measured c.requires.1
-
 pub leaf_row-requires : goal.leaf_row-requires
 leaf_row-requires c =
-    (c.field_at-field.ensures.1, leaf-low c.requires.0 c.requires.1 c.kind_at-kind.ensures c.field_at-field.ensures.0 c.arity-children.ensures c.if-children-eq0.true)
+    (c.field.ensures.1, leaf-low c.requires.0 c.requires.1 c.kind-kind.ensures c.field.ensures.0 c.arity-children.ensures c.if-children-eq0.true)
 
 pub returns-then-children-eq0 : goal.returns-then-children-eq0
 returns-then-children-eq0 c =
-    no_child c.requires.0 c.requires.1 c.kind_at-kind.ensures c.field_at-field.ensures.0 c.arity-children.ensures c.args.weight c.if-children-eq0.true c.leaf_row.ensures
+    no_child c.requires.0 c.requires.1 c.kind-kind.ensures c.field.ensures.0 c.arity-children.ensures c.args.weight c.if-children-eq0.true c.leaf_row.ensures
 
 last-lower : (c : Else-children-eq0) → 1 ≤ c.args.node
-last-lower c = has_last c.requires.0.measured c.requires.1 c.kind_at-kind.ensures c.arity-children.ensures c.if-children-eq0.false
+last-lower c = has_last (readable c.requires.0) c.requires.1 c.kind-kind.ensures c.arity-children.ensures c.if-children-eq0.false
 
 pub overflow_sub-last : goal.overflow_sub-last
 overflow_sub-last c = last-lower c
 
 pub overflow_sub-first : goal.overflow_sub-first
 overflow_sub-first c =
-    first_le c.requires.0.measured c.requires.1 c.kind_at-kind.ensures c.arity-children.ensures c.size_at.ensures c.if-children-eq0.false c.if-children-eq1.false
+    first_le (readable c.requires.0) c.requires.1 c.kind-kind.ensures c.arity-children.ensures c.size.ensures c.if-children-eq0.false c.if-children-eq1.false
 
 first-lower : (c : Joined-children-eq1) → 1 ≤ c.args.node → c.if-children-eq1.first < c.args.node
 first-lower c some =
@@ -35,17 +30,17 @@ first-lower c some =
 
 pub offset_bounds-rows-first : goal.offset_bounds-rows-first
 offset_bounds-rows-first c =
-    omega (arith, in_place c.requires.0.measured c.requires.1, first-lower (goal.at.offset_bounds-rows-first c).Joined-children-eq1 (last-lower (goal.at.offset_bounds-rows-first c).Else-children-eq0))
+    omega (arith, c.requires.1, few c.args.tree.now.tree, first-lower (goal.at.offset_bounds-rows-first c).Joined-children-eq1 (last-lower (goal.at.offset_bounds-rows-first c).Else-children-eq0))
 
 pub bounds-rows-first : goal.bounds-rows-first
 bounds-rows-first c =
-    omega (arith, in_place c.requires.0.measured c.requires.1, c.requires.2.room, first-lower (goal.at.bounds-rows-first c).Joined-children-eq1 (last-lower (goal.at.bounds-rows-first c).Else-children-eq0))
+    omega (arith, c.requires.1, few c.args.tree.now.tree, c.requires.2.room, first-lower (goal.at.bounds-rows-first c).Joined-children-eq1 (last-lower (goal.at.bounds-rows-first c).Else-children-eq0))
 
 pub offset_bounds-rows-last : goal.offset_bounds-rows-last
-offset_bounds-rows-last c = omega (arith, in_place c.requires.0.measured c.requires.1)
+offset_bounds-rows-last c = omega (arith, c.requires.1, few c.args.tree.now.tree)
 
 pub bounds-rows-last : goal.bounds-rows-last
-bounds-rows-last c = omega (arith, in_place c.requires.0.measured c.requires.1, c.requires.2.room)
+bounds-rows-last c = omega (arith, c.requires.1, few c.args.tree.now.tree, c.requires.2.room)
 
 pub row_of-requires : goal.row_of-requires
 row_of-requires c =
@@ -56,7 +51,7 @@ row_of-requires c =
 pub returns : goal.returns
 returns c =
     elim c.if-children-eq1.branch [
-      | then-children-eq1 w ↦ one-child c.requires.0 c.requires.1 c.kind_at-kind.ensures c.arity-children.ensures c.requires.2 (rw w.first-is at c.row_of.ensures) w.if-children-eq1.true
+      | then-children-eq1 w ↦ one-child c.requires.0 c.requires.1 c.kind-kind.ensures c.arity-children.ensures c.requires.2 (rw w.first-is at c.row_of.ensures) w.if-children-eq1.true
       | else-children-eq1 w ↦
-          two-child c.requires.0 c.requires.1 c.kind_at-kind.ensures c.arity-children.ensures c.requires.2 (rw w.first-is at c.row_of.ensures) w.size_at.ensures c.if-children-eq0.false w.if-children-eq1.false
+          two-child c.requires.0 c.requires.1 c.kind-kind.ensures c.arity-children.ensures c.requires.2 (rw w.first-is at c.row_of.ensures) w.size.ensures c.if-children-eq0.false w.if-children-eq1.false
     ]

@@ -1,13 +1,9 @@
-use Rattle.std.proofs.Common.{suc, refl, sym, ◌∙◌, arith}
+use Rattle.std.proofs.Common.{suc, sym, ◌∙◌, arith}
 use Rattle.table.specs.declared.Kind.TheVariants.{Parallel}
 use Rattle.table.proofs.Comparing.{same-is}
-use Rattle.rows.proofs.Values.{entry-low}
-use Rattle.rows.proofs.Sweeps.{Ups, no_ups, more_ups, begins, step, ends}
+use Rattle.rows.proofs.Sweeps.{Ups, no_ups, more_ups, step}
 use Rattle.rows.proofs.row_of.Goals as goal
 use Rattle.rows.proofs.row_of.Goals.{Joined-eq, then-eq, else-eq}
-
-pub loop-k-init : goal.loop-k-init
-loop-k-init c = begins refl
 
 -- after the `if`
 ups : (c : Joined-eq) → Ups c.args.weight c.args.kind c.args.first.now.of c.args.second.now.of c.if-eq.up.first c.if-eq.up.second (suc c.loop-k.k)
@@ -17,14 +13,5 @@ ups c =
       | else-eq w ↦ rw w.up-is (no_ups (sym (c.eq.ensures ∙ same-is c.args.kind Parallel) ∙ w.if-eq.false) c.loop-k.invariant.ups)
     ]
 
-pub inner_at-requires : goal.inner_at-requires
-inner_at-requires c = (c.requires.0, c.requires.1, (ups c).small-left, (ups c).small-right, omega arith)
-
-pub join-requires : goal.join-requires
-join-requires c = (omega (arith, entry-low c.args.weight c.entry-own.ensures), c.inner_at.ensures.gets.low)
-
 pub loop-k-preserved : goal.loop-k-preserved
 loop-k-preserved c = step c.loop-k.invariant (omega arith) (ups (goal.at.loop-k-preserved c).Joined-eq) c.entry-own.ensures c.inner_at.ensures c.join.ensures
-
-pub returns : goal.returns
-returns c = ends c.loop-k.invariant (omega arith)

@@ -1,111 +1,118 @@
 -- One law for each call and each return.
-use Rattle.std.proofs.Common.{ℕ, ◌≤◌, true, false, refl, ◌∙◌, inl, inr, arith}
+use Rattle.std.proofs.Common.{◌≡◌, ℕ, ◌≤◌, true, false, refl, sym, ◌∙◌, inl, inr, arith}
 use Rattle.table.specs.declared.Kind.TheVariants.{Present, Sequence}
+use Rattle.table.specs.Kinds.{is_present}
 use Rattle.table.proofs.Comparing.{same-is}
-use Rattle.table.proofs.Views.{in_table, in_place, has_last, first_le}
-use Rattle.walk.proofs.Walks.{inside, need_low, leaf-returns, one_call, one-returns}
+use Rattle.rows.proofs.Said.{readable}
+use Rattle.table.proofs.TreeViews.{has_last, first_le}
+use Rattle.table.proofs.Trees.{few}
+use Rattle.walk.proofs.Walks.{inside, Here, Two, need_low, leaf-returns, one_call, one-returns}
 use Rattle.walk.proofs.Walks.{last-room, first-room, last-low, first-low, answer-room, last_call, first_call, test-returns}
 use Rattle.walk.proofs.Walks.{left_call, left-low, left-returns, right_call, both-returns}
 use Rattle.walk.proofs.Ground.+walk_at.Goals as goal
-use Rattle.walk.proofs.Ground.+walk_at.Goals.{Else-children-eq0, then-absent, else-absent}
+use Rattle.walk.proofs.Ground.+walk_at.Goals.{After-arity-children, After-size, Else-children-eq0, Then-eq, Else-eq, then-absent, else-absent}
+
+-- what the code knows: of the node, of two children, and of a test
+here : (t : ℕ) (c : After-arity-children t) → Here c.args.self.now c.args.need.now.of c.args.answers.now c.args.node c.args.at c.kind-kind.result c.arity-children.result
+here t c = record { walking = c.requires; read = c.kind-kind.ensures; counted = c.arity-children.ensures }
+
+both : (t : ℕ) (c : After-size t) → Two c.args.self.now c.args.need.now.of c.args.answers.now c.args.node c.args.at c.kind-kind.result c.arity-children.result c.size.result
+both t c = record { here = record { walking = c.requires; read = c.kind-kind.ensures; counted = c.arity-children.ensures }; some = c.if-children-eq0.false; more = c.if-children-eq1.false; second = c.size.ensures }
+
+test : (t : ℕ) (c : Then-eq t) → is_present c.kind-kind.result ≡ true
+test t c = sym (c.eq.ensures ∙ same-is c.kind-kind.result Present) ∙ c.if-eq.true
+
+no_test : (t : ℕ) (c : Else-eq t) → is_present c.kind-kind.result ≡ false
+no_test t c = sym (c.eq.ensures ∙ same-is c.kind-kind.result Present) ∙ c.if-eq.false
 
 -- a child's node number is lower
 last-lower : (t : ℕ) (c : Else-children-eq0 t) → 1 ≤ c.args.node
-last-lower t c = has_last c.requires.formed.measured (inside c.requires) c.kind_at-kind.ensures c.arity-children.ensures c.if-children-eq0.false
-
-pub kind_at-kind-requires : goal.kind_at-kind-requires
-kind_at-kind-requires t c = in_table c.requires.formed.measured (inside c.requires)
-
-pub field_at-requires : goal.field_at-requires
-field_at-requires t c = in_table c.requires.formed.measured (inside c.requires)
+last-lower t c = has_last (readable c.requires.well_formed) (inside c.requires) c.kind-kind.ensures c.arity-children.ensures c.if-children-eq0.false
 
 pub returns-then-children-eq0 : goal.returns-then-children-eq0
 returns-then-children-eq0 t c =
-    leaf-returns c.requires c.kind_at-kind.ensures c.arity-children.ensures c.if-children-eq0.true c.field_at.ensures.0 c.leaf_code-code.ensures refl refl
+    leaf-returns (here t (goal.at.returns-then-children-eq0 t c).After-arity-children) c.if-children-eq0.true c.field.ensures.0 c.leaf_code-code.ensures refl refl
 
 pub overflow_sub-last : goal.overflow_sub-last
 overflow_sub-last t c = last-lower t c
 
 pub walk_at-inner-requires : goal.walk_at-inner-requires
 walk_at-inner-requires t c =
-    (omega (arith, c.decreases, last-lower t (goal.at.walk_at-inner-requires t c).Else-children-eq0), one_call c.requires c.kind_at-kind.ensures c.arity-children.ensures c.if-children-eq1.true c.need_under-under.ensures)
+    (omega (arith, c.decreases, last-lower t (goal.at.walk_at-inner-requires t c).Else-children-eq0), one_call (here t (goal.at.walk_at-inner-requires t c).After-arity-children) c.if-children-eq1.true c.need_under-under.ensures)
 
 pub returns-then-children-eq1 : goal.returns-then-children-eq1
 returns-then-children-eq1 t c =
-    one-returns c.requires c.kind_at-kind.ensures c.arity-children.ensures c.if-children-eq1.true c.need_under-under.ensures c.walk_at-inner.ensures c.leave.ensures
+    one-returns (here t (goal.at.returns-then-children-eq1 t c).After-arity-children) c.if-children-eq1.true c.need_under-under.ensures c.walk_at-inner.ensures c.leave.ensures
 
 pub overflow_sub-first : goal.overflow_sub-first
 overflow_sub-first t c =
-    first_le c.requires.formed.measured (inside c.requires) c.kind_at-kind.ensures c.arity-children.ensures c.size_at.ensures c.if-children-eq0.false c.if-children-eq1.false
+    first_le (readable c.requires.well_formed) (inside c.requires) c.kind-kind.ensures c.arity-children.ensures c.size.ensures c.if-children-eq0.false c.if-children-eq1.false
 
 pub offset_bounds-self-first : goal.offset_bounds-self-first
-offset_bounds-self-first t c = omega (arith, in_place c.requires.formed.measured (inside c.requires))
+offset_bounds-self-first t c = omega (arith, inside c.requires, few c.args.self.now.tree.tree)
 
 pub bounds-self-first : goal.bounds-self-first
-bounds-self-first t c =
-    first-room c.requires c.kind_at-kind.ensures c.arity-children.ensures c.if-children-eq0.false c.if-children-eq1.false c.size_at.ensures
+bounds-self-first t c = first-room (both t (goal.at.bounds-self-first t c).After-size)
 
 pub offset_bounds-self-last : goal.offset_bounds-self-last
-offset_bounds-self-last t c = omega (arith, in_place c.requires.formed.measured (inside c.requires))
+offset_bounds-self-last t c = omega (arith, inside c.requires, few c.args.self.now.tree.tree)
 
 pub bounds-self-last : goal.bounds-self-last
-bounds-self-last t c =
-    last-room c.requires c.kind_at-kind.ensures c.arity-children.ensures c.if-children-eq0.false c.if-children-eq1.false c.size_at.ensures
+bounds-self-last t c = last-room (both t (goal.at.bounds-self-last t c).After-size)
 
 pub goes_absent-absent-requires : goal.goes_absent-absent-requires
 goes_absent-absent-requires t c =
-    (first-low c.requires c.kind_at-kind.ensures c.arity-children.ensures c.if-children-eq0.false c.if-children-eq1.false c.size_at.ensures, last-low c.requires c.kind_at-kind.ensures c.arity-children.ensures c.if-children-eq0.false c.if-children-eq1.false c.size_at.ensures, need_low c.requires c.kind_at-kind.ensures c.arity-children.ensures)
+    (first-low (both t (goal.at.goes_absent-absent-requires t c).After-size), last-low (both t (goal.at.goes_absent-absent-requires t c).After-size), need_low (here t (goal.at.goes_absent-absent-requires t c).After-arity-children))
 
 pub bounds-answers-at : goal.bounds-answers-at
 bounds-answers-at t c =
-    answer-room c.requires c.kind_at-kind.ensures c.arity-children.ensures c.if-children-eq0.false c.if-children-eq1.false c.size_at.ensures (c.eq.ensures ∙ same-is c.kind_at-kind.result Present) c.if-eq.true
+    answer-room (both t (goal.at.bounds-answers-at t c).After-size) (test t (goal.at.bounds-answers-at t c).Then-eq)
 
 pub walk_at-requires : goal.walk_at-requires
 walk_at-requires t c =
     let some = last-lower t (goal.at.walk_at-requires t c).Else-children-eq0 in
     elim c.if-absent.branch [
-      | then-absent w ↦ rw w.child-is (omega (arith, c.decreases), last_call c.requires c.kind_at-kind.ensures c.arity-children.ensures c.if-children-eq0.false c.if-children-eq1.false c.size_at.ensures (c.eq.ensures ∙ same-is c.kind_at-kind.result Present) c.if-eq.true c.from.result)
-      | else-absent w ↦ rw w.child-is (omega (arith, c.decreases), first_call c.requires c.kind_at-kind.ensures c.arity-children.ensures c.if-children-eq0.false c.if-children-eq1.false c.size_at.ensures (c.eq.ensures ∙ same-is c.kind_at-kind.result Present) c.if-eq.true c.from.result)
+      | then-absent w ↦ rw w.child-is (omega (arith, c.decreases), last_call (both t (goal.at.walk_at-requires t c).After-size) (test t (goal.at.walk_at-requires t c).Then-eq) c.from.result)
+      | else-absent w ↦ rw w.child-is (omega (arith, c.decreases), first_call (both t (goal.at.walk_at-requires t c).After-size) (test t (goal.at.walk_at-requires t c).Then-eq) c.from.result)
     ]
 
 pub returns-then-eq : goal.returns-then-eq
 returns-then-eq t c =
-    let law = test-returns c.requires c.kind_at-kind.ensures c.arity-children.ensures c.if-children-eq0.false c.if-children-eq1.false c.size_at.ensures (c.eq.ensures ∙ same-is c.kind_at-kind.result Present) c.if-eq.true c.goes_absent-absent.ensures in
+    let law = test-returns (both t (goal.at.returns-then-eq t c).After-size) (test t (goal.at.returns-then-eq t c).Then-eq) c.goes_absent-absent.ensures in
     elim c.if-absent.branch [
       | then-absent w ↦ law true w.if-absent.true w.child-is (rw w.if-absent.true at c.from.ensures) c.walk_at.ensures
       | else-absent w ↦ law false w.if-absent.false w.child-is (rw w.if-absent.false at c.from.ensures) c.walk_at.ensures
     ]
 
 pub offset_bounds-self-last-2 : goal.offset_bounds-self-last-2
-offset_bounds-self-last-2 t c = omega (arith, in_place c.requires.formed.measured (inside c.requires))
+offset_bounds-self-last-2 t c = omega (arith, inside c.requires, few c.args.self.now.tree.tree)
 
 pub bounds-self-last-2 : goal.bounds-self-last-2
-bounds-self-last-2 t c =
-    last-room c.requires c.kind_at-kind.ensures c.arity-children.ensures c.if-children-eq0.false c.if-children-eq1.false c.size_at.ensures
+bounds-self-last-2 t c = last-room (both t (goal.at.bounds-self-last-2 t c).After-size)
 
 pub need_first-before-requires : goal.need_first-before-requires
 need_first-before-requires t c =
-    (last-low c.requires c.kind_at-kind.ensures c.arity-children.ensures c.if-children-eq0.false c.if-children-eq1.false c.size_at.ensures, need_low c.requires c.kind_at-kind.ensures c.arity-children.ensures)
+    (last-low (both t (goal.at.need_first-before-requires t c).After-size), need_low (here t (goal.at.need_first-before-requires t c).After-arity-children))
 
 pub walk_at-left-requires : goal.walk_at-left-requires
 walk_at-left-requires t c =
     let some = last-lower t (goal.at.walk_at-left-requires t c).Else-children-eq0 in
-    (omega (arith, c.decreases), left_call c.requires c.kind_at-kind.ensures c.arity-children.ensures c.if-children-eq0.false c.if-children-eq1.false c.size_at.ensures (c.eq.ensures ∙ same-is c.kind_at-kind.result Present) c.if-eq.false (c.eq-ordered.ensures ∙ same-is c.kind_at-kind.result Sequence) c.need_first-before.ensures)
+    (omega (arith, c.decreases), left_call (both t (goal.at.walk_at-left-requires t c).After-size) (no_test t (goal.at.walk_at-left-requires t c).Else-eq) (c.eq-ordered.ensures ∙ same-is c.kind-kind.result Sequence) c.need_first-before.ensures)
 
 pub returns-then-left-ne0 : goal.returns-then-left-ne0
 returns-then-left-ne0 t c =
-    left-returns c.requires c.kind_at-kind.ensures c.arity-children.ensures c.if-children-eq0.false c.if-children-eq1.false c.size_at.ensures (c.eq.ensures ∙ same-is c.kind_at-kind.result Present) c.if-eq.false (c.eq-ordered.ensures ∙ same-is c.kind_at-kind.result Sequence) c.need_first-before.ensures c.walk_at-left.ensures c.if-ordered.true c.if-left-ne0.true
+    left-returns (both t (goal.at.returns-then-left-ne0 t c).After-size) (no_test t (goal.at.returns-then-left-ne0 t c).Else-eq) (c.eq-ordered.ensures ∙ same-is c.kind-kind.result Sequence) c.need_first-before.ensures c.walk_at-left.ensures c.if-ordered.true c.if-left-ne0.true
 
 pub need_under-under-requires-2 : goal.need_under-under-requires-2
 need_under-under-requires-2 t c =
-    left-low c.requires c.kind_at-kind.ensures c.arity-children.ensures c.if-children-eq0.false c.if-children-eq1.false c.size_at.ensures (c.eq.ensures ∙ same-is c.kind_at-kind.result Present) c.if-eq.false (c.eq-ordered.ensures ∙ same-is c.kind_at-kind.result Sequence) c.need_first-before.ensures c.walk_at-left.ensures
+    left-low (both t (goal.at.need_under-under-requires-2 t c).After-size) (no_test t (goal.at.need_under-under-requires-2 t c).Else-eq) (c.eq-ordered.ensures ∙ same-is c.kind-kind.result Sequence) c.need_first-before.ensures c.walk_at-left.ensures
 
 pub walk_at-right-requires : goal.walk_at-right-requires
 walk_at-right-requires t c =
     let some = last-lower t (goal.at.walk_at-right-requires t c).Else-children-eq0 in
-    (omega (arith, c.decreases), right_call c.requires c.kind_at-kind.ensures c.arity-children.ensures c.if-children-eq0.false c.if-children-eq1.false c.size_at.ensures (c.eq.ensures ∙ same-is c.kind_at-kind.result Present) c.if-eq.false (c.eq-ordered.ensures ∙ same-is c.kind_at-kind.result Sequence) c.need_first-before.ensures c.walk_at-left.ensures c.need_under-under-2.ensures)
+    (omega (arith, c.decreases), right_call (both t (goal.at.walk_at-right-requires t c).After-size) (no_test t (goal.at.walk_at-right-requires t c).Else-eq) (c.eq-ordered.ensures ∙ same-is c.kind-kind.result Sequence) c.need_first-before.ensures c.walk_at-left.ensures c.need_under-under-2.ensures)
 
 pub returns : goal.returns
 returns t c =
-    both-returns c.requires c.kind_at-kind.ensures c.arity-children.ensures c.if-children-eq0.false c.if-children-eq1.false c.size_at.ensures (c.eq.ensures ∙ same-is c.kind_at-kind.result Present) c.if-eq.false (c.eq-ordered.ensures ∙ same-is c.kind_at-kind.result Sequence) c.need_first-before.ensures c.walk_at-left.ensures c.need_under-under-2.ensures c.walk_at-right.ensures c.max.ensures refl refl
+    both-returns (both t (goal.at.returns t c).After-size) (no_test t (goal.at.returns t c).Else-eq) (c.eq-ordered.ensures ∙ same-is c.kind-kind.result Sequence) c.need_first-before.ensures c.walk_at-left.ensures c.need_under-under-2.ensures c.walk_at-right.ensures c.max.ensures refl refl
     (λ z. elim c.else-ordered.either [ inl h ↦ h.1 | inr h ↦ cc ])
