@@ -5,13 +5,11 @@ use mathlib.Core.Bool.{Bool, true, false}
 use mathlib.Core.List.{List, ◌++◌}
 use Prim.Native.Nat.{ℕ, zero, suc, ◌+◌, ◌-◌, ◌≤◌, ◌<◌}
 use native.Mathlib.Omega.{arith}
-use borrow.Author.Tests.{leb-true}
-use lib.Dec.{leb}
 use lib.ListN.{length, get_or, take, drop, length-drop, length-replicate, length-append}
 use lib.Seq.{sets, sets-eq, take_at}
 use Rattle.std.specs.Prelude.{Option, Some, None, Ok}
 use Rattle.std.specs.Option.{ok_or}
-use Rattle.esterel.specs.Limits.{max_nodes, signals}
+use Rattle.esterel.specs.Limits.{signals}
 use Rattle.esterel.specs.Refusal.{Reply, yields, rejects}
 use Rattle.esterel.specs.declared.Refusal.{Refusal}
 use Rattle.esterel.specs.Statement.{Stmt, size, nodes}
@@ -34,10 +32,7 @@ use Rattle.analysis.proofs.Analyses.{verdict-refused}
 use Rattle.instant.specs.Run.{stmt_at, first_at, bytes_at, Clear, Holding, RanIs, ran, starves, Started, Resumed}
 use Rattle.instant.specs.declared.Reaction.{Reaction}
 use Rattle.instant.specs.Admission.{Counted}
-use Rattle.analysis.specs.Analysis.{checked, TreeChecked}
-use Rattle.analysis.proofs.Theorems.{checked-passed}
-use Rattle.instant.specs.Run.{Runnable}
-use Rattle.instant.specs.Calls.{room_for, CallChecked, Call, closing, handed, Reacts, Ready, start_call, resume_call, verdict_for}
+use Rattle.instant.specs.Calls.{Call, closing, handed, Reacts, Ready, start_call, resume_call, verdict_for}
 use Rattle.instant.proofs.Emissions.{marks-are}
 use Rattle.instant.proofs.Entering.{counts_rise, admitted-small}
 use Rattle.instant.proofs.Nodes.{accepted}
@@ -99,25 +94,6 @@ module _ (t answers held held' marks' : List ℕ) {n : ℕ} (long : size (progra
       let left : take n held' ≡ h = ap (take n) es ∙ sets-front held h n (held-length sure ∙ sym en) (omega arith) in
       rw (left, bytes, same_taken (program_of t) answers c k u h le sure)
   hands sure starves = refl
-
--- the checks of a call hand out a tree
-pub call-checked : {t : List ℕ} {state emissions : ℕ} {room : Bool} {r : Reply Tree} → room ≡ room_for state emissions → TreeChecked room t r → CallChecked t state emissions r
-call-checked {t} {state} {emissions} {room} e o =
-    record {
-      answer = o.answer ∙ ap (λ b. check_of (checked b t)) e;
-      ready = λ x is.
-          let same = o.same x is in
-          let z = o.sized x is in
-          let suffices : room_for state emissions ≡ true = sym e ∙ z.suffices in
-          record {
-            same = same;
-            verdict = ap (λ b. checked b t) (sym e) ∙ z.verdict ∙ ap (λ u. passed (program_of u)) (sym same);
-            runnable = subst Runnable (sym same) (record { accepted = checked-passed room t (program_of t) z.verdict });
-            few = subst (λ u. size (program_of u) ≤ max_nodes) (sym same) z.few;
-            places = leb-true state_bytes state (left (leb state_bytes state) (leb signals emissions) suffices);
-            marks = leb-true signals emissions (right (leb state_bytes state) suffices);
-          };
-    }
 
 -- a refusal by checks 1 to 11
 module _ (t state emissions answers : List ℕ) {number node : ℕ} (e : rejects number node ≡ check_of (verdict_for t (length state) (length emissions))) where

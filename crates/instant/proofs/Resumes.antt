@@ -98,10 +98,7 @@ module _ {t counts answers held em : List ℕ} {node taken : ℕ} (ok : Runnable
     record { state = state_as (sym ew) (bytes_as held (sym ef) (sym ew)) st; listed = hd.listed; counted = λ i a b. hd.counted i (omega arith) (omega arith) },
   )
 
-  -- the counts at a node j beneath this one, and what they tell
-  pub test_call : (j : ℕ) → j ≤ node → (j < size (program_of t)) × (j + 1 < length counts)
-  test_call j le = (omega (arith, room.within), omega (arith, room.within, hd.listed))
-
+  -- what the counts tell of a node j beneath this one
   test-is : {f : ℕ} {w : Stmt} (j : ℕ) → stmt_at t j ≡ w → first_at t j ≡ f → first_at t node ≤ f → j < node → holds (part f w held) ≡ holds_beneath t counts j
   test-is {f} {w} j ew ef lo hi =
       let ends : f + size w ≡ j + 1 = omega (arith, spans t j (omega (arith, room.within)), ap size ew) in

@@ -1,6 +1,6 @@
 -- The small functions' answers, by what is known at each return.
 use mathlib.Core.Path.{◌≡◌}
-use mathlib.Core.Bool.{true, false}
+use mathlib.Core.Bool.{true}
 use mathlib.Core.List.{List}
 use Prim.Native.Nat.{ℕ, ◌-◌}
 use borrow.Author.Tests.{eq-eqb, ne_eqb}
@@ -11,11 +11,8 @@ use Rattle.table.specs.declared.Kind.{Kind}
 use Rattle.instant.specs.Steps.{one_more, catch_ran, Left}
 use Rattle.instant.specs.declared.Reaction.{Reaction}
 
--- a node with one child is left: a trap that catches or does not, or another
+-- a trap is left, which catches or does not
 module _ {k : Kind} {inner : Reaction} {first node : ℕ} {held : List ℕ} where
-  pub other-left : {r : Reaction} → is_trap k ≡ false → r ≡ one_more inner → Left k inner first node held held r
-  other-left tr e = record { answer = rw tr e; state = rw tr }
-
   module _ (tr : is_trap k ≡ true) {held' : List ℕ} {r : Reaction} (e : r ≡ one_more (catch_ran inner)) where
     pub trap-catches : inner.code ≡ 2 → held' ≡ sets held first (zeros (node - first)) → Left k inner first node held held' r
     trap-catches two h = record { answer = rw tr e; state = rw (tr, eq-eqb inner.code 2 two) h }

@@ -7,7 +7,7 @@ ghost use Rattle.instant.specs.Run.{Runnable, Room, Clear, Started, Holding, Res
 use crate::{Reaction, steps};
 use table::{Kind, Tree};
 
-// What a run reads: a tree, and the answers.
+// What a run reads: a tree, and the answers, each lent for a time of its own, as `start` takes them.
 #[derive(Clone, Copy)]
 pub struct Inputs<'t, 'a> {
     pub tree: Tree<'t>,

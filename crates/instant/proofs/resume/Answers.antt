@@ -40,6 +40,3 @@ returns c =
     (resume-hands ready c.args.answers.now c.args.state.now c.args.emissions.now refl refl (omega arith) _ (omega (arith, ready.few))
     c.admit.ensures.answer c.if-not-admit.false own c.resume_at-ran.ensures)
     c.hand_over.ensures
-
-pub overflow_sub-n : goal.overflow_sub-n
-overflow_sub-n c = omega (arith, size_pos (program_of c.in_ok-tree.tree.table.now))

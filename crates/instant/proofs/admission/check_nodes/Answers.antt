@@ -1,6 +1,6 @@
 -- All nodes fit: proofs/Admits.antt.
 use Rattle.std.proofs.Common.{refl, ap, ◌∙◌, not, arith, rules, tests}
-use Rattle.std.proofs.lemmas.Iterator.{serves_from_Range, YieldsList-from_range}
+use Rattle.std.proofs.lemmas.Iterator.{YieldsList-from_range}
 use Rattle.std.proofs.lemmas.Iterator.Search.{all_from_yields_List}
 use borrow.Author.Tests.{eq-eqb}
 use Rattle.esterel.specs.Statement.{nodes}
@@ -8,13 +8,6 @@ use Rattle.table.specs.Program.{program_of}
 use Rattle.instant.specs.Admission.{node_fits}
 use Rattle.instant.proofs.Admits.{nothing-held, all-fit}
 use Rattle.instant.proofs.admission.check_nodes.Goals as goal
-
-pub bounds-counts-n : goal.bounds-counts-n
-bounds-counts-n c = omega (arith, c.requires.1.long)
-
-pub all-requires-clause-callable : goal.all-requires-clause-callable
-all-requires-clause-callable c =
-    serves_from_Range (λ x q k. search (rules, tests)) (λ x low high l p g e r f a b d. (omega arith, c.requires.0, c.requires.1))
 
 pub returns-then-counts-n-ne0 : goal.returns-then-counts-n-ne0
 returns-then-counts-n-ne0 c =

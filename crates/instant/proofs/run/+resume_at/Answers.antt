@@ -7,7 +7,7 @@ use Rattle.table.proofs.Surveying.{few-nodes}
 use Rattle.table.proofs.TreeViews.{has_last, first_le}
 use Rattle.instant.proofs.Nodes.{fine}
 use Rattle.instant.proofs.Returns.{size_le, few-entries}
-use Rattle.instant.proofs.Resumes.{few_resumed, test_call, leaf-returns, ask-starves, asked-returns, child_call, child-starves, child-returns, body_call, loop-returns}
+use Rattle.instant.proofs.Resumes.{few_resumed, leaf-returns, ask-starves, asked-returns, child_call, child-starves, child-returns, body_call, loop-returns}
 use Rattle.instant.proofs.Resumes.{right_call, right_returns, left_call, first-starves, stops-returns, start_call_lem, sequence-returns, alone-returns, second_call, parallel-returns}
 use Rattle.instant.proofs.run.+resume_at.Goals as goal
 use Rattle.instant.proofs.run.+resume_at.Goals.{else-eq-via-then-eq+else-inner-eq0, else-eq-via-else-eq}
@@ -68,10 +68,6 @@ pub overflow_sub-first : goal.overflow_sub-first
 overflow_sub-first t c =
     first_le (fine c.requires.0) c.requires.1.within c.kind-kind.ensures c.arity-children.ensures c.size-size.ensures c.if-children-eq0.false c.if-children-eq1.false
 
-pub holds_beneath-requires : goal.holds_beneath-requires
-holds_beneath-requires t c =
-    test_call c.requires.0 c.requires.1 c.requires.2 (c.args.node - 1 - c.size-size.result) (omega arith)
-
 pub resume_at-requires-then-not-holds_beneath : goal.resume_at-requires-then-not-holds_beneath
 resume_at-requires-then-not-holds_beneath t c =
     (omega (arith, has_last (fine c.requires.0) c.requires.1.within c.kind-kind.ensures c.arity-children.ensures c.if-children-eq0.false), right_call c.requires.0 c.requires.1 c.requires.2 c.kind-kind.ensures c.arity-children.ensures c.size-size.ensures c.if-children-eq0.false c.if-children-eq1.false c.holds_beneath.ensures c.if-not-holds_beneath.true)
@@ -119,10 +115,6 @@ join-requires-then-eq-2 t c =
 pub returns-then-eq-2 : goal.returns-then-eq-2
 returns-then-eq-2 t c =
     sequence-returns c.requires.0 c.requires.1 c.requires.2 c.kind-kind.ensures c.arity-children.ensures c.size-size.ensures c.if-children-eq0.false c.if-children-eq1.false c.holds_beneath.ensures c.if-not-holds_beneath.false c.in_ok-left.ensures (sym (same-is _ Sequence) ∙ sym c.eq-2.ensures ∙ c.if-eq-2.true) c.if-left-ne0.false c.in_ok-right.ensures (ap Some c.join-then-eq-2.ensures)
-
-pub holds_beneath-requires-2 : goal.holds_beneath-requires-2
-holds_beneath-requires-2 t c =
-    test_call c.requires.0 c.requires.1 c.requires.2 (c.args.node - 1) (omega arith)
 
 pub one_more-requires-then-not-holds_beneath-2 : goal.one_more-requires-then-not-holds_beneath-2
 one_more-requires-then-not-holds_beneath-2 t c =

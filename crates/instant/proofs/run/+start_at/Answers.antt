@@ -11,10 +11,6 @@ use Rattle.instant.proofs.Returns.{first_call, present-starves, branch_lt, branc
 use Rattle.instant.proofs.run.+start_at.Goals as goal
 use Rattle.instant.proofs.run.+start_at.Goals.{else-eq-2-via-then-eq-2+else-left-ne0, else-eq-2-via-else-eq-2}
 
-pub start_leaf-requires : goal.start_leaf-requires
-start_leaf-requires t c =
-    (c.requires.1.within, omega (arith, c.requires.1.within, c.requires.1.places), c.requires.1.marks)
-
 pub returns-then-children-eq0 : goal.returns-then-children-eq0
 returns-then-children-eq0 t c =
     leaf-returns c.requires.0 c.requires.1 c.requires.2 c.kind-kind.ensures c.arity-children.ensures c.if-children-eq0.true c.start_leaf.ensures

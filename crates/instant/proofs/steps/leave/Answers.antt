@@ -1,15 +1,12 @@
 -- A trap that catches clears the bytes beneath it.
 use Rattle.std.proofs.Common.{sym, ◌∙◌, arith}
-use Rattle.std.proofs.lemmas.Bool.{not-true, not-false}
+use Rattle.std.proofs.lemmas.Bool.{not-false}
 use Rattle.table.specs.declared.Kind.TheVariants.{Trap}
 use Rattle.table.proofs.Comparing.{same-is}
 use Rattle.packing.proofs.Zeros.{cleared}
-use Rattle.instant.proofs.Small.{other-left, trap-catches, trap-passes}
+use Rattle.instant.proofs.Small.{trap-catches, trap-passes}
 use Rattle.instant.proofs.steps.leave.Goals as goal
 use Rattle.instant.proofs.steps.leave.Goals.{then-inner-eq2, else-inner-eq2}
-
-pub returns-then-ne : goal.returns-then-ne
-returns-then-ne c = other-left (sym (same-is _ Trap) ∙ not-true _ (sym c.ne.ensures ∙ c.if-ne.true)) c.one_more-left.ensures
 
 pub returns : goal.returns
 returns c =
