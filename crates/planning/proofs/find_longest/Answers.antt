@@ -10,9 +10,6 @@ returns-in_err-tree c =
     subst (Hands c.args.table.now c.args.answers.now c.args.answers.now) (sym (handed_on c.from_residual.result _ c.from_residual.ensures.1))
     (refused-hands c.args.answers.now c.in_err-tree.ensures)
 
-pub fill_rows-requires : goal.fill_rows-requires
-fill_rows-requires c = (well_formed c.args.answers.now (own c.in_ok-tree.ensures), omega (arith, c.nodes-n.ensures), omega arith)
-
 pub overflow_sub-last : goal.overflow_sub-last
 overflow_sub-last c = some-node c.args.answers.now (own c.in_ok-tree.ensures) c.nodes-n.ensures
 
