@@ -20,7 +20,7 @@ class Function:
 
 
 def functions(crate, text):
-    for start in re.finditer(r"(?m)^ *(?:pub )?(?:extern \"C\" )?fn (\w+)", text):
+    for start in re.finditer(r"(?m)^ *(?:pub(?:\(\w+\))? )?(?:extern \"C\" )?fn (\w+)", text):
         brace = re.compile(r"(?m)^ *\{\n|\) (?:-> [^\n{]*)?\{\n").search(text, start.end())
         if not brace:
             continue
@@ -54,14 +54,14 @@ def main():
     for path in sorted(folder.glob("crates/*/src/*.rt")):
         crate = path.parts[-3]
         text = re.sub(r"//[^\n]*", "", path.read_text())
-        for enum in re.finditer(r"(?m)^(?:pub )?enum (\w+) \{\n((?:    .*\n)+)\}", text):
+        for enum in re.finditer(r"(?m)^(?:pub(?:\(\w+\))? )?enum (\w+) \{\n((?:    .*\n)+)\}", text):
             found = variants(enum[2])
             mixed = len({data for _, data in found}) == 2
             if mixed or any(name == "Refused" for name, _ in found):
                 places["1 enums with a variant Refused, or variants with data beside ones without"].append(f"{crate}::{enum[1]}")
         for number in re.finditer(r"number: \d+|pass_if\(\d+|refusal\(\d+|number (?:!=|==) \d+", text):
             places["1 numbers of checks in the code"].append(f"{crate}: {number[0]}")
-        for code in re.finditer(r"(?m)^(?:pub )?const (\w+): u(?:8|16) = \d+;", text):
+        for code in re.finditer(r"(?m)^(?:pub(?:\(\w+\))? )?const (\w+): u(?:8|16) = \d+;", text):
             places["1 constants that number kinds"].append(f"{crate}::{code[1]}")
         for f in functions(crate, text):
             if f.body.strip():

@@ -2,286 +2,56 @@
 // answer; or number + 256 * node of a refusal, and no buffer has changed, the answer among them.
 #![tactic(auto)]
 
-ghost use Rattle.std.specs.Prelude.{◌≡◌, [], ◌∷◌, ◌≤◌, ◌<◌, length};
+ghost use Rattle.std.specs.Prelude.{◌≡◌, ◌≤◌, length};
+ghost use Rattle.esterel.specs.Refusal.{number_of, rejects, reply};
 ghost use Rattle.table.specs.Check.{length_check};
-ghost use Rattle.analysis.specs.Passes.{onto};
-ghost use Rattle.abi.specs.Exported.{max_node, returned, Small, Tells, tell_analysed, tell_reaction, tell_rendered, tell_reading, tell_place, tell_tick, tell_fetched, tell_span, tell_narrowed, tell_planned, tell_longest, tell_asked, tell_tried, short_answer, Analysing, StartingC, ResumingC, RenderingC, ReadingC, PlacingC, TickingC, FetchingC, LocatingC, NarrowingC, PlanningC, HandingC, AskingC, TryingC};
+ghost use Rattle.abi.specs.Exported.{max_node, returned as returned_of, Small, Tells, tell as told_of, short_answer as short_answer_of, Analysing, StartingC, ResumingC, RenderingC, ReadingC, PlacingC, TickingC, FetchingC, LocatingC, NarrowingC, PlanningC, HandingC, AskingC, TryingC};
 
-use analysis::Analysed;
-use blocks::{Fetched, Span};
-use instant::Reaction;
-use listing::Rendered;
-use planning::{Longest, Planned};
-use question::Asked;
-use table::Check;
-use text::Reading;
-use tied::Narrowed;
-use trial::Tried;
-use witness::Tick;
+mod figures;
 
-// What a call tells: three figures, or the number and the node of a refusal.
-#[derive(Drop)]
-enum Told {
-    Figures {
-        first: usize,
-        second: usize,
-        third: usize,
-    },
-    Refusal {
-        number: u8,
-        node: usize,
-    },
-}
+use esterel::{Check, Refusal};
+use figures::Figures;
 
 // The entries of an answer.
 const FIGURES: usize = 3;
 
-// A number in the width that is returned; its range keeps the sum in `refusal` small.
-fn widened(number: u8) -> u32
-    ensures { (result ≡ number) × (result < 256) }
-{
-    number as u32
-}
-
 // What is returned for a refusal.
-fn refusal(number: u8, node: usize) -> u32
-    requires { node ≤ max_node }
-    ensures { result ≡ returned (Told.Refusal number node) }
+fn returned(refusal: Refusal) -> u32
+    requires { refusal.node ≤ max_node }
+    ensures { result ≡ returned_of (rejects (number_of refusal.check) refusal.node) }
 {
-    widened(number) + 256 * node as u32
-}
-
-fn write_figures(answer: &mut [u64], first: usize, second: usize, third: usize)
-    requires { 3 ≤ length answer.old }
-    ensures { answer.new ≡ onto (first ∷ second ∷ third ∷ []) answer.old }
-{
-    answer[0] = first as u64;
-    answer[1] = second as u64;
-    answer[2] = third as u64;
+    refusal.check as u32 + 256 * refusal.node as u32
 }
 
 // The end of each function: the figures go to the answer, a refusal is returned.
-fn tell(told: Told, answer: &mut [u64]) -> u32
-    requires { (3 ≤ length answer.old) × Small told }
-    ensures { Tells told answer.old answer.new result }
+fn tell<T: Figures>(told: Result<T, Refusal>, answer: &mut [u64]) -> u32
+    requires room { 3 ≤ length answer.old }
+    requires small { Small (told_of T.tells (reply told)) }
+    ensures { Tells (told_of T.tells (reply told)) answer.old answer.new result }
 {
     match told {
-        Told::Figures {
-            first,
-            second,
-            third,
-        } => {
-            write_figures(answer, first, second, third);
+        Ok(value) => {
+            answer[..FIGURES].copy_from_slice(&value.figures());
             0
         }
-        Told::Refusal { number, node } => refusal(number, node),
+        Err(refusal) => returned(refusal),
     }
 }
+
+// Why a lent buffer that is too short is refused, the answer among them.
+const NO_ROOM: Refusal = Refusal {
+    check: Check::NoRoom,
+    node: 0,
+};
 
 // What an answer that is too short is refused with: checks 1 and 2 of the table come before check 3.
 fn short_answer(table: &[u8]) -> u32
-    ensures { result ≡ returned (short_answer (length_check table.now)) }
+    ensures { result ≡ returned_of (short_answer_of (length_check table.now)) }
 {
-    let length = table::check_length(table);
-    let Check::Refused { number, node } = length else {
-        return refusal(3, 0);
+    let Err(refusal) = table::check_length(table) else {
+        return returned(NO_ROOM);
     };
-    refusal(number, node)
-}
-
-fn tell_analysed(analysed: Analysed) -> Told
-    ensures { result ≡ tell_analysed analysed }
-{
-    match analysed {
-        Analysed::Done { nodes, loops } => Told::Figures {
-            first: nodes,
-            second: loops,
-            third: 0,
-        },
-        Analysed::Refused { number, node } => Told::Refusal { number, node },
-    }
-}
-
-fn tell_reaction(reaction: Reaction) -> Told
-    ensures { result ≡ tell_reaction reaction }
-{
-    match reaction {
-        Reaction::Closed {
-            code,
-            taken,
-            entries,
-        } => Told::Figures {
-            first: code,
-            second: taken,
-            third: entries,
-        },
-        Reaction::Refused { number, node } => Told::Refusal { number, node },
-    }
-}
-
-fn tell_rendered(rendered: Rendered) -> Told
-    ensures { result ≡ tell_rendered rendered }
-{
-    match rendered {
-        Rendered::Whole { length } => Told::Figures {
-            first: length,
-            second: 0,
-            third: 0,
-        },
-        Rendered::TooShort => Told::Refusal { number: 3, node: 0 },
-    }
-}
-
-fn tell_reading(reading: Reading) -> Told
-    ensures { result ≡ tell_reading reading }
-{
-    match reading {
-        Reading::Done { nodes, signals } => Told::Figures {
-            first: nodes,
-            second: signals,
-            third: 0,
-        },
-        Reading::Refused {
-            number,
-            node,
-            place: _,
-        } => Told::Refusal { number, node },
-    }
-}
-
-// The refusal of a text as figures, with its place.
-fn tell_place(reading: Reading) -> Told
-    ensures { result ≡ tell_place reading }
-{
-    match reading {
-        Reading::Done {
-            nodes: _,
-            signals: _,
-        } => Told::Figures {
-            first: 0,
-            second: 0,
-            third: 0,
-        },
-        Reading::Refused {
-            number,
-            node,
-            place,
-        } => Told::Figures {
-            first: number as usize,
-            second: node,
-            third: place,
-        },
-    }
-}
-
-fn tell_tick(tick: Tick) -> Told
-    ensures { result ≡ tell_tick tick }
-{
-    match tick {
-        Tick::Ends { node, length } => Told::Figures {
-            first: 1,
-            second: node,
-            third: length,
-        },
-        Tick::Accepted { nodes, loops } => Told::Figures {
-            first: 0,
-            second: nodes,
-            third: loops,
-        },
-        Tick::Refused { number, node } => Told::Refusal { number, node },
-    }
-}
-
-fn tell_fetched(fetched: Fetched) -> Told
-    ensures { result ≡ tell_fetched fetched }
-{
-    match fetched {
-        Fetched::Done {
-            length,
-            edition,
-            parts,
-        } => Told::Figures {
-            first: length,
-            second: edition as usize,
-            third: parts as usize,
-        },
-        Fetched::Refused { number, node } => Told::Refusal { number, node },
-    }
-}
-
-fn tell_span(span: Span) -> Told
-    ensures { result ≡ tell_span span }
-{
-    Told::Figures {
-        first: span.from,
-        second: span.length,
-        third: 0,
-    }
-}
-
-fn tell_narrowed(narrowed: Narrowed) -> Told
-    ensures { result ≡ tell_narrowed narrowed }
-{
-    match narrowed {
-        Narrowed::Done { nodes } => Told::Figures {
-            first: nodes,
-            second: 0,
-            third: 0,
-        },
-        Narrowed::Refused { number, node } => Told::Refusal { number, node },
-    }
-}
-
-fn tell_planned(planned: Planned) -> Told
-    ensures { result ≡ tell_planned planned }
-{
-    match planned {
-        Planned::Entries { entries } => Told::Figures {
-            first: entries,
-            second: 0,
-            third: 0,
-        },
-        Planned::Refused { number, node } => Told::Refusal { number, node },
-    }
-}
-
-fn tell_longest(longest: Longest) -> Told
-    ensures { result ≡ tell_longest longest }
-{
-    match longest {
-        Longest::Reached { entries, length } => Told::Figures {
-            first: entries,
-            second: length,
-            third: 0,
-        },
-        Longest::Refused { number, node } => Told::Refusal { number, node },
-    }
-}
-
-fn tell_asked(asked: Asked) -> Told
-    ensures { result ≡ tell_asked asked }
-{
-    match asked {
-        Asked::Known { answer, count } => Told::Figures {
-            first: answer as usize,
-            second: count,
-            third: 0,
-        },
-        Asked::Refused { number, node } => Told::Refusal { number, node },
-    }
-}
-
-fn tell_tried(tried: Tried) -> Told
-    ensures { result ≡ tell_tried tried }
-{
-    match tried {
-        Tried::Gathered { set, presents } => Told::Figures {
-            first: set as usize,
-            second: presents,
-            third: 0,
-        },
-        Tried::Refused { number, node } => Told::Refusal { number, node },
-    }
+    returned(refusal)
 }
 
 #[unsafe(no_mangle)]
@@ -299,7 +69,7 @@ pub extern "C" fn bavzhrono_analyse(
         return short_answer(table);
     }
     let analysed = analysis::analyse(table, start_sets, any_sets, contexts, marks);
-    tell(tell_analysed(analysed), answer)
+    tell(analysed, answer)
 }
 
 #[unsafe(no_mangle)]
@@ -316,7 +86,7 @@ pub extern "C" fn bavzhrono_start(
         return short_answer(table);
     }
     let reaction = instant::start(table, answers, state, emissions);
-    tell(tell_reaction(reaction), answer)
+    tell(reaction, answer)
 }
 
 #[unsafe(no_mangle)]
@@ -333,7 +103,7 @@ pub extern "C" fn bavzhrono_resume(
         return short_answer(table);
     }
     let reaction = instant::resume(table, answers, state, emissions);
-    tell(tell_reaction(reaction), answer)
+    tell(reaction, answer)
 }
 
 // A refused table is a text as any other, so that only check 3 refuses this call.
@@ -342,10 +112,10 @@ pub extern "C" fn bavzhrono_render(table: &[u8], text: &mut [u8], answer: &mut [
     ensures { RenderingC table.now text.old answer.old text.new answer.new result }
 {
     if answer.len() < FIGURES {
-        return refusal(3, 0);
+        return returned(NO_ROOM);
     }
     let rendered = listing::render(table, text);
-    tell(tell_rendered(rendered), answer)
+    tell(rendered.ok_or(NO_ROOM), answer)
 }
 
 // A lent table that is too short is refused ahead of all else, and so is an answer.
@@ -354,10 +124,10 @@ pub extern "C" fn bavzhrono_read(text: &[u8], table: &mut [u8], answer: &mut [u6
     ensures { ReadingC text.now table.old answer.old table.new answer.new result }
 {
     if answer.len() < FIGURES {
-        return refusal(3, 0);
+        return returned(NO_ROOM);
     }
-    let reading = text::read(text, table);
-    tell(tell_reading(reading), answer)
+    let reading = text::read(text, table).map_err(|fault| fault.refusal);
+    tell(reading, answer)
 }
 
 // Why a text is refused, and where: with a table of its own, which is not handed out.
@@ -366,11 +136,11 @@ pub extern "C" fn bavzhrono_read_place(text: &[u8], answer: &mut [u64]) -> u32
     ensures { PlacingC text.now answer.old answer.new result }
 {
     if answer.len() < FIGURES {
-        return refusal(3, 0);
+        return returned(NO_ROOM);
     }
     let mut table = [0u8; 2 * esterel::MAX_NODES];
-    let reading = text::read(text, &mut table);
-    tell(tell_place(reading), answer)
+    let fault = text::read(text, &mut table).err();
+    tell(Ok(fault), answer)
 }
 
 // Where the table is refused by check 11, the tick: the answers with which the loop's body begins and ends at once.
@@ -382,7 +152,7 @@ pub extern "C" fn bavzhrono_tick(table: &[u8], answers: &mut [u8], answer: &mut 
         return short_answer(table);
     }
     let tick = witness::find_tick(table, answers);
-    tell(tell_tick(tick), answer)
+    tell(tick, answer)
 }
 
 // The table of a program's highest whole edition, from the blocks of a file. A lent table that is too short is refused ahead
@@ -397,10 +167,10 @@ pub extern "C" fn bavzhrono_fetch(
     ensures { FetchingC file.now program table.old answer.old table.new answer.new result }
 {
     if answer.len() < FIGURES {
-        return refusal(3, 0);
+        return returned(NO_ROOM);
     }
     let fetched = blocks::fetch(file, program, table);
-    tell(tell_fetched(fetched), answer)
+    tell(fetched, answer)
 }
 
 // Where the used content of a part is in the file: C has no part of a buffer that could be handed back.
@@ -415,10 +185,10 @@ pub extern "C" fn bavzhrono_part(
     ensures { LocatingC file.now program edition part answer.old answer.new result }
 {
     if answer.len() < FIGURES {
-        return refusal(3, 0);
+        return returned(NO_ROOM);
     }
     let span = blocks::locate(file, program, edition, part);
-    tell(tell_span(span), answer)
+    tell(Ok(span), answer)
 }
 
 // The start sets where some signals are known for certain.
@@ -435,7 +205,7 @@ pub extern "C" fn bavzhrono_narrow(
         return short_answer(table);
     }
     let narrowed = tied::narrow(table, ties, sets);
-    tell(tell_narrowed(narrowed), answer)
+    tell(narrowed, answer)
 }
 
 // The greatest number of entries that any answers can give when the program is started.
@@ -447,7 +217,7 @@ pub extern "C" fn bavzhrono_first_tick(table: &[u8], answer: &mut [u64]) -> u32
         return short_answer(table);
     }
     let planned = planning::most_entries(table);
-    tell(tell_planned(planned), answer)
+    tell(planned, answer)
 }
 
 // The same, with answers that reach it.
@@ -463,7 +233,7 @@ pub extern "C" fn bavzhrono_first_tick_answers(
         return short_answer(table);
     }
     let longest = planning::find_longest(table, answers);
-    tell(tell_longest(longest), answer)
+    tell(longest, answer)
 }
 
 // Whether a code is in the start set of a node, and the number of nodes looked at.
@@ -475,7 +245,7 @@ pub extern "C" fn bavzhrono_ask(table: &[u8], node: u64, code: u64, answer: &mut
         return short_answer(table);
     }
     let asked = question::ask(table, node as usize, code as usize);
-    tell(tell_asked(asked), answer)
+    tell(asked, answer)
 }
 
 // The start set of a node by trial, and the number of presents in it.
@@ -487,5 +257,5 @@ pub extern "C" fn bavzhrono_trial(table: &[u8], node: u64, answer: &mut [u64]) -
         return short_answer(table);
     }
     let tried = trial::trial(table, node as usize);
-    tell(tell_tried(tried), answer)
+    tell(tried, answer)
 }

@@ -23,15 +23,13 @@ use Rattle.table.specs.Program.{program_of, Readable}
 use Rattle.table.specs.Check.{refuse, length_check}
 use Rattle.table.specs.Check.{answer_of as check_of}
 use Rattle.table.proofs.Bytes.{table-length}
-use Rattle.table.proofs.Sizing.{measured}
 use Rattle.table.proofs.Trees.{measured-by}
-use Rattle.table.specs.Columns.{sizes_of}
 use Rattle.table.specs.Columns.{Measured}
 use Rattle.table.specs.declared.Tree.{Tree}
 use Rattle.table.proofs.Surveying.{few-nodes}
 use Rattle.analysis.specs.Steps.{set_of_stmt}
 use Rattle.analysis.specs.Passes.{Filled, words_of, onto, flags_of, Fillable, context_word, contexts_of, marks_of, Ready, depth_of, Accepting, Walkable}
-use Rattle.analysis.specs.Analysis.{check_room, checked, TableChecked, Sized, SizesChecked, TreeChecked, room_for, done, answer_of, k_of, a_of, s_of, mark_of, column, verdict_for, Analysis}
+use Rattle.analysis.specs.Analysis.{check_room, checked, TableChecked, Sized, TreeChecked, room_for, done, answer_of, k_of, a_of, s_of, mark_of, column, verdict_for, Analysis}
 use Rattle.analysis.proofs.Accepts.{length_law}
 use Rattle.analysis.proofs.Contexts.{length-marks}
 use Rattle.analysis.proofs.Filling.{filled, length-flags, flags-at}
@@ -91,9 +89,6 @@ module _ {t : List ℕ} {room : Bool} where
   pub table-refused : {number node : ℕ} → TableChecked room t (rejects number node) → checked room t ≡ refused number node
   table-refused o = depth-refused (checked room t) _ _ o.answer
 
-  pub sizes_fail : {number node : ℕ} (sizes : List ℕ) → TableChecked room t (rejects number node) → SizesChecked room t sizes (rejects number node)
-  sizes_fail sizes o = record { answer = sym (ap check_of (table-refused o)); sized = λ y. absurd (rejects≢yields y) }
-
   pub tree-fails : {number node : ℕ} → TableChecked room t (rejects number node) → TreeChecked room t (rejects number node)
   tree-fails o = record { answer = sym (ap check_of (table-refused o)); same = λ x y. absurd (rejects≢yields y); sized = λ x y. absurd (rejects≢yields y) }
 
@@ -117,16 +112,6 @@ module _ {t : List ℕ} {room : Bool} {d : ℕ} (o : TableChecked room t (yields
   -- what the sizes need
   pub sizable : (old : List ℕ) → max_nodes ≤ length old → Readable t × (size (program_of t) ≤ length old)
   sizable old long = (fine, omega (arith, few-nodes t fine))
-
-  -- they are filled in, in the place of old
-  pub sizes_checked : (old sizes : List ℕ) → max_nodes ≤ length sizes → sizes ≡ onto (sizes_of (program_of t)) old → SizesChecked room t sizes (yields tt)
-  sizes_checked old sizes long is =
-      let (suffices, verdict) = table-passed in
-      let few = few-nodes t fine in
-      record {
-        answer = sym (ap check_of verdict);
-        sized = λ _. record { suffices = suffices; verdict = verdict; ready = ready; measured = measured old fine (omega arith) is; few = few };
-      }
 
   -- the tree that is handed out
   pub tree-checked : (x : Tree) → x.table.now ≡ t → TreeChecked room t (yields x)

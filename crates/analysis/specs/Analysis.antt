@@ -34,10 +34,6 @@ pub record Sized (room : Bool) (t sizes : List ℕ) : Type 0 where
   pub measured : Measured t sizes
   pub few : size (program_of t) ≤ max_nodes
 
-pub record SizesChecked (room : Bool) (t sizes : List ℕ) (r : Reply (Unit {0})) : Type 0 where
-  pub answer : r ≡ check_of (checked room t)
-  pub sized : r ≡ yields tt → Sized room t sizes
-
 -- whether a call is refused, whatever it yields
 abbrev pub told : {A : Type 0} → Reply A → Reply (Unit {0})
 told (yields a) = yields tt

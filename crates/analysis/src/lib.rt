@@ -13,7 +13,7 @@ ghost use Rattle.table.specs.Check.{WellSized};
 ghost use Rattle.analysis.specs.Steps.{pause_set, sequence_of, codes_of, under_first_of, under_second_of};
 ghost use Rattle.analysis.specs.Contexts.{contexts_in, traps_in, TopOf, OnlyOf, SecondOf, Descended};
 ghost use Rattle.analysis.specs.Passes.{Placed, onto, loops_check, words_of, flags_of, Fillable, contexts_of, marks_of, Walkable, Accepting};
-ghost use Rattle.analysis.specs.Analysis.{TableChecked, SizesChecked, TreeChecked, room_for, Analysis};
+ghost use Rattle.analysis.specs.Analysis.{TableChecked, TreeChecked, room_for, Analysis};
 
 use esterel::{Check, Refusal};
 use table::{Kind, Tree};
@@ -326,16 +326,6 @@ pub fn check_table(table: &[u8], room: bool) -> Result<usize, Refusal>
         });
     }
     accept(table)
-}
-
-// The same of a call that walks the tree: where the checks pass, the sizes of all subtrees are filled in.
-pub fn check_sized(table: &[u8], room: bool, sizes: &mut [u16]) -> Result<(), Refusal>
-    requires { max_nodes ≤ length sizes.old }
-    ensures { SizesChecked room table.now sizes.new (reply result) }
-{
-    check_table(table, room)?;
-    table::fill_sizes(table, sizes);
-    Ok(())
 }
 
 // The same of a call that walks the tree, which is handed out where the checks pass.

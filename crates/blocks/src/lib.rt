@@ -3,7 +3,7 @@
 
 ghost use Rattle.std.specs.Prelude.{◌≡◌, ◌↔◌, IsTrue, true, EachIndex, slice_index, ◌++◌, ◌+◌, ◌*◌, ◌<◌, ◌≤◌, length, drop};
 ghost use Rattle.std.proofs.Math.Option.{some};
-ghost use Rattle.blocks.specs.Block.{block_size, word as word_of, good as good_of};
+ghost use Rattle.blocks.specs.Block.{block_size, Bytes, word as word_of, good as good_of};
 ghost use Rattle.blocks.specs.Editions.{file_fits, blocks_in, block_at, is_good_for, parts_of, newest as newest_of, table_of};
 ghost use Rattle.blocks.specs.Steps.{Summed, usable, Checked, is_part, Placed, FoundPlace, edition_of, higher_than, Best, chosen};
 ghost use Rattle.blocks.specs.Fetching.{Locating, Handing, refused_at, Fetching};
@@ -129,18 +129,6 @@ fn block_at(file: &[u8], i: usize) -> &[u8]
     &file[at..at + BLOCK]
 }
 
-// For each block, whether it is a good one of the program. A fetch sums bytes here alone, so that it sums each block once.
-fn check_blocks(file: &[u8], program: u16) -> [bool; MAX_BLOCKS]
-    requires { file_fits file.now ≡ true }
-    ensures { Checked file.now program result }
-{
-    let mut good = [false; MAX_BLOCKS];
-    for i in 0..file.len() / BLOCK {
-        good[i] = is_usable(block_at(file, i), program);
-    }
-    good
-}
-
 // The used content of a block in the file, and the number of parts that it names.
 #[derive(Drop)]
 struct Place {
@@ -162,64 +150,12 @@ fn place_at(file: &[u8], i: usize) -> Place
     }
 }
 
-// Of the good blocks for a program, an edition and a part the last counts.
-fn find(
-    file: &[u8],
-    good: &[bool; MAX_BLOCKS],
-    program: u16,
-    edition: u16,
-    number: u8,
-) -> Option<Place>
-    requires { Checked file.now program good.now }
-    ensures { FoundPlace file.now program edition number result }
-{
-    let n = file.len() / BLOCK;
-    for i in (0..n).rev() {
-        if good[i] && is_part(block_at(file, i), edition, number) {
-            return Some(place_at(file, i));
-        }
-    }
-    None
-}
-
 // A whole edition, with its number of parts and the length of its table.
 #[derive(Clone, Copy)]
 struct Edition {
     edition: u16,
     parts: u8,
     length: usize,
-}
-
-// Whether an edition is whole whose part 0 names so many parts.
-fn check_edition(
-    file: &[u8],
-    good: &[bool; MAX_BLOCKS],
-    program: u16,
-    edition: u16,
-    parts: u8,
-) -> Option<Edition>
-    requires { Checked file.now program good.now × (parts ≡ parts_of file.now program edition) }
-    ensures { result ≡ edition_of file.now program edition }
-{
-    if parts == 0 {
-        return None;
-    }
-    let mut length: usize = 0;
-    for k in 0..parts {
-        let place = find(file, good, program, edition, k)?;
-        if place.parts != parts {
-            return None;
-        }
-        if k + 1 < parts && place.length != CONTENT {
-            return None;
-        }
-        length += place.length;
-    }
-    Some(Edition {
-        edition,
-        parts,
-        length,
-    })
 }
 
 // Whether an edition is higher than the best so far.
@@ -232,46 +168,6 @@ fn is_higher(edition: u16, best: Option<Edition>) -> bool
     }
 }
 
-// The best edition so far, or that of block i if it is higher and whole. It is looked at only where block i counts for its part 0,
-// so that no edition is looked at twice.
-fn consider(
-    file: &[u8],
-    good: &[bool; MAX_BLOCKS],
-    program: u16,
-    i: usize,
-    best: Option<Edition>,
-) -> Option<Edition>
-    requires { Checked file.now program good.now × (i < blocks_in file.now) × Best file.now program i best }
-    ensures { Best file.now program (i + 1) result }
-{
-    if !good[i] {
-        return best;
-    }
-    let edition = word(block_at(file, i), 2);
-    if !is_higher(edition, best) {
-        return best;
-    }
-    let Some(first) = find(file, good, program, edition, 0) else {
-        return best;
-    };
-    if first.from != BLOCK * i + CONTENT_AT {
-        return best;
-    }
-    check_edition(file, good, program, edition, first.parts).or(best)
-}
-
-// The highest whole edition of a program.
-fn newest(file: &[u8], good: &[bool; MAX_BLOCKS], program: u16) -> Option<Edition>
-    requires { Checked file.now program good.now }
-    ensures { result ≡ chosen file.now program (newest_of file.now program) }
-{
-    let mut best = None;
-    for i in 0..file.len() / BLOCK {
-        best = consider(file, good, program, i, best);
-    }
-    best
-}
-
 // Copies some bytes to the front of others that have room for them; how many they are. No plainer in `join` itself: the library's copy speaks of
 // two parts of one length, and this contract of what stays behind the bytes.
 fn copy(from: &[u8], to: &mut [u8]) -> usize
@@ -282,26 +178,122 @@ fn copy(from: &[u8], to: &mut [u8]) -> usize
     from.len()
 }
 
-// The parts of an edition, joined.
-fn join(
-    file: &[u8],
-    good: &[bool; MAX_BLOCKS],
+// A file that is not refused 17, and for each of its blocks whether it is a good one of a program.
+#[derive(Drop)]
+struct Partition<'a> {
+    file: &'a [u8],
     program: u16,
-    edition: u16,
-    parts: u8,
-    table: &mut [u8],
-)
-    requires { Checked file.now program good.now × (parts ≡ parts_of file.now program edition) × (length (table_of file.now program edition) ≤ length table.old) }
-    ensures { table.new ≡ table_of file.now program edition ++ drop (length (table_of file.now program edition)) table.old }
-{
-    let mut at: usize = 0;
-    for k in 0..parts {
-        let Some(place) = find(file, good, program, edition, k) else {
-            continue;
+    good: [bool; MAX_BLOCKS],
+    ghost checked: { Checked file.now program good },
+    ghost bytes: { Bytes file.now },
+}
+
+impl<'a> Partition<'a> {
+    // A fetch sums bytes here alone, so that it sums each block once.
+    fn new(file: &'a [u8], program: u16) -> Partition<'a>
+        requires { file_fits file.now ≡ true }
+        ensures { (result.file.now ≡ file.now) × (result.program ≡ program) }
+    {
+        let mut good = [false; MAX_BLOCKS];
+        for i in 0..file.len() / BLOCK {
+            good[i] = is_usable(block_at(file, i), program);
+        }
+        Partition {
+            file,
+            program,
+            good,
+        }
+    }
+
+    // Of the good blocks for an edition and a part the last counts.
+    fn find(&self, edition: u16, number: u8) -> Option<Place>
+        ensures { FoundPlace self.now.file.now self.now.program edition number result }
+    {
+        let file = self.file;
+        let n = file.len() / BLOCK;
+        for i in (0..n).rev() {
+            if self.good[i] && is_part(block_at(file, i), edition, number) {
+                return Some(place_at(file, i));
+            }
+        }
+        None
+    }
+
+    // Whether an edition is whole whose part 0 names so many parts.
+    fn check_edition(&self, edition: u16, parts: u8) -> Option<Edition>
+        requires { parts ≡ parts_of self.now.file.now self.now.program edition }
+        ensures { result ≡ edition_of self.now.file.now self.now.program edition }
+    {
+        if parts == 0 {
+            return None;
+        }
+        let mut length: usize = 0;
+        for k in 0..parts {
+            let place = self.find(edition, k)?;
+            if place.parts != parts {
+                return None;
+            }
+            if k + 1 < parts && place.length != CONTENT {
+                return None;
+            }
+            length += place.length;
+        }
+        Some(Edition {
+            edition,
+            parts,
+            length,
+        })
+    }
+
+    // The best edition so far, or that of block i if it is higher and whole. It is looked at only where block i counts for its part 0,
+    // so that no edition is looked at twice.
+    fn consider(&self, i: usize, best: Option<Edition>) -> Option<Edition>
+        requires { (i < blocks_in self.now.file.now) × Best self.now.file.now self.now.program i best }
+        ensures { Best self.now.file.now self.now.program (i + 1) result }
+    {
+        if !self.good[i] {
+            return best;
+        }
+        let edition = word(block_at(self.file, i), 2);
+        if !is_higher(edition, best) {
+            return best;
+        }
+        let Some(first) = self.find(edition, 0) else {
+            return best;
         };
-        let from = place.from;
-        let end = from + place.length;
-        at += copy(&file[from..end], &mut table[at..]);
+        if first.from != BLOCK * i + CONTENT_AT {
+            return best;
+        }
+        self.check_edition(edition, first.parts).or(best)
+    }
+
+    // The highest whole edition.
+    fn newest(&self) -> Option<Edition>
+        ensures { result ≡ chosen self.now.file.now self.now.program (newest_of self.now.file.now self.now.program) }
+    {
+        let mut best = None;
+        for i in 0..self.file.len() / BLOCK {
+            best = self.consider(i, best);
+        }
+        best
+    }
+
+    // The parts of an edition, joined.
+    fn join(&self, edition: u16, parts: u8, table: &mut [u8])
+        requires parts { parts ≡ parts_of self.now.file.now self.now.program edition }
+        requires room { length (table_of self.now.file.now self.now.program edition) ≤ length table.old }
+        ensures { table.new ≡ table_of self.now.file.now self.now.program edition ++ drop (length (table_of self.now.file.now self.now.program edition)) table.old }
+    {
+        let file = self.file;
+        let mut at: usize = 0;
+        for k in 0..parts {
+            let Some(place) = self.find(edition, k) else {
+                continue;
+            };
+            let from = place.from;
+            let end = from + place.length;
+            at += copy(&file[from..end], &mut table[at..]);
+        }
     }
 }
 
@@ -361,14 +353,14 @@ pub fn fetch(file: &[u8], program: u16, table: &mut [u8]) -> Result<Fetched, Ref
     if !fits(file) {
         return refuse(Check::NotBlocks);
     }
-    let good = check_blocks(file, program);
-    let Some(best) = newest(file, &good, program) else {
+    let partition = Partition::new(file, program);
+    let Some(best) = partition.newest() else {
         return refuse(Check::NoEdition);
     };
     if MAX_TABLE < best.length {
         return refuse(Check::TooManyNodes);
     }
-    join(file, &good, program, best.edition, best.parts, table);
+    partition.join(best.edition, best.parts, table);
     Ok(Fetched {
         length: best.length,
         edition: best.edition,

@@ -3,7 +3,7 @@ use mathlib.Core.Path.{◌≡◌, refl, sym, ap, subst, ◌∙◌}
 use Rattle.std.specs.Result.{IsErrAnd}
 use Rattle.std.proofs.lemmas.Result.{err_from_is_err_and}
 use Rattle.std.specs.Prelude.{ℕ, List, [], ◌∷◌, get_or, Result, Ok, Err}
-use Rattle.esterel.specs.Refusal.{number_of, Reply, yields, rejects, reply}
+use Rattle.esterel.specs.Refusal.{number_of, Reply, yields, rejects, reply, OneReply}
 use Rattle.esterel.specs.declared.Check.{Check}
 use Rattle.esterel.specs.declared.Check.TheVariants.{TooManyNodes, NotPairs, NoRoom, UnknownKind, FieldNotZero, TooFewStatements, StatementsLeft, TooDeep, TooManyTraps, Uncaught, EndsAtOnce, NotAdmitted, Starved, NotInGrammar, ExitWithoutTrap, TooManySignals, NotBlocks, NoEdition, BadTie, FullLanguage, NoNode, TooManyPresents}
 use Rattle.esterel.specs.declared.Refusal.{Refusal}
@@ -57,7 +57,7 @@ Gives (rejects number node) = ⊥
 same : (r s : Refusal) → r.check ≡ s.check → r.node ≡ s.node → r ≡ s
 same r s e f = rw (e, f) refl
 
-pub reply-once : {A : Type 0} (x y : Result A Refusal) → reply x ≡ reply y → x ≡ y
+pub reply-once : {A : Type 0} → OneReply A
 reply-once (Ok a) (Ok b) e = ap Ok (ap (value a) e)
 reply-once (Ok a) (Err s) e = absurd (subst Gives e tt)
 reply-once (Err r) (Ok b) e = absurd (subst Gives (sym e) tt)

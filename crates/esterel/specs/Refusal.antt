@@ -1,5 +1,5 @@
 -- What a call answers: its value, or the number of the first failed check and a node.
-use Rattle.std.specs.Prelude.{ℕ, Result, Ok, Err}
+use Rattle.std.specs.Prelude.{ℕ, ◌≡◌, Result, Ok, Err}
 use Rattle.esterel.specs.declared.Check.{Check}
 use Rattle.esterel.specs.declared.Check.TheVariants.{TooManyNodes, NotPairs, NoRoom, UnknownKind, FieldNotZero, TooFewStatements, StatementsLeft, TooDeep, TooManyTraps, Uncaught, EndsAtOnce, NotAdmitted, Starved, NotInGrammar, ExitWithoutTrap, TooManySignals, NotBlocks, NoEdition, BadTie, FullLanguage, NoNode, TooManyPresents}
 use Rattle.esterel.specs.declared.Refusal.{Refusal}
@@ -37,3 +37,7 @@ pub data Reply (A : Type 0) : Type 0 where
 abbrev pub reply : {A : Type 0} → Result A Refusal → Reply A
 reply (Ok a) = yields a
 reply (Err r) = rejects (number_of r.check) r.node
+
+-- no two results say the same (proofs/Replies)
+abbrev pub OneReply : Type 0 → Type 0
+OneReply A = (x y : Result A Refusal) → reply x ≡ reply y → x ≡ y

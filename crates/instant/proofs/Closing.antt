@@ -3,13 +3,15 @@ use mathlib.Core.Path.{◌≡◌, refl, sym, ap, ap₂, subst, ◌∙◌}
 use Rattle.codes.proofs.Bools.{left, right}
 use mathlib.Core.Bool.{Bool, true, false}
 use mathlib.Core.List.{List, ◌++◌}
-use Prim.Native.Nat.{ℕ, zero, suc, ◌+◌, ◌-◌, ◌/◌, ◌≤◌, ◌<◌}
+use Prim.Native.Nat.{ℕ, zero, suc, ◌+◌, ◌-◌, ◌≤◌, ◌<◌}
 use native.Mathlib.Omega.{arith}
+use borrow.Author.Tests.{leb-true}
+use lib.Dec.{leb}
 use lib.ListN.{length, get_or, take, drop, length-drop, length-replicate, length-append}
 use lib.Seq.{sets, sets-eq, take_at}
 use Rattle.std.specs.Prelude.{Option, Some, None, Ok}
 use Rattle.std.specs.Option.{ok_or}
-use Rattle.esterel.specs.Limits.{signals}
+use Rattle.esterel.specs.Limits.{max_nodes, signals}
 use Rattle.esterel.specs.Refusal.{Reply, yields, rejects}
 use Rattle.esterel.specs.declared.Refusal.{Refusal}
 use Rattle.esterel.specs.Statement.{Stmt, size, nodes}
@@ -27,12 +29,15 @@ use Rattle.packing.proofs.Zeros.{none-at}
 use Rattle.packing.proofs.Bits.{length-pack}
 use Rattle.table.specs.Program.{program_of}
 use Rattle.table.specs.Check.{answer_of as check_of}
-use Rattle.table.proofs.Bytes.{table-length}
+use Rattle.table.specs.declared.Tree.{Tree}
 use Rattle.analysis.proofs.Analyses.{verdict-refused}
 use Rattle.instant.specs.Run.{stmt_at, first_at, bytes_at, Clear, Holding, RanIs, ran, starves, Started, Resumed}
 use Rattle.instant.specs.declared.Reaction.{Reaction}
 use Rattle.instant.specs.Admission.{Counted}
-use Rattle.instant.specs.Calls.{Call, closing, handed, Reacts, Ready, start_call, resume_call, verdict_for}
+use Rattle.analysis.specs.Analysis.{checked, TreeChecked}
+use Rattle.analysis.proofs.Theorems.{checked-passed}
+use Rattle.instant.specs.Run.{Runnable}
+use Rattle.instant.specs.Calls.{room_for, CallChecked, Call, closing, handed, Reacts, Ready, start_call, resume_call, verdict_for}
 use Rattle.instant.proofs.Emissions.{marks-are}
 use Rattle.instant.proofs.Entering.{counts_rise, admitted-small}
 use Rattle.instant.proofs.Nodes.{accepted}
@@ -95,6 +100,25 @@ module _ (t answers held held' marks' : List ℕ) {n : ℕ} (long : size (progra
       rw (left, bytes, same_taken (program_of t) answers c k u h le sure)
   hands sure starves = refl
 
+-- the checks of a call hand out a tree
+pub call-checked : {t : List ℕ} {state emissions : ℕ} {room : Bool} {r : Reply Tree} → room ≡ room_for state emissions → TreeChecked room t r → CallChecked t state emissions r
+call-checked {t} {state} {emissions} {room} e o =
+    record {
+      answer = o.answer ∙ ap (λ b. check_of (checked b t)) e;
+      ready = λ x is.
+          let same = o.same x is in
+          let z = o.sized x is in
+          let suffices : room_for state emissions ≡ true = sym e ∙ z.suffices in
+          record {
+            same = same;
+            verdict = ap (λ b. checked b t) (sym e) ∙ z.verdict ∙ ap (λ u. passed (program_of u)) (sym same);
+            runnable = subst Runnable (sym same) (record { accepted = checked-passed room t (program_of t) z.verdict });
+            few = subst (λ u. size (program_of u) ≤ max_nodes) (sym same) z.few;
+            places = leb-true state_bytes state (left (leb state_bytes state) (leb signals emissions) suffices);
+            marks = leb-true signals emissions (right (leb state_bytes state) suffices);
+          };
+    }
+
 -- a refusal by checks 1 to 11
 module _ (t state emissions answers : List ℕ) {number node : ℕ} (e : rejects number node ≡ check_of (verdict_for t (length state) (length emissions))) where
   is-refused : verdict_for t (length state) (length emissions) ≡ refused number node
@@ -108,59 +132,60 @@ module _ (t state emissions answers : List ℕ) {number node : ℕ} (e : rejects
   unfolding resume_call
   resume-refused = rw is-refused (record { answer = refl; state_is = refl; emissions_are = refl })
 
-module _ {t sizes : List ℕ} {a b : ℕ} (o : Ready t a b sizes) where
-  pub nodes-are : length t / 2 ≡ size (program_of t)
-  nodes-are = omega (arith, table-length t o.runnable.measured.readable)
+-- u is the table of the tree that the checks hand out
+module _ {t : List ℕ} {tree : Tree} {a b : ℕ} (o : Ready t a b tree) where
+  abbrev u : List ℕ
+  u = tree.table.now
 
-  pub root-clear : (n : ℕ) → n ≡ size (program_of t) → (m : ℕ) → Clear t (zeros m) (n - 1)
+  pub root-clear : (n : ℕ) → n ≡ size (program_of u) → (m : ℕ) → Clear u (zeros m) (n - 1)
   unfolding Clear
   root-clear n en m j lo hi = none-at (zeros m) (holds-zeros m) j
 
   module _ (answers state emissions : List ℕ) (ea : a ≡ length state) (eb : b ≡ length emissions) where
-    is-passed : verdict_for t (length state) (length emissions) ≡ passed (program_of t)
+    is-passed : verdict_for t (length state) (length emissions) ≡ passed (program_of u)
     is-passed = ap₂ (verdict_for t) (sym ea) (sym eb) ∙ o.verdict
 
-    pub not-admitted : {x : Bool} → x ≡ admits (program_of t) state → x ≡ false → Reacts (resume_call (verdict_for t (length state) (length emissions)) state answers) state emissions state emissions (rejects 12 0)
+    pub not-admitted : {x : Bool} → x ≡ admits (program_of u) state → x ≡ false → Reacts (resume_call (verdict_for t (length state) (length emissions)) state answers) state emissions state emissions (rejects 12 0)
     unfolding resume_call
     not-admitted {x} ex fails = rw (is-passed, sym ex ∙ fails) (record { answer = refl; state_is = refl; emissions_are = refl })
 
-    module _ {n : ℕ} (en : n ≡ size (program_of t)) (held : List ℕ) (room : size (program_of t) ≤ length held) where
+    module _ {n : ℕ} (en : n ≡ size (program_of u)) (held : List ℕ) (room : size (program_of u) ≤ length held) where
       -- a fact about the statement at the last node is one about the program
-      at-root : (P : ℕ → Stmt → Type 0) → P (first_at t (n - 1)) (stmt_at t (n - 1)) → P 0 (program_of t)
-      at-root P w = subst (λ i. P i (program_of t)) (first-is t n en) (subst (P (first_at t (n - 1))) (last-is t n en) w)
+      at-root : (P : ℕ → Stmt → Type 0) → P (first_at u (n - 1)) (stmt_at u (n - 1)) → P 0 (program_of u)
+      at-root P w = subst (λ i. P i (program_of u)) (first-is u n en) (subst (P (first_at u (n - 1))) (last-is u n en) w)
 
-      in_table : n - 1 < size (program_of t)
-      in_table = omega (arith, size_pos (program_of t))
+      in_table : n - 1 < size (program_of u)
+      in_table = omega (arith, size_pos (program_of u))
 
-      pub start-hands : {held' marks' : List ℕ} {r : Option Reaction} → Started t answers held held' (zeros signals) marks' (n - 1) 0 r → handed r (take n held') marks' ≡ start_call (verdict_for t (length state) (length emissions)) answers
+      pub start-hands : {held' marks' : List ℕ} {r : Option Reaction} → Started u answers held held' (zeros signals) marks' (n - 1) 0 r → handed r (take n held') marks' ≡ start_call (verdict_for t (length state) (length emissions)) answers
       unfolding start_call
       start-hands {held'} {marks'} {r} w =
           rw is-passed
-          (hands t answers held held' marks' room en (demand3.starts (program_of t) (accepted o.runnable) answers)
-          (at-root (λ i q. RanIs t answers i held held' (zeros signals) marks' (start i q answers) r) w))
+          (hands u answers held held' marks' room en (demand3.starts (program_of u) (accepted o.runnable) answers)
+          (at-root (λ i q. RanIs u answers i held held' (zeros signals) marks' (start i q answers) r) w))
 
       -- an admitted state, whose bits are the bytes that are resumed
-      module _ {x : Bool} (ex : x ≡ admits (program_of t) state) (e : x ≡ true) (own : take (size (program_of t)) held ≡ unpack (size (program_of t)) state) where
-        passes : admits (program_of t) state ≡ true
+      module _ {x : Bool} (ex : x ≡ admits (program_of u) state) (e : x ≡ true) (own : take (size (program_of u)) held ≡ unpack (size (program_of u)) state) where
+        passes : admits (program_of u) state ≡ true
         passes = sym ex ∙ e
 
-        fits : admitted (program_of t) (take (size (program_of t)) held) ≡ true
-        fits = rw own (right (is_clear_from (size (program_of t)) state) passes)
+        fits : admitted (program_of u) (take (size (program_of u)) held) ≡ true
+        fits = rw own (right (is_clear_from (size (program_of u)) state) passes)
 
-        root-admitted : admitted (stmt_at t (n - 1)) (bytes_at t held (n - 1)) ≡ true
-        root-admitted = rw (first-is t n en, last-is t n en) fits
+        root-admitted : admitted (stmt_at u (n - 1)) (bytes_at u held (n - 1)) ≡ true
+        root-admitted = rw (first-is u n en, last-is u n en) fits
 
-        pub root-holding : (counts : List ℕ) → Counted held counts (size (program_of t)) → Holding t counts held (n - 1)
+        pub root-holding : (counts : List ℕ) → Counted held counts (size (program_of u)) → Holding u counts held (n - 1)
         root-holding counts c =
             record {
               state = root-admitted;
               listed = c.long;
-              counted = λ j lo hi. counts_rise (program_of t) held counts room c fits j (omega (arith, size_pos (program_of t)));
+              counted = λ j lo hi. counts_rise (program_of u) held counts room c fits j (omega (arith, size_pos (program_of u)));
             }
 
-        pub resume-hands : {held' marks' : List ℕ} {r : Option Reaction} → Resumed t answers held held' (zeros signals) marks' (n - 1) 0 r → handed r (take n held') marks' ≡ resume_call (verdict_for t (length state) (length emissions)) state answers
+        pub resume-hands : {held' marks' : List ℕ} {r : Option Reaction} → Resumed u answers held held' (zeros signals) marks' (n - 1) 0 r → handed r (take n held') marks' ≡ resume_call (verdict_for t (length state) (length emissions)) state answers
         unfolding resume_call
         resume-hands {held'} {marks'} {r} w =
             rw (is-passed, passes, ← own)
-            (hands t answers held held' marks' room en (demand3.resumes (program_of t) (accepted o.runnable) (take (size (program_of t)) held) answers fits)
-            (at-root (λ i q. RanIs t answers i held held' (zeros signals) marks' (resume i q (take (size q) (drop i held)) answers) r) w))
+            (hands u answers held held' marks' room en (demand3.resumes (program_of u) (accepted o.runnable) (take (size (program_of u)) held) answers fits)
+            (at-root (λ i q. RanIs u answers i held held' (zeros signals) marks' (resume i q (take (size q) (drop i held)) answers) r) w))

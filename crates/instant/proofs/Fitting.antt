@@ -14,10 +14,10 @@ use Rattle.esterel.specs.Outcome.{statement_at}
 use Rattle.esterel.proofs.Sizes.{size_pos}
 use Rattle.esterel.proofs.Subtrees.{two-children}
 use Rattle.table.specs.Kinds.{kind_of, is_pause}
-use Rattle.table.specs.Program.{program_of}
+use Rattle.table.specs.Program.{program_of, Readable}
 use Rattle.table.specs.declared.Kind.{Kind}
 use Rattle.table.proofs.Bytes.{kind_byte}
-use Rattle.table.specs.Columns.{Measured}
+use Rattle.table.specs.Columns.{stmt_at}
 use Rattle.instant.specs.Admission.{count_held, Counted, byte_fits, children_apart, node_fits, byte_fits_kind, is_exclusive}
 use Rattle.instant.proofs.Admits.{part-holds, count_rises}
 
@@ -54,12 +54,12 @@ is-pause (two (present s) q r) = refl
 is-pause (two sequence q r) = refl
 is-pause (two parallel q r) = refl
 
-module _ {t sizes : List ℕ} (ok : Measured t sizes) (i : ℕ) (h : i < size (program_of t)) {k : Kind} (ek : k ≡ kind_of (get_or t (2 * i) 0)) (state : List ℕ) where
+module _ {t : List ℕ} (ok : Readable t) (i : ℕ) (h : i < size (program_of t)) {k : Kind} (ek : k ≡ kind_of (get_or t (2 * i) 0)) (state : List ℕ) where
   abbrev here : Stmt
   here = statement_at (nodes (program_of t)) i
 
   kind-here : k ≡ kind_of (kind here)
-  kind-here = ek ∙ ap kind_of (kind_byte t ok.readable i h)
+  kind-here = ek ∙ ap kind_of (kind_byte t ok i h)
 
   byte_here : {f : Bool} → f ≡ byte_fits_kind k (get_or state i 0) → f ≡ byte_fits here (get_or state i 0)
   byte_here e = e ∙ ap (λ x. eqb (get_or state i 0) 0 || eqb (get_or state i 0) 1 && x) (ap is_pause kind-here ∙ is-pause here)
@@ -88,16 +88,16 @@ module _ {t sizes : List ℕ} (ok : Measured t sizes) (i : ℕ) (h : i < size (p
             go : Sided here true → 0 < i
             go (apart_at b q r e a) = omega (arith, (two-children (program_of t) i b q r e).0, size_pos q)
 
-        module _ {s : ℕ} (es : s ≡ get_or sizes (i - 1) 0) where
+        module _ {s : ℕ} (es : s ≡ size (stmt_at t (i - 1))) where
           pub second-inside : s < i
           second-inside = go (rw z at (sided_here eb))
             where
               go : Sided here true → s < i
               go (apart_at b q r e a) =
                   let (le, right, left) = two-children (program_of t) i b q r e in
-                  omega (arith, es ∙ ok.sized (i - 1) (omega (arith, size_pos q)) ∙ ap size right, size_pos q)
+                  omega (arith, es ∙ ap size right, size_pos q)
 
-          module _ {s' : ℕ} (es' : s' ≡ get_or sizes (i - s - 1) 0) where
+          module _ {s' : ℕ} (es' : s' ≡ size (stmt_at t (i - s - 1))) where
             -- the sizes of both children
             record Children : Type 0 where
               op : Binary
@@ -115,9 +115,9 @@ module _ {t sizes : List ℕ} (ok : Measured t sizes) (i : ℕ) (h : i < size (p
                 go : Sided here true → Children
                 go (apart_at b q r e a) =
                     let (le, right, left) = two-children (program_of t) i b q r e in
-                    let second : s ≡ size r = es ∙ ok.sized (i - 1) (omega (arith, size_pos q)) ∙ ap size right in
+                    let second : s ≡ size r = es ∙ ap size right in
                     let place : i - s - 1 ≡ i - 1 - size r = omega arith in
-                    record { op = b; q = q; r = r; is = e; rule = a; inside = le; second = second; first = es' ∙ rw place (ok.sized (i - 1 - size r) (omega (arith, size_pos q)) ∙ ap size left) }
+                    record { op = b; q = q; r = r; is = e; rule = a; inside = le; second = second; first = es' ∙ rw place (ap size left) }
 
             pub first-inside : s' ≤ i - s
             first-inside = omega (arith, children.inside, children.first, children.second)

@@ -1,17 +1,13 @@
 -- What is known at a node of an accepted table: what a start or a resumption of it keeps.
-use mathlib.Core.Path.{◌≡◌, sym, ap, ◌∙◌}
-use mathlib.Core.Bool.{Bool, true, false, cond, ◌||◌}
-use mathlib.Core.List.{List, []}
-use Prim.Native.Nat.{ℕ, suc, zero, ◌+◌, ◌*◌, ◌%◌, ◌<◌, ◌≤◌}
+use mathlib.Core.Path.{◌≡◌}
+use mathlib.Core.Bool.{true}
+use mathlib.Core.List.{List}
+use Prim.Native.Nat.{ℕ, suc, zero, ◌+◌, ◌*◌, ◌<◌, ◌≤◌}
 use native.Mathlib.Nat.{max-le, mul-le-mul}
 use native.Mathlib.Omega.{arith}
-use lib.Dec.{eqb, ltb}
-use lib.ListN.{length}
-use Rattle.esterel.specs.Limits.{max_nodes}
 use Rattle.esterel.specs.Statement.{nothing, pause, emit, exit, Unary, signal, suspend, loop, trap, Stmt, leaf, one, two, size, nodes, traps_under, loops_under, loop_depth}
 use Rattle.esterel.specs.Sets.{start_set}
-use Rattle.esterel.specs.Table.{passed, refused, scan, read}
-use Rattle.esterel.specs.Checks.{check_program, planned}
+use Rattle.esterel.specs.Checks.{planned}
 use Rattle.esterel.specs.Instant.{Result, start, resume, admitted}
 use Rattle.esterel.specs.Theorems.{Accepted}
 use Rattle.esterel.proofs.Sizes.{load, load-planned}
@@ -22,20 +18,11 @@ use Rattle.esterel.proofs.Start.{In, start-run}
 use Rattle.esterel.proofs.Low.{Exits, Low}
 use Rattle.esterel.proofs.Resume.{resume-run}
 use Rattle.esterel.proofs.Admitted.{admitted-fits, admitted-holds}
-use Rattle.esterel.proofs.Accepted.{ends-not}
+use Rattle.esterel.proofs.Accepted.{ends-not, accepted-read}
 use Rattle.esterel.proofs.Subtrees.{subtrees}
-use Rattle.table.specs.Program.{program_of}
+use Rattle.table.specs.Program.{program_of, Readable}
 use Rattle.instant.specs.Run.{stmt_at, first_at, Runnable}
 use Rattle.instant.proofs.Algebra.{Sized, Few, Quiet}
-
--- a table that was read is the program that its nodes say
-scans : (t : List ℕ) (p : Stmt) → read t ≡ passed p → scan t 0 [] ≡ passed p
-scans t p e = go (ltb (2 * max_nodes) (length t)) (eqb (length t) 0 || eqb (length t % 2) 1) e
-  where
-    go : (a b : Bool) → cond a (refused 1 0) (cond b (refused 2 0) (scan t 0 [])) ≡ passed p → scan t 0 [] ≡ passed p
-    go true b z = cc
-    go false true z = cc
-    go false false z = z
 
 -- enough traps around a statement catch all its exits
 more-traps : (u : Unary) (a b : ℕ) → a ≤ b → traps_under u a ≤ traps_under u b
@@ -103,9 +90,12 @@ module _ {ps : List Stmt} {p : Stmt} {C : ℕ → Type 0} {L : ℕ} {ans : List 
   run-few (asked o) = tt
   run-few (no_rule o) = o
 
-module _ {t sizes : List ℕ} (ok : Runnable t sizes) where
+module _ {t : List ℕ} (ok : Runnable t) where
+  pub fine : Readable t
+  fine = record { reads = (accepted-read t (program_of t) ok.accepted).0 }
+
   pub accepted : Accepted (program_of t)
-  accepted = sym (ap check_program (scans t (program_of t) ok.measured.readable.reads)) ∙ ok.verdict
+  accepted = (accepted-read t (program_of t) ok.accepted).1
 
   module _ (j : ℕ) (h : j < size (program_of t)) where
     sits-at : Sits (nodes (program_of t)) (first_at t j) (stmt_at t j)

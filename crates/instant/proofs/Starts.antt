@@ -35,7 +35,7 @@ entered {t = t} {held = held} {f = f} {y = y} mode n e m ends own s o =
     enter-is (f + n) n mode (ap (λ j. emission (stmt_at t j)) ends ∙ ap emission e ∙ m) (inside (f + n) n mode y s)
     (λ j lo hi. let z : j ≡ f + n = omega arith in ap (λ i. get_or held i 0) (z ∙ ends) ∙ own) o
 
-module _ {t sizes answers held em : List ℕ} {node taken : ℕ} (ok : Runnable t sizes) (room : Room t answers held em node taken) (free : Clear t held node) where
+module _ {t answers held em : List ℕ} {node taken : ℕ} (ok : Runnable t) (room : Room t answers held em node taken) (free : Clear t held node) where
   pub zero-at : (i n : ℕ) → first_at t node ≤ i → i + n ≤ suc node → Zero held i n
   unfolding Clear
   zero-at i n lo hi j a b = free j (omega arith) (omega arith)

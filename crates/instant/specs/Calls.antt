@@ -10,7 +10,8 @@ use Rattle.table.specs.Check.{answer_of as check_of}
 use Rattle.table.specs.Program.{program_of}
 use Rattle.packing.specs.Packing.{state_bytes, pack, unpack, admits}
 use Rattle.analysis.specs.Passes.{onto}
-use Rattle.analysis.specs.Analysis.{checked}
+use Rattle.table.specs.declared.Tree.{Tree}
+use Rattle.analysis.specs.Analysis.{checked, told}
 use Rattle.instant.specs.Run.{Runnable}
 use Rattle.instant.specs.declared.Reaction.{Reaction}
 
@@ -82,15 +83,16 @@ abbrev pub Resuming : (t answers state emissions state' emissions' : List ℕ) �
 Resuming t answers state emissions state' emissions' r =
     Reacts (resume_call (verdict_for t (length state) (length emissions)) state answers) state emissions state' emissions' r
 
--- an accepted table, with the sizes of its subtrees, and buffers that suffice
-pub record Ready (t : List ℕ) (state emissions : ℕ) (sizes : List ℕ) : Type 0 where
-  pub verdict : verdict_for t state emissions ≡ passed (program_of t)
-  pub runnable : Runnable t sizes
-  pub few : size (program_of t) ≤ max_nodes
+-- the tree of an accepted table t, and buffers that suffice
+pub record Ready (t : List ℕ) (state emissions : ℕ) (x : Tree) : Type 0 where
+  pub same : x.table.now ≡ t
+  pub verdict : verdict_for t state emissions ≡ passed (program_of x.table.now)
+  pub runnable : Runnable x.table.now
+  pub few : size (program_of x.table.now) ≤ max_nodes
   pub places : state_bytes ≤ state
   pub marks : signals ≤ emissions
 
--- what checks 1 to 11 answer, and leave in the list of sizes
-pub record CallChecked (t : List ℕ) (state emissions : ℕ) (sizes : List ℕ) (r : Reply (Unit {0})) : Type 0 where
-  pub answer : r ≡ check_of (verdict_for t state emissions)
-  pub ready : r ≡ yields tt → Ready t state emissions sizes
+-- what checks 1 to 11 answer, and the tree that they hand out
+pub record CallChecked (t : List ℕ) (state emissions : ℕ) (r : Reply Tree) : Type 0 where
+  pub answer : told r ≡ check_of (verdict_for t state emissions)
+  pub ready : (x : Tree) → r ≡ yields x → Ready t state emissions x

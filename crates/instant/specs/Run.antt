@@ -1,22 +1,20 @@
 -- What the runner's functions answer and leave.
-use Rattle.std.specs.Prelude.{ℕ, suc, ◌+◌, ◌<◌, ◌≤◌, ◌≡◌, true, Option, Some, None, List, [], length, get_or, take, drop}
+use Rattle.std.specs.Prelude.{ℕ, suc, ◌+◌, ◌<◌, ◌≤◌, ◌≡◌, true, Option, Some, None, List, length, get_or, take, drop}
 use Rattle.std.proofs.lemmas.List.Edits.{sets}
 use Rattle.esterel.specs.Limits.{signals}
 use Rattle.esterel.specs.Statement.{size, nodes}
-use Rattle.esterel.specs.Table.{passed, scan}
-use Rattle.esterel.specs.Checks.{check_program}
+use Rattle.esterel.specs.Table.{passed}
+use Rattle.esterel.specs.Checks.{verdict}
 use Rattle.esterel.specs.Instant.{Entry, Result, closed, starved, start, resume, admitted}
 use Rattle.esterel.specs.Outcome.{emitted}
 use Rattle.table.specs.Program.{program_of}
 pub use Rattle.table.specs.Columns.{stmt_at, first_at}
-use Rattle.table.specs.Columns.{Measured}
 use Rattle.instant.specs.Steps.{marked}
 use Rattle.instant.specs.declared.Reaction.{Reaction}
 
--- an accepted table with the sizes of its subtrees
-pub record Runnable (t sizes : List ℕ) : Type 0 where
-  pub measured : Measured t sizes
-  pub verdict : check_program (scan t 0 []) ≡ passed (program_of t)
+-- an accepted table
+pub record Runnable (t : List ℕ) : Type 0 where
+  pub accepted : verdict t ≡ passed (program_of t)
 
 -- the buffers of a run at a node, and the answers taken before it
 pub record Room (t answers held emissions : List ℕ) (node taken : ℕ) : Type 0 where

@@ -5,6 +5,7 @@ use Rattle.esterel.specs.Statement.{Leaf, nothing, pause, emit, exit, leaf}
 use Rattle.esterel.specs.Codes.{catch_code}
 use Rattle.esterel.specs.Instant.{zeros}
 use Rattle.esterel.specs.Outcome.{emission}
+use Rattle.table.specs.Columns.{first_at}
 use Rattle.table.specs.Kinds.{leaf_code, is_trap}
 use Rattle.table.specs.declared.Kind.{Kind}
 use Rattle.instant.specs.declared.Reaction.{Reaction}
@@ -49,8 +50,8 @@ asked false answers taken = Some (record { code = 0; taken = taken; entries = 0 
 asked true answers taken = cond (ltb taken (length answers)) (Some (kept (get_or answers taken 0) (taken + 1))) None
 
 -- whether a pause is held in the subtree at a node: the counts grow over it
-abbrev pub holds_beneath : (sizes counts : List ℕ) → ℕ → Bool
-holds_beneath sizes counts node = ltb (get_or counts (node + 1 - get_or sizes node 0) 0) (get_or counts (node + 1) 0)
+abbrev pub holds_beneath : (t counts : List ℕ) → ℕ → Bool
+holds_beneath t counts node = ltb (get_or counts (first_at t node) 0) (get_or counts (node + 1) 0)
 
 -- the byte of a node without children
 abbrev pub leaf_state : Leaf → ℕ → List ℕ → List ℕ

@@ -4,10 +4,9 @@ ghost use Rattle.esterel.specs.Instant.{admitted};
 ghost use Rattle.esterel.specs.Limits.{max_nodes};
 ghost use Rattle.esterel.specs.Statement.{size, nodes};
 ghost use Rattle.table.specs.Program.{program_of};
-ghost use Rattle.table.specs.Columns.{Measured};
 ghost use Rattle.instant.specs.Admission.{Counted, is_exclusive, byte_fits_kind, node_fits, Suffices, Admitting};
 
-use table::Kind;
+use table::{Kind, Tree};
 
 // Whether a kind holds pauses in at most one of its two children.
 fn is_exclusive(kind: Kind) -> bool
@@ -41,19 +40,19 @@ fn count_held(held: &[u8], counts: &mut [u16], n: usize)
 }
 
 // What check 12 asks at a node: its own byte fits, and a sequence or present holds pauses in one child at most.
-fn node_fits(table: &[u8], sizes: &[u16], counts: &[u16], held: &[u8], node: usize) -> bool
-    requires { Measured table.now sizes.now × (node < size (program_of table.now)) × (size (program_of table.now) ≤ length held.now) × Counted held.now counts.now (size (program_of table.now)) }
-    ensures { result ≡ node_fits (nodes (program_of table.now)) held.now node }
+fn node_fits(tree: &Tree, counts: &[u16], held: &[u8], node: usize) -> bool
+    requires { (node < size (program_of tree.now.table.now)) × (size (program_of tree.now.table.now) ≤ length held.now) × Counted held.now counts.now (size (program_of tree.now.table.now)) }
+    ensures { result ≡ node_fits (nodes (program_of tree.now.table.now)) held.now node }
 {
-    let kind = table::kind_at(table, node);
+    let kind = tree.kind(node);
     if !byte_fits(kind, held[node]) {
         return false;
     }
     if !is_exclusive(kind) {
         return true;
     }
-    let second = node - table::size_at(sizes, node - 1);
-    let first = second - table::size_at(sizes, second - 1);
+    let second = node - tree.size(node - 1);
+    let first = second - tree.size(second - 1);
     if counts[first] == counts[second] {
         return true;
     }
@@ -61,21 +60,21 @@ fn node_fits(table: &[u8], sizes: &[u16], counts: &[u16], held: &[u8], node: usi
 }
 
 // What check 12 asks of the nodes' bytes.
-fn check_nodes(table: &[u8], sizes: &[u16], counts: &[u16], held: &[u8]) -> bool
-    requires { Measured table.now sizes.now × (size (program_of table.now) ≤ length held.now) × Counted held.now counts.now (size (program_of table.now)) }
-    ensures { result ≡ admitted (program_of table.now) (take (size (program_of table.now)) held.now) }
+fn check_nodes(tree: &Tree, counts: &[u16], held: &[u8]) -> bool
+    requires { (size (program_of tree.now.table.now) ≤ length held.now) × Counted held.now counts.now (size (program_of tree.now.table.now)) }
+    ensures { result ≡ admitted (program_of tree.now.table.now) (take (size (program_of tree.now.table.now)) held.now) }
 {
-    let n = table.len() / 2;
-    counts[n] != 0 && (0..n).all(|i| node_fits(table, sizes, counts, held, i))
+    let n = tree.nodes();
+    counts[n] != 0 && (0..n).all(|i| node_fits(tree, counts, held, i))
 }
 
 // Whether a packed state is admitted (check 12), and what a run resumes from: the bytes of the program's nodes, and their counts.
-pub fn admit(table: &[u8], sizes: &[u16], state: &[u8], held: &mut [u8], counts: &mut [u16]) -> bool
-    requires { Measured table.now sizes.now × Suffices (program_of table.now) state.now held.old counts.old }
-    ensures { Admitting (program_of table.now) state.now held.old held.new counts.new result }
+pub fn admit(tree: &Tree, state: &[u8], held: &mut [u8], counts: &mut [u16]) -> bool
+    requires { Suffices (program_of tree.now.table.now) state.now held.old counts.old }
+    ensures { Admitting (program_of tree.now.table.now) state.now held.old held.new counts.new result }
 {
-    let n = table.len() / 2;
+    let n = tree.nodes();
     packing::unpack(state, held, n);
     count_held(held, counts, n);
-    packing::is_clear_from(state, n) && check_nodes(table, sizes, counts, held)
+    packing::is_clear_from(state, n) && check_nodes(tree, counts, held)
 }

@@ -14,6 +14,7 @@ ghost use Rattle.instant.specs.Calls.{room_for, CallChecked, handed, Reacts, Sta
 
 use esterel::{Check, Refusal};
 use run::Inputs;
+use table::Tree;
 
 // What a run answers, an instant or one of its statements: the code, the answers taken up to its end and its entries.
 #[derive(Clone, Copy, PartialEq, Eq)]
@@ -30,18 +31,18 @@ fn has_room(state: usize, emissions: usize) -> bool
     (packing::STATE_BYTES <= state) & (esterel::SIGNALS <= emissions)
 }
 
-// Checks 1, 2, 3 and 4 to 11, and where they pass the sizes of all subtrees.
-fn check_call(
-    table: &[u8],
+// Checks 1, 2, 3 and 4 to 11, and where they pass the tree.
+fn check_call<'a>(
+    table: &'a [u8],
     state: usize,
     emissions: usize,
-    sizes: &mut [u16],
-) -> Result<(), Refusal>
+    sizes: &'a mut [u16],
+) -> Result<Tree<'a>, Refusal>
     requires { max_nodes ≤ length sizes.old }
-    ensures { CallChecked table.now state emissions sizes.new (reply result) }
+    ensures { CallChecked table.now state emissions (reply result) }
 {
     let room = has_room(state, emissions);
-    analysis::check_sized(table, room, sizes)
+    analysis::check_tree(table, room, sizes)
 }
 
 // The end of a call. A closed run hands its pauses over, packed, and its emissions; after a starved one the lent buffers are as they
@@ -76,15 +77,11 @@ pub fn start(
     ensures { Starting table.now answers.now state.old emissions.old state.new emissions.new (reply result) }
 {
     let mut sizes = [0u16; esterel::MAX_NODES];
-    check_call(table, state.len(), emissions.len(), &mut sizes)?;
-    let n = table.len() / 2;
+    let tree = check_call(table, state.len(), emissions.len(), &mut sizes)?;
+    let n = tree.nodes();
     let mut held = [0u8; esterel::MAX_NODES];
     let mut marks = [0u8; esterel::SIGNALS];
-    let inputs = Inputs {
-        table,
-        sizes: &sizes,
-        answers,
-    };
+    let inputs = Inputs { tree, answers };
     let ran = run::start_at(&inputs, n - 1, 0, &mut held, &mut marks);
     hand_over(ran, &held, &marks, n, state, emissions)
 }
@@ -99,22 +96,18 @@ pub fn resume(
     ensures { Resuming table.now answers.now state.old emissions.old state.new emissions.new (reply result) }
 {
     let mut sizes = [0u16; esterel::MAX_NODES];
-    check_call(table, state.len(), emissions.len(), &mut sizes)?;
-    let n = table.len() / 2;
+    let tree = check_call(table, state.len(), emissions.len(), &mut sizes)?;
+    let n = tree.nodes();
     let mut held = [0u8; esterel::MAX_NODES];
     let mut counts = [0u16; esterel::MAX_NODES + 1];
-    if !admission::admit(table, &sizes, state, &mut held, &mut counts) {
+    if !admission::admit(&tree, state, &mut held, &mut counts) {
         return Err(Refusal {
             check: Check::NotAdmitted,
             node: 0,
         });
     }
     let mut marks = [0u8; esterel::SIGNALS];
-    let inputs = Inputs {
-        table,
-        sizes: &sizes,
-        answers,
-    };
+    let inputs = Inputs { tree, answers };
     let ran = run::resume_at(&inputs, &counts, n - 1, 0, &mut held, &mut marks);
     hand_over(ran, &held, &marks, n, state, emissions)
 }

@@ -1,49 +1,20 @@
 // A run of a statement: each call is upon a child. What a run reads is lent as one struct and the call's own buffers as arrays:
 // a frame keeps one word of each, and of a slice two words for itself and two for every call that it makes. The two buffers are
 // no struct, which is no plainer: what admits, leaves, packs and clears takes the first alone.
-ghost use Rattle.std.specs.Prelude.{◌≡◌, ◌+◌, ◌*◌, ◌<◌, slice_get, length, get_or};
-ghost use Rattle.table.specs.Kinds.{kind_of};
+ghost use Rattle.std.specs.Prelude.{◌≡◌, slice_get};
 ghost use Rattle.instant.specs.Run.{Runnable, Room, Clear, Started, Holding, Resumed};
 
 use crate::{Reaction, steps};
-use table::Kind;
+use table::{Kind, Tree};
 
-// What a run reads: a table, the sizes of its subtrees, and the answers.
+// What a run reads: a tree, and the answers.
 #[derive(Clone, Copy)]
-pub struct Inputs<'a> {
-    pub table: &'a [u8],
-    pub sizes: &'a [u16; esterel::MAX_NODES],
+pub struct Inputs<'t, 'a> {
+    pub tree: Tree<'t>,
     pub answers: &'a [u8],
 }
 
-impl Inputs<'_> {
-    // The kind of a node.
-    fn kind_at(&self, node: usize) -> Kind
-        requires { 2 * node + 1 < length self.now.table.now }
-        ensures { result ≡ kind_of (get_or self.now.table.now (2 * node) 0) }
-    {
-        let table = self.table;
-        table::kind_at(table, node)
-    }
-
-    // The field of a node.
-    pub(super) fn field_at(&self, node: usize) -> usize
-        requires { 2 * node + 1 < length self.now.table.now }
-        ensures { (result ≡ get_or self.now.table.now (2 * node + 1) 0) × (result < 256) }
-    {
-        let table = self.table;
-        table::field_at(table, node)
-    }
-
-    // The size of the subtree at a node.
-    pub(super) fn size_at(&self, node: usize) -> usize
-        requires { node < length self.now.sizes.now }
-        ensures { result ≡ get_or self.now.sizes.now node 0 }
-    {
-        let sizes = self.sizes;
-        table::size_at(sizes, node)
-    }
-
+impl Inputs<'_, '_> {
     // The answer after those that were taken, if there is one.
     pub(super) fn answer_after(&self, taken: usize) -> Option<u8>
         ensures { result ≡ slice_get self.now.answers.now taken }
@@ -61,16 +32,16 @@ pub fn start_at(
     held: &mut [u8; esterel::MAX_NODES],
     emissions: &mut [u8; esterel::SIGNALS],
 ) -> Option<Reaction>
-    requires { Runnable inputs.now.table.now inputs.now.sizes.now × Room inputs.now.table.now inputs.now.answers.now held.old emissions.old node taken × Clear inputs.now.table.now held.old node }
-    ensures { Started inputs.now.table.now inputs.now.answers.now held.old held.new emissions.old emissions.new node taken result }
+    requires { Runnable inputs.now.tree.table.now × Room inputs.now.tree.table.now inputs.now.answers.now held.old emissions.old node taken × Clear inputs.now.tree.table.now held.old node }
+    ensures { Started inputs.now.tree.table.now inputs.now.answers.now held.old held.new emissions.old emissions.new node taken result }
 {
-    let kind = inputs.kind_at(node);
+    let kind = inputs.tree.kind(node);
     let children = kind.arity();
     if children == 0 {
         return Some(steps::start_leaf(inputs, kind, node, taken, held, emissions));
     }
     let last = node - 1;
-    let size = inputs.size_at(last);
+    let size = inputs.tree.size(last);
     if children == 1 {
         let inner = start_at(inputs, last, taken, held, emissions)?;
         return Some(steps::leave(kind, inner, held, node - size, node));
@@ -100,17 +71,17 @@ pub fn resume_at(
     held: &mut [u8; esterel::MAX_NODES],
     emissions: &mut [u8; esterel::SIGNALS],
 ) -> Option<Reaction>
-    requires { Runnable inputs.now.table.now inputs.now.sizes.now × Room inputs.now.table.now inputs.now.answers.now held.old emissions.old node taken × Holding inputs.now.table.now counts.now held.old node }
-    ensures { Resumed inputs.now.table.now inputs.now.answers.now held.old held.new emissions.old emissions.new node taken result }
+    requires { Runnable inputs.now.tree.table.now × Room inputs.now.tree.table.now inputs.now.answers.now held.old emissions.old node taken × Holding inputs.now.tree.table.now counts.now held.old node }
+    ensures { Resumed inputs.now.tree.table.now inputs.now.answers.now held.old held.new emissions.old emissions.new node taken result }
 {
-    let kind = inputs.kind_at(node);
+    let kind = inputs.tree.kind(node);
     let children = kind.arity();
     if children == 0 {
         held[node] = 0;
         return Some(Reaction::alone(0, taken));
     }
     let last = node - 1;
-    let size = inputs.size_at(last);
+    let size = inputs.tree.size(last);
     if children == 1 {
         let asked = steps::ask(inputs, kind, taken)?;
         if asked.code != 0 {

@@ -1,6 +1,8 @@
 // What is done around the calls of a run: nothing here calls itself.
 ghost use Rattle.std.specs.Prelude.{◌≡◌, cond, ◌+◌, ◌-◌, ◌*◌, ◌<◌, ◌≤◌, eqb, length, get_or};
+ghost use Rattle.esterel.specs.Statement.{size};
 ghost use Rattle.table.specs.Kinds.{is_suspend, leaf_of};
+ghost use Rattle.table.specs.Program.{program_of};
 ghost use Rattle.instant.specs.Steps.{alone, one_more, both, Left, asked, holds_beneath, LeafRan};
 
 use crate::Reaction;
@@ -77,10 +79,10 @@ pub fn start_leaf(
     held: &mut [u8],
     emissions: &mut [u8],
 ) -> Reaction
-    requires { (2 * node + 1 < length inputs.now.table.now) × (node < length held.old) × (256 ≤ length emissions.old) }
-    ensures { LeafRan (leaf_of kind (get_or inputs.now.table.now (2 * node + 1) 0)) node taken held.old held.new emissions.old emissions.new result }
+    requires { (node < size (program_of inputs.now.tree.table.now)) × (node < length held.old) × (256 ≤ length emissions.old) }
+    ensures { LeafRan (leaf_of kind (get_or inputs.now.tree.table.now (2 * node + 1) 0)) node taken held.old held.new emissions.old emissions.new result }
 {
-    let field = inputs.field_at(node);
+    let field = inputs.tree.field(node);
     match kind {
         Kind::Pause => {
             held[node] = 1;
@@ -120,9 +122,9 @@ pub fn ask(inputs: &Inputs, kind: Kind, taken: usize) -> Option<Reaction>
 
 // Whether a pause is held at a node or beneath it; the counts are those of the pauses held before each node.
 pub fn holds_beneath(inputs: &Inputs, counts: &[u16], node: usize) -> bool
-    requires { (node < length inputs.now.sizes.now) × (get_or inputs.now.sizes.now node 0 ≤ node + 1) × (node + 1 < length counts.now) }
-    ensures { result ≡ holds_beneath inputs.now.sizes.now counts.now node }
+    requires { (node < size (program_of inputs.now.tree.table.now)) × (node + 1 < length counts.now) }
+    ensures { result ≡ holds_beneath inputs.now.tree.table.now counts.now node }
 {
-    let first = node + 1 - inputs.size_at(node);
+    let first = node + 1 - inputs.tree.size(node);
     counts[first] < counts[node + 1]
 }

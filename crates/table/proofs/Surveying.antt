@@ -10,16 +10,16 @@ use borrow.Author.Tests.{ltb-false}
 use Rattle.esterel.specs.Limits.{max_nodes, max_depth, max_traps}
 use Rattle.esterel.specs.Statement.{signal, suspend, loop, trap, Stmt, leaf, one, two, kind, field, size, loop_depth}
 use Rattle.esterel.specs.Table.{Verdict, passed, refused}
-use Rattle.esterel.specs.Codes.{Codes, bit}
+use Rattle.esterel.specs.Codes.{Codes, bit, empty}
 use Rattle.esterel.specs.Sets.{places}
 use Rattle.esterel.specs.Checks.{too_deep, too_many_traps, uncaught, verdict}
 use Rattle.esterel.proofs.Sizes.{size_pos}
 use Rattle.table.specs.Kinds.{kind_of, arity_of, is_trap, is_loop, is_exit}
 use Rattle.table.specs.Program.{program_in, program_of, Readable}
 use Rattle.table.specs.Stacks.{Moves}
-use Rattle.table.specs.Check.{refuse_some, places_check, Shallow, Descended, Seen, Surveyed}
+use Rattle.table.specs.Check.{refuse_below, places_check, Shallow, Descended, Seen, Surveyed}
 use Rattle.table.specs.declared.Kind.{Kind}
-use Rattle.std.specs.Prelude.{Result, None}
+use Rattle.std.specs.Prelude.{Result}
 use Rattle.esterel.specs.Refusal.{yields, reply}
 use Rattle.esterel.specs.declared.Refusal.{Refusal}
 use Rattle.table.specs.declared.Faults.{Faults}
@@ -84,7 +84,7 @@ pub record State (p : Stmt) (depths traps loops : List ℕ) (node : Nesting) (fa
 -- at the beginning the program waits
 pub start : (p : Stmt) (depths traps loops : List ℕ) (faults : Faults) (i : ℕ) → i ≡ size p
     → length depths ≡ max_nodes / 2 + 1 → length traps ≡ max_nodes / 2 + 1 → length loops ≡ max_nodes / 2 + 1
-    → faults.depths ≡ None → faults.traps ≡ None → faults.exits ≡ None
+    → faults.depths ≡ max_nodes → faults.traps ≡ max_nodes → faults.exits ≡ max_nodes
     → State p depths traps loops (record { depth = 1; traps = 0; loops = 0; waiting = 1 }) faults 0 i
 unfolding begin
 start p depths traps loops faults i e ld lt ll fd ft fe =
@@ -127,12 +127,12 @@ module _ {p : Stmt} {depths traps loops : List ℕ} {node : Nesting} {faults : F
   few_wait o = omega (arith, o.count, o.walk.left, nodes_wait o.ws)
 
   -- at the end all are seen
-  pub finish : State p depths traps loops node faults m 0 → size p ≤ max_nodes → (check : Result (Unit {0}) Refusal) → reply check ≡ refuse_some 8 faults.depths (refuse_some 9 faults.traps (refuse_some 10 faults.exits (yields tt)))
+  pub finish : State p depths traps loops node faults m 0 → size p ≤ max_nodes → (check : Result (Unit {0}) Refusal) → reply check ≡ refuse_below 8 faults.depths (refuse_below 9 faults.traps (refuse_below 10 faults.exits (yields tt)))
       → Surveyed p (record { check = check; loops = m })
   finish o few check e =
       let z = ended p o.ws o.walk in
       record {
-        check = e ∙ together o.walk.seen 0 faults o.answers ∙ ap (λ ps. places_check ps 0) z.are;
+        check = e ∙ together o.walk.seen 0 faults (omega (arith, ap length z.are, length-places p 1 0 empty)) o.answers ∙ ap (λ ps. places_check ps 0) z.are;
         loops = omega (arith, rw z.none_wait at o.most_is);
       }
 

@@ -1,6 +1,5 @@
 -- What the checks answer.
-use Rattle.std.specs.Prelude.{ℕ, zero, suc, ◌+◌, ◌-◌, ◌*◌, ◌%◌, ◌<◌, ◌≤◌, ◌≡◌, Bool, true, false, not, ◌&&◌, ◌||◌, cond, List, [], map, length, get_or, set, Some, None, eqb, leb, ltb}
-use Rattle.std.specs.Prelude.{Option as Maybe}
+use Rattle.std.specs.Prelude.{ℕ, zero, suc, ◌+◌, ◌-◌, ◌*◌, ◌%◌, ◌<◌, ◌≤◌, ◌≡◌, Bool, true, false, not, ◌&&◌, ◌||◌, cond, List, [], map, length, get_or, set, eqb, leb, ltb}
 use Rattle.std.proofs.Math.Option.{Option, none, some}
 use Rattle.esterel.specs.Limits.{max_nodes, max_depth, max_traps}
 use Rattle.esterel.specs.Statement.{Stmt, loop_depth}
@@ -92,20 +91,20 @@ unfoldable pub places_check : List Place → ℕ → Reply (Unit {0})
 places_check ps n =
     refuse_found 8 (first_node too_deep ps n) (refuse_found 9 (first_node too_many_traps ps n) (refuse_found 10 (first_node uncaught ps n) (yields tt)))
 
--- the node that was found, as the code has it
-abbrev pub lowest : Option ℕ → Maybe ℕ
-lowest none = None
-lowest (some node) = Some node
+-- the node that was found, or max_nodes
+abbrev pub lowest : Option ℕ → ℕ
+lowest none = max_nodes
+lowest (some node) = node
 
-abbrev pub refuse_some : ℕ → Maybe ℕ → Reply (Unit {0}) → Reply (Unit {0})
-refuse_some number None next = next
-refuse_some number (Some node) next = rejects number node
+-- a refusal at a node below max_nodes, before what comes next
+abbrev pub refuse_below : (number node : ℕ) → Reply (Unit {0}) → Reply (Unit {0})
+refuse_below number node next = cond (ltb node max_nodes) (rejects number node) next
 
 -- the nodes at which checks 8, 9 and 10 fail, with one more seen, the lowest
 pub record Seen (o : Faults) (k : Kind) (field node : ℕ) (n : Nesting) (r : Faults) : Type 0 where
-  pub depths : r.depths ≡ cond (ltb max_depth n.depth) (Some node) o.depths
-  pub traps : r.traps ≡ cond (is_trap k && ltb max_traps (n.traps + 1)) (Some node) o.traps
-  pub exits : r.exits ≡ cond (is_exit k && leb n.traps field) (Some node) o.exits
+  pub depths : r.depths ≡ cond (ltb max_depth n.depth) node o.depths
+  pub traps : r.traps ≡ cond (is_trap k && ltb max_traps (n.traps + 1)) node o.traps
+  pub exits : r.exits ≡ cond (is_exit k && leb n.traps field) node o.exits
 
 pub record Shallow (m : ℕ) (n : Nesting) : Type 0 where
   pub depth : n.depth ≤ m

@@ -8,7 +8,7 @@ ghost use Rattle.esterel.specs.Statement.{size};
 ghost use Rattle.table.specs.Kinds.{kind_of, arity_of, plain_of};
 ghost use Rattle.table.specs.Program.{program_of, Readable};
 ghost use Rattle.table.specs.Columns.{onto, sizes_of, stmt_at, TreeOf};
-ghost use Rattle.table.specs.Check.{length_check, node_check, nodes_check, WellSized, Room, span_of, refuse_some, Shallow, TopOf, OnlyOf, SecondOf, Descended, depths_of, traps_of, loops_of, Seen, Surveyed};
+ghost use Rattle.table.specs.Check.{length_check, node_check, nodes_check, WellSized, Room, span_of, refuse_below, Shallow, TopOf, OnlyOf, SecondOf, Descended, depths_of, traps_of, loops_of, Seen, Surveyed};
 
 use esterel::{Check, Refusal};
 
@@ -175,19 +175,20 @@ struct Nesting {
     waiting: usize,
 }
 
-// The lowest node of those seen so far at which check 8, 9 and 10 fails.
+// The lowest node of those seen so far at which check 8, 9 and 10 fails, or MAX_NODES. Options, which were tried, take an eighth more
+// instructions for the checks of every call; the calls are to stay as fast as they were, to a fiftieth.
 #[derive(Drop)]
 struct Faults {
-    depths: Option<usize>,
-    traps: Option<usize>,
-    exits: Option<usize>,
+    depths: usize,
+    traps: usize,
+    exits: usize,
 }
 
 // A lower node that fails takes the place of a higher one.
-fn lower_if(fails: bool, node: usize, higher: Option<usize>) -> Option<usize>
-    ensures { result ≡ cond fails (Some node) higher }
+fn lower_if(fails: bool, node: usize, higher: usize) -> usize
+    ensures { result ≡ cond fails node higher }
 {
-    if fails { Some(node) } else { higher }
+    if fails { node } else { higher }
 }
 
 // Checks 8, 9 and 10 of one more node, the lowest.
@@ -212,24 +213,24 @@ fn seen(faults: Faults, kind: Kind, field: usize, node: usize, nesting: Nesting)
 
 // The first refusal: each check comes before the next.
 fn first_refusal(faults: Faults) -> Result<(), Refusal>
-    ensures { reply result ≡ refuse_some 8 faults.depths (refuse_some 9 faults.traps (refuse_some 10 faults.exits (yields tt))) }
+    ensures { reply result ≡ refuse_below 8 faults.depths (refuse_below 9 faults.traps (refuse_below 10 faults.exits (yields tt))) }
 {
-    if let Some(node) = faults.depths {
+    if faults.depths < esterel::MAX_NODES {
         return Err(Refusal {
             check: Check::TooDeep,
-            node,
+            node: faults.depths,
         });
     }
-    if let Some(node) = faults.traps {
+    if faults.traps < esterel::MAX_NODES {
         return Err(Refusal {
             check: Check::TooManyTraps,
-            node,
+            node: faults.traps,
         });
     }
-    if let Some(node) = faults.exits {
+    if faults.exits < esterel::MAX_NODES {
         return Err(Refusal {
             check: Check::Uncaught,
-            node,
+            node: faults.exits,
         });
     }
     Ok(())
@@ -322,9 +323,9 @@ pub fn survey_table(table: &[u8]) -> Survey
     };
     let mut stack = [nowhere; WAITING];
     let mut faults = Faults {
-        depths: None,
-        traps: None,
-        exits: None,
+        depths: esterel::MAX_NODES,
+        traps: esterel::MAX_NODES,
+        exits: esterel::MAX_NODES,
     };
     let mut most: usize = 0;
     let mut node = Nesting {

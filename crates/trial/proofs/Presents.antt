@@ -9,16 +9,14 @@ use lib.ListN.{length, get_or, take, drop}
 use lib.Seq.{drop-cons, take_at, drop_at}
 use Rattle.std.specs.List.{range_with_len, filter}
 use Rattle.codes.specs.Codes.{bit}
-use Rattle.esterel.specs.Limits.{max_nodes}
 use Rattle.esterel.specs.Statement.{Leaf, nothing, pause, emit, exit, Unary, signal, suspend, loop, trap, Binary, present, sequence, parallel, Stmt, leaf, one, two, kind, size, nodes}
 use Rattle.esterel.proofs.Sizes.{length-nodes}
 use Rattle.esterel.proofs.Subtrees.{subtrees}
 use Rattle.table.specs.Kinds.{kind_of, is_present}
 use Rattle.table.specs.Program.{program_of, Readable}
 use Rattle.table.specs.Columns.{stmt_at, first_at}
-use Rattle.table.proofs.Bytes.{kind_byte, table-length}
+use Rattle.table.proofs.Bytes.{kind_byte}
 use Rattle.table.proofs.Said.{bit-small}
-use Rattle.table.proofs.Surveying.{few-nodes as few-in}
 use Rattle.table.proofs.Views.{spans}
 use Rattle.starts.specs.Ticks.{presents}
 use Rattle.trial.specs.Steps.{Countable}
@@ -92,7 +90,7 @@ counted t ok (suc n) i h =
     ∙ ap (λ j. own (get_or ns i (leaf nothing)) + tests (take n (drop j ns))) (add-one i)
     ∙ sym (ap (λ l. tests (take (suc n) l)) (drop-cons ns i (leaf nothing) inside))
 
-module _ {t : List ℕ} {first node : ℕ} (w : Countable t first node) where
+module _ {t : List ℕ} {first node : ℕ} (ok : Readable t) (w : Countable t first node) where
   -- the nodes of the statement are those from its first on
   its_nodes : take (size (stmt_at t node)) (drop (first_at t node) (nodes (program_of t))) ≡ nodes (stmt_at t node)
   its_nodes =
@@ -100,14 +98,8 @@ module _ {t : List ℕ} {first node : ℕ} (w : Countable t first node) where
       let first : length pre ≡ first_at t node = omega arith in
       ap (λ l. take (size (stmt_at t node)) (drop (first_at t node) l)) is ∙ ap (take (size (stmt_at t node))) (drop_at pre (nodes (stmt_at t node) ++ post) (first_at t node) first) ∙ take_at (nodes (stmt_at t node)) post (size (stmt_at t node)) (length-nodes (stmt_at t node))
 
-  pub few-nodes : node < max_nodes
-  few-nodes = omega (arith, w.within, few-in t w.readable)
-
-  pub in_reach : (i : ℕ) → i < node + 1 → 2 * i + 1 < length t
-  in_reach i h = omega (arith, w.within, table-length t w.readable)
-
   pub presents_are : length (filter (is_present_at t) (range_with_len first (node + 1 - first))) ≡ presents (stmt_at t node)
   presents_are =
       let all : node + 1 - first ≡ size (stmt_at t node) = omega (arith, w.starts, spans t node w.within) in
-      counted t w.readable (node + 1 - first) first (omega (arith, w.starts, spans t node w.within, w.within))
+      counted t ok (node + 1 - first) first (omega (arith, w.starts, spans t node w.within, w.within))
       ∙ ap₂ (λ n i. tests (take n (drop i (nodes (program_of t))))) all w.starts ∙ ap tests its_nodes ∙ tests-nodes (stmt_at t node)

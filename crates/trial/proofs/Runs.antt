@@ -26,7 +26,7 @@ use Rattle.table.proofs.Filling.{Filling, filling-next, filling-end}
 use Rattle.instant.specs.Run.{stmt_at, first_at, Runnable, Room, Clear, RanIs, ran, starves, Started}
 use Rattle.instant.specs.declared.Reaction.{Reaction}
 use Rattle.instant.proofs.Sets.{sets-at}
-use Rattle.instant.proofs.Nodes.{accepted}
+use Rattle.instant.proofs.Nodes.{fine, accepted}
 use Rattle.trial.specs.Lists.{lists, list_at}
 use Rattle.trial.specs.Trials.{completion, gathered, tried}
 use Rattle.trial.specs.Steps.{Triable, code_set, LowCode}
@@ -66,7 +66,7 @@ module _ {m number rest i : ℕ} {now : List ℕ} (l : number < 2 ^ m) (o : Writ
 
 -- ---- one run
 
-module _ {t sizes : List ℕ} {first node : ℕ} (w : Triable t sizes first node) where
+module _ {t : List ℕ} {first node : ℕ} (w : Triable t first node) where
   -- a code that a start gives is in K, and so below 64
   low : (answers : List ℕ) (k : ℕ) (u : List Entry) (h r : List ℕ) → start (first_at t node) (stmt_at t node) answers ≡ closed k u h r → k < 64
   low answers k u h r e =
@@ -75,7 +75,7 @@ module _ {t sizes : List ℕ} {first node : ℕ} (w : Triable t sizes first node
       omega (arith, x.fits, x.low_k k (rw (subtrees.placed (program_of t) node) in-k))
 
   pub few-places : size (program_of t) ≤ max_nodes
-  few-places = few-nodes t w.countable.readable
+  few-places = few-nodes t (fine w.runnable)
 
   -- its nodes' bytes, which are those from its first on
   pub in_bytes : (first ≤ node + 1) × (node + 1 ≤ size (program_of t))
@@ -88,7 +88,7 @@ module _ {t sizes : List ℕ} {first node : ℕ} (w : Triable t sizes first node
       sets-at held first (zeros (node + 1 - first)) j (omega (arith, w.countable.starts)) (omega (arith, length-replicate {A = ℕ} (node + 1 - first) 0)) (omega (arith, w.countable.within))
       ∙ get_or-replicate (node + 1 - first) (j - first) 0 0 (omega (arith, w.countable.starts))
 
-  pub run_call : (held : List ℕ) {answers held' emissions : List ℕ} → held' ≡ sets held first (zeros (node + 1 - first)) → size (program_of t) ≤ length held → signals ≤ length emissions → Runnable t sizes × Room t answers held' emissions node 0 × Clear t held' node
+  pub run_call : (held : List ℕ) {answers held' emissions : List ℕ} → held' ≡ sets held first (zeros (node + 1 - first)) → size (program_of t) ≤ length held → signals ≤ length emissions → Runnable t × Room t answers held' emissions node 0 × Clear t held' node
   run_call held cleans long wide =
       let same : length (sets held first (zeros (node + 1 - first))) ≡ length held = length-sets held first (zeros (node + 1 - first)) in
       (w.runnable, record { within = w.countable.within; places = rw cleans (omega arith); marks = wide; lent = omega arith }, rw cleans (cleared held long))

@@ -2,22 +2,21 @@
 use Rattle.std.specs.Prelude.{ℕ, ◌≤◌, ◌<◌, ◌≡◌, List, Option, Some, None}
 use Rattle.codes.specs.Words.{singleton_of}
 use Rattle.esterel.specs.Statement.{size}
-use Rattle.table.specs.Program.{program_of, Readable}
+use Rattle.table.specs.Program.{program_of}
 use Rattle.table.specs.Columns.{stmt_at, first_at}
 use Rattle.instant.specs.Run.{Runnable}
 use Rattle.instant.specs.declared.Reaction.{Reaction}
 use Rattle.starts.specs.Ticks.{presents}
 use Rattle.trial.specs.Trials.{trial_answers}
 
--- a node of a table that was read, and the first node of its statement
+-- a node of a tree's table, and the first node of its statement
 pub record Countable (t : List ℕ) (first node : ℕ) : Type 0 where
-  pub readable : Readable t
   pub within : node < size (program_of t)
   pub starts : first ≡ first_at t node
 
 -- a node of an accepted table that has no more presents than a list has answers
-pub record Triable (t sizes : List ℕ) (first node : ℕ) : Type 0 where
-  pub runnable : Runnable t sizes
+pub record Triable (t : List ℕ) (first node : ℕ) : Type 0 where
+  pub runnable : Runnable t
   pub countable : Countable t first node
   pub few : presents (stmt_at t node) ≤ trial_answers
 

@@ -16,7 +16,7 @@ ghost use Rattle.trial.specs.Calls.{tried_of};
 use esterel::{Check, Refusal};
 use instant::Reaction;
 use instant::run::{self, Inputs};
-use table::Kind;
+use table::{Kind, Tree};
 
 // The answers of a list, which suffice for as many presents, and how many such lists there are.
 const ANSWERS: usize = 12;
@@ -24,12 +24,12 @@ const ANSWERS: usize = 12;
 const LISTS: usize = 4096;
 
 // The number of presents in the statement at a node, its own included: its nodes are those from its first to this one.
-fn count_presents(table: &[u8], first: usize, node: usize) -> usize
-    requires { Countable table.now first node }
-    ensures { result ≡ presents (stmt_at table.now node) }
+fn count_presents(tree: &Tree, first: usize, node: usize) -> usize
+    requires { Countable tree.now.table.now first node }
+    ensures { result ≡ presents (stmt_at tree.now.table.now node) }
 {
     (first..node + 1)
-        .filter(|i| table::kind_at(table, *i) == Kind::Present)
+        .filter(|i| tree.kind(*i) == Kind::Present)
         .count()
 }
 
@@ -67,8 +67,8 @@ fn try_list(
     held: &mut [u8; esterel::MAX_NODES],
     emissions: &mut [u8; esterel::SIGNALS],
 ) -> u64
-    requires { Triable inputs.now.table.now inputs.now.sizes.now first node }
-    ensures { result ≡ word (completion (start (first_at inputs.now.table.now node) (stmt_at inputs.now.table.now node) inputs.now.answers.now)) }
+    requires { Triable inputs.now.tree.table.now first node }
+    ensures { result ≡ word (completion (start (first_at inputs.now.tree.table.now node) (stmt_at inputs.now.tree.table.now node) inputs.now.answers.now)) }
 {
     held[first..=node].fill(0);
     let run = run::start_at(inputs, node, 0, held, emissions);
@@ -77,9 +77,9 @@ fn try_list(
 
 // The statement is started with every list. The contract tells only the set, which is K however it is found; that the runs are made is seen
 // in this loop.
-fn gather(table: &[u8], sizes: &[u16; esterel::MAX_NODES], first: usize, node: usize) -> u64
-    requires { Triable table.now sizes.now first node }
-    ensures { result ≡ word (tried trial_answers (first_at table.now node) (stmt_at table.now node)) }
+fn gather(tree: &Tree, first: usize, node: usize) -> u64
+    requires { Triable tree.now.table.now first node }
+    ensures { result ≡ word (tried trial_answers (first_at tree.now.table.now node) (stmt_at tree.now.table.now node)) }
 {
     let mut held = [0u8; esterel::MAX_NODES];
     let mut emissions = [0u8; esterel::SIGNALS];
@@ -87,8 +87,7 @@ fn gather(table: &[u8], sizes: &[u16; esterel::MAX_NODES], first: usize, node: u
     for number in 0..LISTS {
         let answers = answers_of(number);
         let inputs = Inputs {
-            table,
-            sizes,
+            tree: *tree,
             answers: &answers,
         };
         let own = try_list(&inputs, first, node, &mut held, &mut emissions);
@@ -110,21 +109,21 @@ pub fn trial(table: &[u8], node: usize) -> Result<Tried, Refusal>
     ensures { reply result ≡ tried_of (verdict table.now) node }
 {
     let mut sizes = [0u16; esterel::MAX_NODES];
-    analysis::check_sized(table, true, &mut sizes)?;
-    if table.len() / 2 <= node {
+    let tree = analysis::check_tree(table, true, &mut sizes)?;
+    if tree.nodes() <= node {
         return Err(Refusal {
             check: Check::NoNode,
             node: 0,
         });
     }
-    let first = node + 1 - table::size_at(&sizes, node);
-    let presents = count_presents(table, first, node);
+    let first = node + 1 - tree.size(node);
+    let presents = count_presents(&tree, first, node);
     if ANSWERS < presents {
         return Err(Refusal {
             check: Check::TooManyPresents,
             node: 0,
         });
     }
-    let set = gather(table, &sizes, first, node);
+    let set = gather(&tree, first, node);
     Ok(Tried { set, presents })
 }

@@ -1,14 +1,5 @@
-use mathlib.Core.Path.{refl, sym, subst}
-use Rattle.abi.specs.Exported.{Small}
-use Rattle.abi.proofs.Telling.{small-narrowed, too_short, answered}
-use native.Mathlib.Omega.{arith}
+use Rattle.abi.proofs.Telling.{small-narrowed}
 use Rattle.abi.proofs.bavzhrono_narrow.Goals as goal
 
-pub returns-then-answer-lt-FIGURES : goal.returns-then-answer-lt-FIGURES
-returns-then-answer-lt-FIGURES c = too_short _ _ _ _ (omega (arith, c.if-answer-lt-FIGURES.true)) refl c.short_answer.ensures
-
-pub tell-requires : goal.tell-requires
-tell-requires c = (omega (arith, c.if-answer-lt-FIGURES.false), subst Small (sym c.tell_narrowed.ensures) (small-narrowed c.args.table.now c.args.ties.now c.args.sets.now _ _ c.narrow-narrowed.ensures))
-
-pub returns : goal.returns
-returns c = answered _ _ _ _ _ (omega (arith, c.if-answer-lt-FIGURES.false)) c.narrow-narrowed.ensures c.tell_narrowed.ensures c.tell.ensures
+pub tell-requires-clause-small : goal.tell-requires-clause-small
+tell-requires-clause-small c = small-narrowed c.args.table.now c.args.ties.now c.args.sets.now _ _ c.narrow-narrowed.ensures

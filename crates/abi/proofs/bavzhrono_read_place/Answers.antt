@@ -1,14 +1,6 @@
-use native.Mathlib.Omega.{arith}
-use mathlib.Core.Path.{sym, subst}
-use Rattle.abi.specs.Exported.{Small}
-use Rattle.abi.proofs.Telling.{small-place, too_short, answered}
+use Rattle.std.proofs.Common.{arith}
+use Rattle.abi.proofs.Telling.{place-told, answered}
 use Rattle.abi.proofs.bavzhrono_read_place.Goals as goal
 
-pub returns-then-answer-lt-FIGURES : goal.returns-then-answer-lt-FIGURES
-returns-then-answer-lt-FIGURES c = too_short _ _ _ _ (omega (arith, c.if-answer-lt-FIGURES.true)) tt c.refusal.ensures
-
-pub tell-requires : goal.tell-requires
-tell-requires c = (omega (arith, c.if-answer-lt-FIGURES.false), subst Small (sym c.tell_place.ensures) (small-place c.read-reading.result))
-
 pub returns : goal.returns
-returns c = answered _ _ _ _ _ (omega (arith, c.if-answer-lt-FIGURES.false)) (_, _, omega arith, c.read-reading.ensures) c.tell_place.ensures c.tell.ensures
+returns c = answered _ _ _ _ _ (omega arith) (_, _, omega arith, c.read.ensures) (place-told c.read.result _ c.err-fault.ensures.value) c.tell.ensures

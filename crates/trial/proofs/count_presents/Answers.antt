@@ -1,21 +1,13 @@
 -- The nodes that are counted are the statement's presents: proofs/Presents.antt.
-use Rattle.std.proofs.Common.{refl, ◌∙◌, ◌+◌, ap, arith, length, rules, tests}
-use Rattle.std.proofs.lemmas.Iterator.{serves_from_Range, YieldsList-from_range}
+use Rattle.std.proofs.Common.{refl, ◌∙◌, ◌+◌, rules, tests}
+use Rattle.std.proofs.lemmas.Iterator.{YieldsList-from_range}
 use Rattle.std.proofs.lemmas.Iterator.Consumers.{count_from_yields_List, YieldsList-from_filter}
-use Rattle.trial.proofs.Presents.{is_present_at, few-nodes, in_reach, presents_are}
+use Rattle.table.proofs.Trees.{readable}
+use Rattle.trial.proofs.Presents.{is_present_at, presents_are}
 use Rattle.trial.proofs.count_presents.Goals as goal
-
-pub overflow_add-node : goal.overflow_add-node
-overflow_add-node c = let few = few-nodes c.requires in omega arith
-
-pub count-requires-clause-can : goal.count-requires-clause-can
-count-requires-clause-can c =
-    let end = ap (λ r. r.end) c.filter.ensures.source in
-    let same = ap (λ p. length p.0.now) c.filter.ensures.closure in
-    (tt, tt, serves_from_Range (λ x q k. search (rules, tests)) (λ x low high y e _ _ _ _ _ _ _ _. omega (arith, in_reach c.requires x (omega arith))))
 
 pub returns : goal.returns
 returns c =
     count_from_yields_List _ _ c.count.ensures.ran
-    (YieldsList-from_filter _ (is_present_at c.args.table.now) (YieldsList-from_range c.args.first (c.args.node + 1) _ c.filter.ensures.source refl) c.filter.ensures.closure (λ x b q k. search (rules, tests)))
-    ∙ presents_are c.requires
+    (YieldsList-from_filter _ (is_present_at c.args.tree.now.table.now) (YieldsList-from_range c.args.first (c.args.node + 1) _ c.filter.ensures.source refl) c.filter.ensures.closure (λ x b q k. search (rules, tests)))
+    ∙ presents_are (readable c.args.tree.now.tree) c.requires

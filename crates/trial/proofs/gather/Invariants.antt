@@ -7,4 +7,4 @@ use Rattle.trial.proofs.gather.Given as goal
 
 -- the codes of the lists before `number` are gathered
 abbrev pub invariant-loop-number : goal.invariant-loop-number
-invariant-loop-number l = l.set ≡ gathered_to (start (first_at l.table l.node) (stmt_at l.table l.node)) trial_answers l.number
+invariant-loop-number l = l.set ≡ gathered_to (start (first_at l.tree.table.now l.node) (stmt_at l.tree.table.now l.node)) trial_answers l.number

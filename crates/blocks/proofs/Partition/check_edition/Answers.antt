@@ -1,11 +1,11 @@
 use Rattle.std.proofs.Common.{◌∙◌, arith}
 use Rattle.blocks.proofs.Counted.{place_short}
 use Rattle.blocks.proofs.Completing.{no_parts, missing-part, unnamed, unfilled, last-part, full-part, completing_next, completing_end}
-use Rattle.blocks.proofs.check_edition.Goals as goal
-use Rattle.blocks.proofs.check_edition.Goals.{else-k-parts-via-then-k-parts+else-place-ne-CONTENT, else-k-parts-via-else-k-parts}
+use Rattle.blocks.proofs.Partition.check_edition.Goals as goal
+use Rattle.blocks.proofs.Partition.check_edition.Goals.{else-k-parts-via-then-k-parts+else-place-ne-CONTENT, else-k-parts-via-else-k-parts}
 
 pub returns-then-parts-eq0 : goal.returns-then-parts-eq0
-returns-then-parts-eq0 c = no_parts c.args.file.now c.args.program c.args.edition c.requires.1 c.if-parts-eq0.true
+returns-then-parts-eq0 c = no_parts c.args.self.now.file.now c.args.self.now.program c.args.edition c.requires c.if-parts-eq0.true
 
 pub returns-in_err-place : goal.returns-in_err-place
 returns-in_err-place c = c.from_residual.ensures ∙ missing-part c.loop-k.invariant c.loop-k-test.true c.in_err-place.ensures

@@ -1,6 +1,0 @@
--- The parts before `k` are as they must be.
-use Rattle.blocks.proofs.Completing.{Completing}
-use Rattle.blocks.proofs.check_edition.Given as goal
-
-abbrev pub invariant-loop-k : goal.invariant-loop-k
-invariant-loop-k l = Completing l.file l.program l.edition l.parts l.length l.k
