@@ -1,8 +1,8 @@
 -- A lemma for each return.
-use Rattle.std.proofs.Common.{refl, sym, subst, arith}
+use Rattle.std.proofs.Common.{refl, sym, subst}
 use Rattle.esterel.proofs.Replies.{handed as handed_on}
 use Rattle.planning.specs.Planning.{Hands}
-use Rattle.planning.proofs.Plans.{refused-hands, own, as_lent, well_formed, some-node, last_tops, walking, handed}
+use Rattle.planning.proofs.Plans.{refused-hands, own, as_lent, some-node, last_tops, walking, handed}
 use Rattle.planning.proofs.find_longest.Goals as goal
 
 pub returns-in_err-tree : goal.returns-in_err-tree
