@@ -2,7 +2,6 @@
 #![tactic(auto)]
 
 ghost use Rattle.std.specs.Prelude.{◌≡◌, length};
-ghost use Rattle.esterel.specs.Refusal.{number_of};
 ghost use Rattle.esterel.specs.Table.{passed, refused};
 ghost use Rattle.esterel.specs.Checks.{verdict};
 ghost use Rattle.table.specs.Program.{program_of};
@@ -13,26 +12,26 @@ mod columns;
 mod writer;
 
 use columns::Listing;
-use esterel::Refusal;
 pub use writer::Writer;
 use writer::width;
 
 // How many bytes a refusal takes.
-fn refusal_length(refusal: Refusal) -> usize
-    ensures { result ≡ length (text_of (refused (number_of refusal.check) refusal.node)) }
+fn refusal_length(number: u8, node: usize) -> usize
+    ensures { result ≡ length (text_of (refused number node)) }
 {
-    width(refusal.check as u64, 10) + width(refusal.node as u64, 10) + 10
+    width(u64::from(number), 10) + width(node as u64, 10) + 10
 }
 
-// The line of a refusal, and its length; a text that is too short for it stays as it was.
-pub fn render_refusal(refusal: Refusal, text: &mut [u8]) -> Option<usize>
-    ensures { Rendering (text_of (refused (number_of refusal.check) refusal.node)) text.old text.new result }
+// The line of a refusal, and its length; a text that is too short for it stays as it was. It takes any number, as it did before the
+// checks had names, so that callers are asked no more.
+pub fn render_refusal(number: u8, node: usize, text: &mut [u8]) -> Option<usize>
+    ensures { Rendering (text_of (refused number node)) text.old text.new result }
 {
-    let length = refusal_length(refusal);
+    let length = refusal_length(number, node);
     if text.len() < length {
         return None;
     }
-    Writer::new(text).refusal(refusal);
+    Writer::new(text).refusal(number, node);
     Some(length)
 }
 
@@ -69,7 +68,7 @@ pub fn render(table: &[u8], text: &mut [u8]) -> Option<usize>
             };
             render_listing(&listing, text)
         }
-        Err(refusal) => render_refusal(refusal, text),
+        Err(refusal) => render_refusal(refusal.check as u8, refusal.node, text),
     }
 }
 

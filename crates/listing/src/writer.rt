@@ -3,12 +3,9 @@
 
 ghost use Rattle.std.specs.Prelude.{◌≡◌, [], ◌∷◌, ◌++◌, ◌+◌, ◌*◌, ◌<◌, ◌≤◌, length};
 ghost use Rattle.esterel.specs.Limits.{max_nodes};
-ghost use Rattle.esterel.specs.Refusal.{number_of};
 ghost use Rattle.esterel.specs.Table.{refused};
 ghost use Rattle.listing.specs.Text.{digit as digit_of, digits, header_text, text_of};
 ghost use Rattle.listing.specs.Writer.{HasRoom, Puts, Begins};
-
-use esterel::Refusal;
 
 // A text while it is written: `at` bytes are done.
 #[derive(Drop)]
@@ -99,14 +96,14 @@ impl<'a> Writer<'a> {
         self.byte(after);
     }
 
-    // The line of a refusal.
-    pub fn refusal(&mut self, refusal: Refusal)
-        requires { HasRoom self.old (text_of (refused (number_of refusal.check) refusal.node)) }
-        ensures { Puts self.old (text_of (refused (number_of refusal.check) refusal.node)) self.new }
+    // The line of a refusal, of any number (as `render_refusal`).
+    pub fn refusal(&mut self, number: u8, node: usize)
+        requires { HasRoom self.old (text_of (refused number node)) }
+        ensures { Puts self.old (text_of (refused number node)) self.new }
     {
         self.bytes(b"refused ");
-        self.field(refusal.check as u64, 10, b' ');
-        self.field(refusal.node as u64, 10, b'\n');
+        self.field(u64::from(number), 10, b' ');
+        self.field(node as u64, 10, b'\n');
     }
 
     // A listing's first line: `ok`, n, d, n(1 + d).

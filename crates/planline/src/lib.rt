@@ -15,7 +15,7 @@ pub fn render_line(table: &[u8], text: &mut [u8; MAX_LINE]) -> usize
     let mut to = Writer::new(text);
     match planning::most_entries(table) {
         Ok(entries) => to.field(entries as u64, 10, b'\n'),
-        Err(refusal) => to.refusal(refusal),
+        Err(refusal) => to.refusal(refusal.check as u8, refusal.node),
     }
     to.written()
 }

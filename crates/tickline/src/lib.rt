@@ -41,7 +41,7 @@ pub fn render_line(table: &[u8], text: &mut [u8; MAX_LINE]) -> usize
     match witness::find_tick(table, &mut answers) {
         Ok(Tick::Ends { node, length }) => write_tick(&mut to, node, &answers[..length]),
         Ok(Tick::Accepted { nodes, loops }) => to.header(nodes, loops),
-        Err(refusal) => to.refusal(refusal),
+        Err(refusal) => to.refusal(refusal.check as u8, refusal.node),
     }
     to.written()
 }

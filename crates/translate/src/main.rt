@@ -35,7 +35,11 @@ fn tell_fault<W: Write>(writer: &mut W, text: &[u8], fault: Fault)
     requires { (fault.place ≤ length text.now) × (fault.place ≤ max_source) }
 {
     let mut line = [0u8; LINE];
-    let told = match listing::render_refusal(fault.refusal, &mut line) {
+    let told = match listing::render_refusal(
+        fault.refusal.check as u8,
+        fault.refusal.node,
+        &mut line,
+    ) {
         Some(length) => &line[..length],
         None => b"translate: the refusal\n",
     };
