@@ -2,7 +2,7 @@
 use mathlib.Core.Path.{◌≡◌, ap, ◌∙◌}
 use mathlib.Core.Bool.{Bool, true, false}
 use mathlib.Core.List.{List}
-use Prim.Native.Nat.{ℕ, ◌+◌, ◌-◌, ◌*◌, ◌%◌, ◌≤◌, ◌<◌}
+use Prim.Native.Nat.{ℕ, ◌+◌, ◌*◌, ◌%◌, ◌≤◌, ◌<◌}
 use native.Mathlib.Nat.{div-add-mod, mod-lt}
 use native.Mathlib.Omega.{arith}
 use borrow.Author.Count.{below_more}
@@ -17,10 +17,6 @@ use Rattle.blocks.specs.Steps.{usable, Checked}
 use Rattle.blocks.specs.Theorems.{Files}
 
 module _ (file : List ℕ) (i : ℕ) where
-  pub block-is : take (block_size * i + block_size - block_size * i) (drop (block_size * i) file) ≡ block_at file i
-  unfolding block_at
-  block-is = let n : block_size * i + block_size - block_size * i ≡ block_size = omega arith in ap (λ k. take k (drop (block_size * i) file)) n
-
   -- block i is in the file
   pub block_within : i < blocks_in file → block_size * i + block_size ≤ length file
   unfolding blocks_in
@@ -31,10 +27,6 @@ module _ (file : List ℕ) (i : ℕ) where
   block-below h = omega (arith, div-add-mod (length file) block_size, mod-lt (length file) {m = block_size} (omega arith))
 
   module _ (h : block_size * i + block_size ≤ length file) where
-    pub block-length : length (block_at file i) ≡ block_size
-    unfolding block_at
-    block-length = length-take-le block_size (drop (block_size * i) file) (omega (arith, length-drop (block_size * i) file))
-
     -- the front of its content is where it is in the file
     pub content_in : (n : ℕ) → n ≤ content_size → take n (drop content_at (block_at file i)) ≡ take n (drop (block_size * i + content_at) file)
     unfolding block_at

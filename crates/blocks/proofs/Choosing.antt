@@ -16,7 +16,7 @@ use Rattle.blocks.specs.Block.{block_size, content_at, Bytes, word, edition_in}
 use Rattle.blocks.specs.Editions.{blocks_in, block_at, counted, start_of, named_by, parts_of, whole, newest}
 use Rattle.blocks.specs.Steps.{usable, Checked, CountedPlace, chosen, edition_of, higher_than, Best, none_yet, best}
 use Rattle.blocks.specs.declared.Place.{Place}
-use Rattle.blocks.specs.declared.Edition.{Edition}
+use Rattle.blocks.specs.declared.Fetched.{Fetched}
 use Rattle.std.specs.Prelude.{Some, None}
 use Rattle.std.specs.Option.{option_or}
 use Rattle.std.specs.Prelude.{Option as Optional}
@@ -27,7 +27,7 @@ use Rattle.blocks.proofs.Counted.{counted-good}
 -- ---- one more block
 
 -- what a check of an edition says
-module _ (file : List ℕ) (p e : ℕ) {next : Optional Edition} (n : next ≡ edition_of file p e) where
+module _ (file : List ℕ) (p e : ℕ) {next : Optional Fetched} (n : next ≡ edition_of file p e) where
   by-check : (b : Bool) → whole file p e ≡ b → next ≡ cond b (chosen file p (some e)) None
   unfolding edition_of
   by-check b w = n ∙ ap (λ c. cond c (chosen file p (some e)) None) w
@@ -35,19 +35,19 @@ module _ (file : List ℕ) (p e : ℕ) {next : Optional Edition} (n : next ≡ e
   none_told : next ≡ None → whole file p e ≡ false
   none_told t = cannot_pass (whole file p e) (λ w. let q = by-check true w in let z : ◌≡◌ {A = ℕ} 0 1 = cc in omega arith)
 
-  whole-told : {d : Edition} → next ≡ Some d → (whole file p e ≡ true) × (next ≡ chosen file p (some e))
+  whole-told : {d : Fetched} → next ≡ Some d → (whole file p e ≡ true) × (next ≡ chosen file p (some e))
   whole-told t = go (whole file p e) refl
     where
       go : (b : Bool) → whole file p e ≡ b → (whole file p e ≡ true) × (next ≡ chosen file p (some e))
       go true w = (w, by-check true w)
       go false w = absurd (let q = by-check false w in let z : ◌≡◌ {A = ℕ} 0 1 = cc in omega arith)
 
-module _ {file : List ℕ} {p n : ℕ} {x : Optional Edition} (b : Best file p n x) where
+module _ {file : List ℕ} {p n : ℕ} {x : Optional Fetched} (b : Best file p n x) where
   -- it changes nothing where no higher edition whose part 0 it is is whole
   passed-by : ((d : ℕ) → counted file p d 0 ≡ some n → higher_than d x ≡ true → whole file p d ≡ false) → Best file p (n + 1) x
   passed-by f = go b f
     where
-      go : {y : Optional Edition} → Best file p n y → ((d : ℕ) → counted file p d 0 ≡ some n → higher_than d y ≡ true → whole file p d ≡ false) → Best file p (n + 1) y
+      go : {y : Optional Fetched} → Best file p n y → ((d : ℕ) → counted file p d 0 ≡ some n → higher_than d y ≡ true → whole file p d ≡ false) → Best file p (n + 1) y
       go (none_yet h) g = none_yet (λ d. below_more (λ i. counted file p d 0 ≡ some i → whole file p d ≡ false) n (h d) (λ c. g d c refl))
       go (best e w h) g =
           best e w
@@ -60,7 +60,7 @@ module _ {file : List ℕ} {p n : ℕ} {x : Optional Edition} (b : Best file p n
       (λ i h c l. go b t d i h c l)
       (λ c l. absurd (omega (arith, (counted-good c).edition))))
     where
-      go : {y : Optional Edition} → Best file p n y → higher_than e y ≡ true → (d i : ℕ) → i < n → counted file p d 0 ≡ some i → e < d → whole file p d ≡ false
+      go : {y : Optional Fetched} → Best file p n y → higher_than e y ≡ true → (d i : ℕ) → i < n → counted file p d 0 ≡ some i → e < d → whole file p d ≡ false
       go (none_yet h) u d i a c l = h d i a c
       go (best f v h) u d i a c l = h d i a c (omega (arith, ltb-true f e u))
 
@@ -80,21 +80,21 @@ module _ {file : List ℕ} {p n : ℕ} {x : Optional Edition} (b : Best file p n
     pub unheld : counted file p e 0 ≡ none → Best file p (n + 1) x
     unheld z = passed-by (λ d c u. let q = sym z ∙ ap (λ k. counted file p k 0) (sym (own c)) ∙ c in cc)
 
-    pub elsewhere : {l : Place} → CountedPlace file p e 0 l → (l.from ≡ block_size * n + content_at → ⊥) → Best file p (n + 1) x
+    pub elsewhere : {l : Place} → CountedPlace file p e 0 l → (l.span.from ≡ block_size * n + content_at → ⊥) → Best file p (n + 1) x
     elsewhere w h =
         passed-by (λ d c u. absurd (h (w.place.from ∙ ap start_of (ap (λ k. counted file p k 0) (sym (own c)) ∙ c))))
 
-    module _ {next : Optional Edition} (v : next ≡ edition_of file p e) where
+    module _ {next : Optional Fetched} (v : next ≡ edition_of file p e) where
       pub retained : next ≡ None → Best file p (n + 1) x
       retained t = passed-by (λ d c u. ap (whole file p) (own c) ∙ none_told file p e v t)
 
-      pub surpassed : {d : Edition} → higher_than e x ≡ true → next ≡ Some d → Best file p (n + 1) next
+      pub surpassed : {d : Fetched} → higher_than e x ≡ true → next ≡ Some d → Best file p (n + 1) next
       surpassed u t = let (w, r) = whole-told file p e v t in rw r (raised e (sym q) u w)
 
       pub considered : higher_than e x ≡ true → Best file p (n + 1) (option_or next x)
       considered u = go next refl
         where
-          go : (y : Optional Edition) → next ≡ y → Best file p (n + 1) (option_or y x)
+          go : (y : Optional Fetched) → next ≡ y → Best file p (n + 1) (option_or y x)
           go None t = retained t
           go (Some d) t = rw t at (surpassed u t)
 
@@ -128,7 +128,7 @@ module _ (file : List ℕ) (p : ℕ) (bytes : Bytes file) where
   fails : (e : ℕ) → ((i : ℕ) → i < blocks_in file → counted file p e 0 ≡ some i → whole file p e ≡ false) → whole file p e ≡ true → ⊥
   fails e h w = let (i, c) = led file p e w in false-not-true (h i (block-below file i (counted-good c).within) c) w
 
-  pub best-is : {x : Optional Edition} → Best file p (blocks_in file) x → x ≡ chosen file p (newest file p)
+  pub best-is : {x : Optional Fetched} → Best file p (blocks_in file) x → x ≡ chosen file p (newest file p)
   unfolding newest
   best-is (none_yet h) = ap (chosen file p) (sym ((last_none (whole file p) 65536).1 (λ e l w. fails e (h e) w)))
   best-is (best e w h) =

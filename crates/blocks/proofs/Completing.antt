@@ -12,7 +12,7 @@ use lib.ListN.{length}
 use Rattle.blocks.specs.Block.{content_size}
 use Rattle.blocks.specs.Editions.{counted, length_of, named_by, all_below, content_of, parts_of, completes, whole, joined, table_of}
 use Rattle.blocks.specs.declared.Place.{Place}
-use Rattle.blocks.specs.declared.Edition.{Edition}
+use Rattle.blocks.specs.declared.Fetched.{Fetched}
 use Rattle.blocks.specs.Steps.{CountedPlace, edition_of}
 use Rattle.std.specs.Prelude.{Some, None}
 use Rattle.codes.proofs.Bools.{both, right, cannot_pass, false-not-true}
@@ -24,7 +24,7 @@ use Rattle.blocks.proofs.Joining.{joined_length}
 abbrev pub content : (file : List ℕ) (p e k : ℕ) → List ℕ
 content file p e k = content_of file (counted file p e k)
 
-abbrev edition : (number parts long : ℕ) → Edition
+abbrev edition : (number parts long : ℕ) → Fetched
 edition e m n = record { edition = e; parts = m; length = n }
 
 module _ (file : List ℕ) (p e : ℕ) where
@@ -75,14 +75,14 @@ module _ {file : List ℕ} {p e m total k : ℕ} {l : Place} (o : Completing fil
       (ap (λ b. b && (leb m (k + 1) || eqb (length_of file (counted file p e k)) content_size)) (ne_eqb _ _ (λ q. d (w.place.parts ∙ q))))
 
   module _ (n : l.parts ≡ m) where
-    used : completes file p e m k ≡ leb m (k + 1) || eqb l.length content_size
+    used : completes file p e m k ≡ leb m (k + 1) || eqb l.span.length content_size
     unfolding completes
     used =
         ap (λ b. b && (leb m (k + 1) || eqb (length_of file (counted file p e k)) content_size)) (eq-eqb _ _ (sym w.place.parts ∙ n))
         ∙ ap (λ u. leb m (k + 1) || eqb u content_size) (sym w.place.used)
 
     -- it is not the last and does not use all of its content
-    pub unfilled : k + 1 < m → (l.length ≡ content_size → ⊥) → None ≡ edition_of file p e
+    pub unfilled : k + 1 < m → (l.span.length ≡ content_size → ⊥) → None ≡ edition_of file p e
     unfilled more d = incomplete file p e k o.named h (used ∙ (rw (lt-leb m (k + 1) more, ne_eqb _ _ d) refl))
 
     -- it is the last
@@ -90,10 +90,10 @@ module _ {file : List ℕ} {p e m total k : ℕ} {l : Place} (o : Completing fil
     last-part last = used ∙ (rw (le-leb m (k + 1) last) refl)
 
     -- it uses all of its content
-    pub full-part : k + 1 < m → l.length ≡ content_size → completes file p e m k ≡ true
+    pub full-part : k + 1 < m → l.span.length ≡ content_size → completes file p e m k ≡ true
     full-part more full = used ∙ (rw (lt-leb m (k + 1) more, eq-eqb _ _ full) refl)
 
-    pub completing_next : completes file p e m k ≡ true → Completing file p e m (total + l.length) (k + 1)
+    pub completing_next : completes file p e m k ≡ true → Completing file p e m (total + l.span.length) (k + 1)
     completing_next t =
         record {
           bound = omega arith;

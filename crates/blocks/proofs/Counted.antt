@@ -79,13 +79,13 @@ slice_content file o {from} {long} a b =
     ap (λ m. take m (drop from file)) n ∙ ap (λ m. take (length_of file o) (drop m file)) a
 
 module _ {file : List ℕ} {p e k : ℕ} {l : Place} (w : CountedPlace file p e k l) where
-  pub place_short : l.length ≤ content_size
+  pub place_short : l.span.length ≤ content_size
   place_short = rw w.place.used (used-short (counted_view file p e k))
 
-  pub place-within : l.from + l.length ≤ length file
+  pub place-within : l.span.from + l.span.length ≤ length file
   place-within = rw (w.place.from, w.place.used) (used-within (counted_view file p e k))
 
-  pub place-content : take (l.from + l.length - l.from) (drop l.from file) ≡ content_of file (counted file p e k)
+  pub place-content : take (l.span.from + l.span.length - l.span.from) (drop l.span.from file) ≡ content_of file (counted file p e k)
   place-content = slice_content file (counted file p e k) w.place.from w.place.used
 
 -- what `locate` answers, by the block that counts

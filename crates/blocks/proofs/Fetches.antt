@@ -9,7 +9,7 @@ use borrow.Author.Tests.{lt-ltb, le-ltb}
 use lib.ListN.{length, drop}
 use Rattle.blocks.specs.Editions.{file_fits, parts_of, newest, table_of}
 use Rattle.blocks.specs.Fetching.{max_table, fetched, refused, check_table, check_edition, outcome, content, fetched_as, refused_at, answer_of, Fetching}
-use Rattle.blocks.specs.declared.Edition.{Edition}
+use Rattle.blocks.specs.declared.Fetched.{Fetched}
 use Rattle.std.specs.Prelude.{Some, None, Ok, Err}
 use Rattle.std.specs.Prelude.{Option as Optional}
 use Rattle.esterel.specs.Refusal.{number_of, yields}
@@ -50,16 +50,16 @@ module _ (file : List ℕ) (p : ℕ) where
   none-chosen none h = refl
   none-chosen (some e) h = absurd (let z : ◌≡◌ {A = ℕ} 0 1 = cc in omega arith)
 
-  one-chosen : (o : Option ℕ) {r : Edition} → chosen file p o ≡ Some r → Chosen file p o r.edition r.parts r.length
+  one-chosen : (o : Option ℕ) {r : Fetched} → chosen file p o ≡ Some r → Chosen file p o r.edition r.parts r.length
   one-chosen none h = absurd (let z : ◌≡◌ {A = ℕ} 0 1 = cc in omega arith)
   one-chosen (some d) {r} h =
       let same : record { edition = d; parts = parts_of file p d; length = length (table_of file p d) } ≡ r = cc in
-      subst (λ (s : Edition). Chosen file p (some d) s.edition s.parts s.length) same (record { is = refl; parts = refl; long = refl })
+      subst (λ (s : Fetched). Chosen file p (some d) s.edition s.parts s.length) same (record { is = refl; parts = refl; long = refl })
 
-  pub no_edition_lem : {r : Optional Edition} → r ≡ chosen file p (newest file p) → r ≡ None → check_edition file p (newest file p) ≡ refused 18
+  pub no_edition_lem : {r : Optional Fetched} → r ≡ chosen file p (newest file p) → r ≡ None → check_edition file p (newest file p) ≡ refused 18
   no_edition_lem q t = none-chosen (newest file p) (sym q ∙ t)
 
-  pub an_edition : {r : Optional Edition} {d : Edition} → r ≡ chosen file p (newest file p) → r ≡ Some d → Chosen file p (newest file p) d.edition d.parts d.length
+  pub an_edition : {r : Optional Fetched} {d : Fetched} → r ≡ chosen file p (newest file p) → r ≡ Some d → Chosen file p (newest file p) d.edition d.parts d.length
   an_edition q t = one-chosen (newest file p) (sym q ∙ t)
 
 module _ {file : List ℕ} {p : ℕ} {o : Option ℕ} {e m n : ℕ} (c : Chosen file p o e m n) where

@@ -24,7 +24,7 @@ const MAX_BLOCKS: usize = 64;
 // The longest table.
 const MAX_TABLE: usize = 2 * esterel::MAX_NODES;
 
-// Two bytes, lowest first.
+// Two bytes, lowest first. No plainer as one function with the programs' `input::word_at`: no crate lies below both.
 fn word(block: &[u8], at: usize) -> u16
     requires { at + 1 < length block.now }
     ensures { result ≡ word_of block.now at }
@@ -32,7 +32,7 @@ fn word(block: &[u8], at: usize) -> u16
     u16::from_le_bytes([block[at], block[at + 1]])
 }
 
-// The two check bytes of some bytes.
+// The two sums of some bytes, reduced to check bytes.
 #[derive(Drop)]
 struct Sums {
     first: u32,
@@ -63,8 +63,7 @@ fn all_zero(bytes: &[u8]) -> bool
 }
 
 // Whether a block is good: its check bytes, its used length and its filler.
-fn is_good(block: &[u8]) -> bool
-    requires { length block.now ≡ block_size }
+fn is_good(block: &[u8; BLOCK]) -> bool
     ensures { result ≡ good_of block.now }
 {
     let sums = sum_bytes(&block[0..CHECKS_AT]);
@@ -85,8 +84,7 @@ fn is_good(block: &[u8]) -> bool
 }
 
 // Whether a block is a good one of the program; one of another program is not summed.
-fn is_usable(block: &[u8], program: u16) -> bool
-    requires { length block.now ≡ block_size }
+fn is_usable(block: &[u8; BLOCK], program: u16) -> bool
     ensures { result ≡ usable program block.now }
 {
     if word(block, 0) != program {
@@ -96,16 +94,14 @@ fn is_usable(block: &[u8], program: u16) -> bool
 }
 
 // Whether a block is for an edition and a part.
-fn is_part(block: &[u8], edition: u16, number: u8) -> bool
-    requires { length block.now ≡ block_size }
+fn is_part(block: &[u8; BLOCK], edition: u16, number: u8) -> bool
     ensures { result ≡ is_part edition number block.now }
 {
-    (word(block, 2) == edition) & (block[4] == number)
+    word(block, 2) == edition && block[4] == number
 }
 
 // Whether a block is a good one for a program, an edition and a part; one for another is not summed.
-fn is_good_for(block: &[u8], program: u16, edition: u16, number: u8) -> bool
-    requires { length block.now ≡ block_size }
+fn is_good_for(block: &[u8; BLOCK], program: u16, edition: u16, number: u8) -> bool
     ensures { result ≡ is_good_for program edition number block.now }
 {
     if !is_part(block, edition, number) {
@@ -118,22 +114,27 @@ fn is_good_for(block: &[u8], program: u16, edition: u16, number: u8) -> bool
 fn fits(file: &[u8]) -> bool
     ensures { result ≡ file_fits file.now }
 {
-    (file.len() % BLOCK == 0) & (file.len() <= MAX_BLOCKS * BLOCK)
+    file.len() % BLOCK == 0 && file.len() <= MAX_BLOCKS * BLOCK
 }
 
-fn block_at(file: &[u8], i: usize) -> &[u8]
+fn block_at(file: &[u8], i: usize) -> &[u8; BLOCK]
     requires { block_size * i + block_size ≤ length file.now }
-    ensures { (result.now ≡ block_at file.now i) × (length result.now ≡ block_size) }
+    ensures { result.now ≡ block_at file.now i }
 {
-    let at = BLOCK * i;
-    &file[at..at + BLOCK]
+    file[BLOCK * i..].first_chunk().unwrap()
+}
+
+// A part of the file.
+#[derive(Clone, Copy)]
+pub struct Span {
+    pub from: usize,
+    pub length: usize,
 }
 
 // The used content of a block in the file, and the number of parts that it names.
 #[derive(Drop)]
 struct Place {
-    from: usize,
-    length: usize,
+    span: Span,
     parts: u8,
 }
 
@@ -143,23 +144,26 @@ fn place_at(file: &[u8], i: usize) -> Place
     ensures { Placed file.now (some i) result }
 {
     let block = block_at(file, i);
-    Place {
+    let span = Span {
         from: BLOCK * i + CONTENT_AT,
         length: usize::from(word(block, 6)),
+    };
+    Place {
+        span,
         parts: block[5],
     }
 }
 
-// A whole edition, with its number of parts and the length of its table.
+// The table of a whole edition: its length, its edition and the number of its parts.
 #[derive(Clone, Copy)]
-struct Edition {
-    edition: u16,
-    parts: u8,
-    length: usize,
+pub struct Fetched {
+    pub length: usize,
+    pub edition: u16,
+    pub parts: u8,
 }
 
 // Whether an edition is higher than the best so far.
-fn is_higher(edition: u16, best: Option<Edition>) -> bool
+fn is_higher(edition: u16, best: Option<Fetched>) -> bool
     ensures { result ≡ higher_than edition best }
 {
     match best {
@@ -168,8 +172,8 @@ fn is_higher(edition: u16, best: Option<Edition>) -> bool
     }
 }
 
-// Copies some bytes to the front of others that have room for them; how many they are. No plainer in `join` itself: the library's copy speaks of
-// two parts of one length, and this contract of what stays behind the bytes.
+// Copies some bytes to the front of others that have room for them; how many they are. No plainer in `join` itself: the library's
+// copy speaks of two parts of one length, and this contract of what stays behind the bytes.
 fn copy(from: &[u8], to: &mut [u8]) -> usize
     requires { length from.now ≤ length to.old }
     ensures { (result ≡ length from.now) × (to.new ≡ from.now ++ drop (length from.now) to.old) }
@@ -220,7 +224,7 @@ impl<'a> Partition<'a> {
     }
 
     // Whether an edition is whole whose part 0 names so many parts.
-    fn check_edition(&self, edition: u16, parts: u8) -> Option<Edition>
+    fn check_edition(&self, edition: u16, parts: u8) -> Option<Fetched>
         requires { parts ≡ parts_of self.now.file.now self.now.program edition }
         ensures { result ≡ edition_of self.now.file.now self.now.program edition }
     {
@@ -233,21 +237,21 @@ impl<'a> Partition<'a> {
             if place.parts != parts {
                 return None;
             }
-            if k + 1 < parts && place.length != CONTENT {
+            if k + 1 < parts && place.span.length != CONTENT {
                 return None;
             }
-            length += place.length;
+            length += place.span.length;
         }
-        Some(Edition {
+        Some(Fetched {
+            length,
             edition,
             parts,
-            length,
         })
     }
 
     // The best edition so far, or that of block i if it is higher and whole. It is looked at only where block i counts for its part 0,
     // so that no edition is looked at twice.
-    fn consider(&self, i: usize, best: Option<Edition>) -> Option<Edition>
+    fn consider(&self, i: usize, best: Option<Fetched>) -> Option<Fetched>
         requires { (i < blocks_in self.now.file.now) × Best self.now.file.now self.now.program i best }
         ensures { Best self.now.file.now self.now.program (i + 1) result }
     {
@@ -261,14 +265,14 @@ impl<'a> Partition<'a> {
         let Some(first) = self.find(edition, 0) else {
             return best;
         };
-        if first.from != BLOCK * i + CONTENT_AT {
+        if first.span.from != BLOCK * i + CONTENT_AT {
             return best;
         }
         self.check_edition(edition, first.parts).or(best)
     }
 
     // The highest whole edition.
-    fn newest(&self) -> Option<Edition>
+    fn newest(&self) -> Option<Fetched>
         ensures { result ≡ chosen self.now.file.now self.now.program (newest_of self.now.file.now self.now.program) }
     {
         let mut best = None;
@@ -290,18 +294,11 @@ impl<'a> Partition<'a> {
             let Some(place) = self.find(edition, k) else {
                 continue;
             };
-            let from = place.from;
-            let end = from + place.length;
+            let from = place.span.from;
+            let end = from + place.span.length;
             at += copy(&file[from..end], &mut table[at..]);
         }
     }
-}
-
-// A part of the file.
-#[derive(Clone, Copy)]
-pub struct Span {
-    pub from: usize,
-    pub length: usize,
 }
 
 // Where the used content of a part is; empty if no block counts for it, or the file is refused 17. From the last block down: the
@@ -315,11 +312,7 @@ pub fn locate(file: &[u8], program: u16, edition: u16, number: u8) -> Span
     let n = file.len() / BLOCK;
     for last in (0..n).rev() {
         if is_good_for(block_at(file, last), program, edition, number) {
-            let place = place_at(file, last);
-            return Span {
-                from: place.from,
-                length: place.length,
-            };
+            return place_at(file, last).span;
         }
     }
     Span { from: 0, length: 0 }
@@ -333,14 +326,6 @@ pub fn part(file: &[u8], program: u16, edition: u16, number: u8) -> &[u8]
     let from = span.from;
     let end = from + span.length;
     &file[from..end]
-}
-
-// The table that was fetched: its length, its edition and the number of its parts.
-#[derive(Clone, Copy)]
-pub struct Fetched {
-    pub length: usize,
-    pub edition: u16,
-    pub parts: u8,
 }
 
 // The table of the highest whole edition of a program, to the lent table.
@@ -361,11 +346,7 @@ pub fn fetch(file: &[u8], program: u16, table: &mut [u8]) -> Result<Fetched, Ref
         return refuse(Check::TooManyNodes);
     }
     partition.join(best.edition, best.parts, table);
-    Ok(Fetched {
-        length: best.length,
-        edition: best.edition,
-        parts: best.parts,
-    })
+    Ok(best)
 }
 
 // No check of a fetch names a node.

@@ -1,10 +1,9 @@
 -- Levels and signals on a sheet.
-use Rattle.std.proofs.Common.{◌≡◌, ℕ, ◌<◌, ◌≤◌, Bool, true, false, not, List, [], ◌∷◌, length, ltb, refl, arith}
+use Rattle.std.proofs.Common.{◌≡◌, ℕ, ◌<◌, ◌≤◌, Bool, true, false, List, [], ◌∷◌, length, ltb, refl}
 use borrow.Author.Tests.{le-ltb, ltb-true, ltb-false}
 use Rattle.esterel.specs.Limits.{signals as max_signals}
 use Rattle.grammar.specs.Limits.{max_levels}
 use Rattle.grammar.specs.Kernel.{added}
-use Rattle.grammar.specs.Names.{has}
 use Rattle.grammar.specs.Progress as P
 use Rattle.grammar.specs.Tree.{Name as Word}
 use Rattle.grammar.specs.Search.{Closable, closed}
@@ -26,14 +25,6 @@ end-closes {x} {w} {w'} m e f ls h l = rw e (go ls (rw e at h) l)
     go : (ls : List Word) → Closable G.end ls → Levels x w ls → Levels x w' (closed G.end ls)
     go [] h l = absurd h
     go (n ∷ ls) h l = f n ls (met []) l
-
--- an exit's name among the levels
-pub lost-told : {x : List ℕ} {w : Sheet} (ls : List Word) (n : Word) → Filled x w ls (P.leave ls n (met [])) → (w.is_untrapped ≡ not (has ls n)) × (w.is_untrapped ≡ false → Levels x w ls)
-lost-told {x} {w} ls n l = go (has ls n) refl
-  where
-    go : (b : Bool) → has ls n ≡ b → (w.is_untrapped ≡ not (has ls n)) × (w.is_untrapped ≡ false → Levels x w ls)
-    go true i = let m = rw i at l in (rw i m.lost, λ h. m)
-    go false i = let m = rw i at l in (rw i m.lost, λ h. let e = m.lost in let q : ◌≡◌ {A = ℕ} 0 1 = cc in absurd (omega arith))
 
 -- the count of signals tells whether there are too many
 pub crowd-told : {x : List ℕ} {w : Sheet} (ns : List Word) → Filled x w [] (met ns) → ltb 256 w.signal_count ≡ ltb max_signals (length ns)

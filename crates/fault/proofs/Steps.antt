@@ -8,7 +8,6 @@ use Rattle.grammar.specs.Tree.{Tree, two, parallel}
 use Rattle.fault.specs.declared.stack.Frame.{Frame as Kind}
 use Rattle.fault.specs.declared.stack.Frame.TheVariants as F
 use Rattle.fault.specs.declared.Mode.{Mode}
-use Rattle.fault.specs.declared.Mode.TheVariants.{Statement}
 use Rattle.fault.specs.declared.stack.Stack.{Stack}
 use Rattle.fault.specs.Walking.{frame_of, top_of, Framed, Stacked, StackedBelow, Kept, Stepped}
 
@@ -24,13 +23,10 @@ long w (within f b k) s = long w k s.1
 opened : (w : List Kind) (v : Kind) (f : Frame) (b : Before) (k : Open) → opens k < max_source → v ≡ frame_of f → Framed w k → Framed (set w (opens k) v) (within f b k)
 opened w v f b k h e s = (get_or-set_same w (opens k) v F.First (omega (arith, long w k s)) ∙ e, above w k (opens k) v (omega arith) s)
 
-pub pushed : (w w' : Stack) (v : Kind) (f : Frame) (b : Before) (k : Open) → w.height < max_source → w'.frames ≡ set w.frames w.height v → w'.height ≡ w.height + 1 → v ≡ frame_of f → Stacked w k → Kept w' Statement (expect alone (within f b k))
+pub pushed : (w w' : Stack) (v : Kind) (f : Frame) (b : Before) (k : Open) → w.height < max_source → w'.frames ≡ set w.frames w.height v → w'.height ≡ w.height + 1 → v ≡ frame_of f → Stacked w k → Stacked w' (within f b k)
 pushed w w' v f b k i p q e s = record {
-  mode = refl;
-  stack = record {
-    frames = subst (λ l. Framed l (within f b k)) (sym (p ∙ ap (λ n. set w.frames n v) s.height)) (opened w.frames v f b k (omega (arith, s.height)) e s.frames);
-    height = q ∙ omega (arith, s.height);
-  };
+  frames = subst (λ l. Framed l (within f b k)) (sym (p ∙ ap (λ n. set w.frames n v) s.height)) (opened w.frames v f b k (omega (arith, s.height)) e s.frames);
+  height = q ∙ omega (arith, s.height);
 }
 
 -- a branch comes after a branch, and an else branch after a then branch

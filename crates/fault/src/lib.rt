@@ -18,7 +18,7 @@ ghost use Rattle.grammar.specs.Faults.{number_of_fault, opens_signal, crowded_fr
 ghost use Rattle.grammar.specs.Search.{wants, opened, closed, Closable, Room as Fits};
 ghost use Rattle.esterel.specs.Limits.{signals as max_signals};
 ghost use Rattle.sheet.specs.Sheet.{name_at, InText, Filled};
-ghost use Rattle.fault.specs.Walking.{Stacked, Stepped, Steps, StepsOn, FaultTold, ExitTold, met, Levels, want_is, PassedAs, before_signal, CrowdedAs};
+ghost use Rattle.fault.specs.Walking.{Stacked, Kept, frame_of, Stepped, Steps, StepsOn, FaultTold, ExitTold, met, Levels, want_is, PassedAs, before_signal, CrowdedAs};
 ghost use Rattle.fault.specs.declared.stack.Stack as D;
 
 mod stack;
@@ -58,7 +58,7 @@ pub enum Wanted {
     ExitName,
 }
 
-// An exit's name is without its trap.
+// Why the search for an exit without its trap ends: its name is passed.
 #[derive(Clone, Copy)]
 struct Lost;
 
@@ -67,6 +67,15 @@ struct Lost;
 pub struct Fault {
     pub check: Check,
     pub place: usize,
+}
+
+// A statement is opened, and one is expected in it.
+fn enter(stack: &mut Stack, frame: Frame) -> Mode
+    requires { stack.old.height < max_source }
+    ensures { (f : M.Frame) (b : M.Before) (k : M.Open) → frame ≡ frame_of f → Stacked stack.old k → Kept stack.new result (M.expect M.alone (M.within f b k)) }
+{
+    stack.push(frame);
+    Mode::Statement
 }
 
 // At a word or sign that opens a statement, where one is expected.
@@ -81,14 +90,14 @@ fn begin(stack: &mut Stack, opening: Opening) -> Mode
         Opening::Exit => Mode::Name(Named::Leaf),
         Opening::Signal => Mode::Name(Named::Body),
         Opening::Trap => Mode::Name(Named::Body),
-        Opening::Loop => stack.push(Frame::Body),
+        Opening::Loop => enter(stack, Frame::Body),
         Opening::Present => Mode::Name(Named::Present),
-        Opening::Suspend => stack.push(Frame::Suspended),
-        Opening::Bracket => stack.push(Frame::First),
+        Opening::Suspend => enter(stack, Frame::Suspended),
+        Opening::Bracket => enter(stack, Frame::First),
         Opening::Halt => Mode::More,
         Opening::Sustain => Mode::Name(Named::Leaf),
         Opening::Await => Mode::Name(Named::Leaf),
-        Opening::Abort => stack.push(Frame::Aborted),
+        Opening::Abort => enter(stack, Frame::Aborted),
         Opening::Weak => Mode::Abort,
     }
 }
@@ -99,7 +108,7 @@ fn begin_weak(stack: &mut Stack, opening: Opening) -> Option<Mode>
     ensures { (b : M.Before) (k : M.Open) → Stacked stack.old k → Stepped (M.at_abort (opening_is opening) b k) stack.new result }
 {
     match opening {
-        Opening::Abort => Some(stack.push(Frame::Aborted)),
+        Opening::Abort => Some(enter(stack, Frame::Aborted)),
         _ => None,
     }
 }
@@ -121,7 +130,7 @@ fn at_bars(stack: &mut Stack) -> Option<Mode>
     ensures { (p : Tree) (k : M.Open) → Stacked stack.old k → Stepped (M.at_bars p k) stack.new result }
 {
     match stack.pop()? {
-        Frame::First | Frame::Branch => Some(stack.push(Frame::Branch)),
+        Frame::First | Frame::Branch => Some(enter(stack, Frame::Branch)),
         _ => None,
     }
 }
@@ -141,7 +150,7 @@ fn at_else(stack: &mut Stack) -> Option<Mode>
     ensures { (p : Tree) (k : M.Open) → Stacked stack.old k → Stepped (M.at_else p k) stack.new result }
 {
     match stack.pop()? {
-        Frame::Then => Some(stack.push(Frame::Else)),
+        Frame::Then => Some(enter(stack, Frame::Else)),
         _ => None,
     }
 }
@@ -188,7 +197,7 @@ fn enter_body(stack: &mut Stack, mark: Mark) -> Option<Mode>
     ensures { (u : Unary) (b : M.Before) (k : M.Open) → Stacked stack.old k → Stepped (M.at_in (mark_is mark) u b k) stack.new result }
 {
     match mark {
-        Mark::In => Some(stack.push(Frame::Body)),
+        Mark::In => Some(enter(stack, Frame::Body)),
         _ => None,
     }
 }
@@ -199,8 +208,8 @@ fn enter_branch(stack: &mut Stack, mark: Mark) -> Option<Mode>
     ensures { (n : Name) (b : M.Before) (k : M.Open) → Stacked stack.old k → Stepped (M.at_branch (mark_is mark) n b k) stack.new result }
 {
     match mark {
-        Mark::Then => Some(stack.push(Frame::Then)),
-        Mark::Else => Some(stack.push(Frame::Else)),
+        Mark::Then => Some(enter(stack, Frame::Then)),
+        Mark::Else => Some(enter(stack, Frame::Else)),
         _ => None,
     }
 }
@@ -265,7 +274,8 @@ fn check_at(token: Token) -> Check
     }
 }
 
-// The first token with which the text can't go on to a text of the grammar, or where it merely stops.
+// The first token with which the text can't go on to a text of the grammar, or where it merely stops. What may not change has the
+// text's length in a clause, here and in the two searches below: they take any slice, not a type of texts that are short enough.
 pub fn find_fault(text: &[u8]) -> Fault
     requires { length text.now ≤ max_source }
     ensures { FaultTold text.now (number_of result.check) result.place }
@@ -338,11 +348,10 @@ fn close_level(levels: &mut Sheet, mark: Mark)
 }
 
 // Whether no level has an exit's name.
-fn is_lost(text: &[u8], levels: &mut Sheet, name: Part) -> bool
-    ensures { (ls : List Name) → InText text.now name → Levels text.now levels.old ls → (result ≡ not (has ls (name_at text.now name))) × (result ≡ false → Levels text.now levels.new ls) }
+fn is_lost(text: &[u8], levels: &Sheet, name: Part) -> bool
+    ensures { (ls : List Name) → InText text.now name → Levels text.now levels.now ls → result ≡ not (has ls (name_at text.now name)) }
 {
-    levels.level_of(text, name);
-    levels.is_untrapped
+    levels.level_of(text, name).is_none()
 }
 
 // At a name.
@@ -386,7 +395,8 @@ fn pass(
     }
 }
 
-// Where the name of the first exit without its trap stands, in a text of the grammar: at its end if there is none.
+// Where the name of the first exit without its trap stands, in a text of the grammar: at its end if there is none. What may not
+// change (`ExitTold`) has the end there, so the answer is a place and no option.
 pub fn find_exit(text: &[u8]) -> usize
     requires { length text.now ≤ max_source }
     ensures { ExitTold text.now result }
@@ -438,7 +448,8 @@ fn is_crowded(text: &[u8], names: &mut Sheet, is_signal: bool, scanned: Scanned)
     is_signal && scanned.token == Token::Names && is_crowding(text, names, scanned.part)
 }
 
-// Where the name stands with which there are too many signals: at the end of the text if there is none.
+// Where the name stands with which there are too many signals: at the end of the text if there is none, as the clause has
+// it, which may not change: so the answer is a place and no option.
 pub fn find_signal(text: &[u8]) -> usize
     requires { length text.now ≤ max_source }
     ensures { result ≡ byte_of text.now (crowded_from [] false (tokens text.now)) }

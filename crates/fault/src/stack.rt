@@ -2,8 +2,6 @@
 ghost use Rattle.std.specs.Prelude.{◌≤◌};
 ghost use Rattle.grammar.specs.Limits.{max_source};
 
-use crate::Mode;
-
 // What is open: a bracket in its first branch or in a later one, a body, a then branch, an else branch, a suspend, an abort.
 #[derive(Clone, Copy)]
 pub(crate) enum Frame {
@@ -19,7 +17,8 @@ pub(crate) enum Frame {
 // The open statements, from the outermost on.
 #[derive(Drop)]
 pub(crate) struct Stack {
-    // Fixed memory: an array with room for as many as a text may have bytes, and how many of them are in use.
+    // Fixed memory: an array with room for as many as a text may have bytes, and how many of them are in use. It is not the kit's
+    // `ArrayVec`, since the archive for C stands on no crate of the kit (crates.txt).
     frames: [Frame; grammar::MAX_SOURCE],
     height: usize,
     ghost in_room: { height ≤ max_source },
@@ -28,7 +27,7 @@ pub(crate) struct Stack {
 impl Stack {
     ghost use Rattle.std.specs.Prelude.{◌≡◌, ◌<◌, IfSome};
     ghost use Rattle.grammar.specs.Machine as M;
-    ghost use Rattle.fault.specs.Walking.{Stacked, StackedBelow, frame_of, top_of, Kept};
+    ghost use Rattle.fault.specs.Walking.{Stacked, StackedBelow, frame_of, top_of};
 
     // Nothing is open.
     pub(crate) fn new() -> Stack
@@ -40,14 +39,14 @@ impl Stack {
         }
     }
 
-    // A statement is opened, and one is expected in it.
-    pub(crate) fn push(&mut self, frame: Frame) -> Mode
+    // A statement is opened. That there is room for one more is no invariant: it holds at a token that is still to be read, so each
+    // step from there to here asks it.
+    pub(crate) fn push(&mut self, frame: Frame)
         requires { self.old.height < max_source }
-        ensures { (f : M.Frame) (b : M.Before) (k : M.Open) → frame ≡ frame_of f → Stacked self.old k → Kept self.new result (M.expect M.alone (M.within f b k)) }
+        ensures { (f : M.Frame) (b : M.Before) (k : M.Open) → frame ≡ frame_of f → Stacked self.old k → Stacked self.new (M.within f b k) }
     {
         self.frames[self.height] = frame;
         self.height += 1;
-        Mode::Statement
     }
 
     // The innermost open statement is closed.

@@ -3,7 +3,7 @@
 // `read` does not. So the gate runs the programs on inputs of many lengths, whole and in pieces (tools/test_input.sh).
 #![tactic(auto)]
 
-ghost use Rattle.std.specs.Prelude.{◌≡◌, ◌+◌, ◌<◌, ◌≤◌, length};
+ghost use Rattle.std.specs.Prelude.{◌≡◌, ◌+◌, ◌*◌, ◌<◌, ◌≤◌, length, slice_index};
 ghost use Rattle.input.specs.Reads.{Within, Reads, Fills};
 ghost use Rattle.input.specs.Cases.{RunsCases};
 
@@ -40,12 +40,20 @@ pub fn read_full<R: Read>(reader: &mut R, buffer: &mut [u8]) -> io::Result<()>
     Ok(())
 }
 
+// A number in two bytes, lowest first.
+pub fn word_at(head: &[u8], at: usize) -> u16
+    requires { at + 1 < length head.now }
+    ensures { result ≡ slice_index head.now at + 256 * slice_index head.now (at + 1) }
+{
+    u16::from_le_bytes([head[at], head[at + 1]])
+}
+
 // A length in two bytes, lowest first.
 pub fn length_at(head: &[u8], at: usize) -> usize
     requires { at + 1 < length head.now }
     ensures { result ≤ 65535 }
 {
-    usize::from(u16::from_le_bytes([head[at], head[at + 1]]))
+    usize::from(word_at(head, at))
 }
 
 // A number in eight bytes, lowest first.

@@ -11,23 +11,34 @@ use std::io::{Read, Write};
 // The bytes of the head of a call: which one it is, the lengths of the buffers, and the first byte of the emissions before it.
 const HEAD: usize = 10;
 
+// Which call is made: 0 is a start.
+enum Call {
+    Start,
+    Resume,
+}
+
+impl From<u8> for Call {
+    fn from(byte: u8) -> Call {
+        if byte == 0 { Call::Start } else { Call::Resume }
+    }
+}
+
 fn react(
-    call: u8,
+    call: Call,
     table: &[u8],
     answers: &[u8],
     state: &mut [u8],
     emissions: &mut [u8],
 ) -> Result<Reaction, Refusal> {
-    if call == 0 {
-        instant::start(table, answers, state, emissions)
-    } else {
-        instant::resume(table, answers, state, emissions)
+    match call {
+        Call::Start => instant::start(table, answers, state, emissions),
+        Call::Resume => instant::resume(table, answers, state, emissions),
     }
 }
 
 // Writes the emission buffer: that it is as it was, or each byte that is not 0, behind its place.
 fn write_emissions<W: Write>(writer: &mut W, bytes: &[u8], first: u8) -> io::Result<()> {
-    if output::is_filled(bytes, first) {
+    if output::is_filled(bytes, 0, |at| output::byte_before(at, first)) {
         return write!(writer, " =");
     }
     for (at, byte) in bytes.iter().enumerate() {
@@ -64,8 +75,8 @@ fn run_call<R: Read, W: Write>(
     input::read_full(reader, table)?;
     input::read_full(reader, answers)?;
     input::read_full(reader, state)?;
-    output::fill(emissions, head[9]);
-    let answer = react(head[0], table, answers, state, emissions);
+    output::fill(emissions, |at| output::byte_before(at, head[9]));
+    let answer = react(head[0].into(), table, answers, state, emissions);
     write_answer(writer, answer)?;
     output::write_hex(writer, state)?;
     write_emissions(writer, emissions, head[9])?;

@@ -3,8 +3,8 @@ use mathlib.Core.Path.{◌≡◌, refl, sym, ap, ◌∙◌}
 use mathlib.Core.Logic.{◌⊎◌, inl, inr, ⊎_elim}
 use mathlib.Core.Bool.{Bool, true, false}
 use mathlib.Core.List.{[], ◌∷◌, ◌++◌}
-use Prim.Native.Nat.{ℕ, zero, suc, ◌*◌, ◌/◌, ◌%◌, ◌^◌, ◌≤◌, ◌<◌}
-use native.Mathlib.Nat.{div-lt_iff_lt-mul, pow-zero, pow-suc, mul-le-mul_left, one-mul}
+use Prim.Native.Nat.{ℕ, zero, suc, ◌+◌, ◌*◌, ◌/◌, ◌%◌, ◌^◌, ◌≤◌, ◌<◌}
+use native.Mathlib.Nat.{div-lt_iff_lt-mul, pow-zero, pow-suc, mul-le-mul_left, mul-le-mul_right, one-mul}
 use native.Mathlib.Omega.{arith}
 use borrow.Author.Tests.{lt-ltb, le-ltb, ltb-true, ltb-false}
 use lib.Dec.{ltb}
@@ -98,3 +98,32 @@ module _ (base : ℕ) where
     pub digits-few : (k n : ℕ) → n < base ^ suc k → length (digits base n) ≤ suc k
     unfolding digits
     digits-few k n h = below_power k 64 n h
+
+    -- and one that reaches a power has as many
+    power-some : (k : ℕ) → 1 ≤ base ^ k
+    power-some zero = omega (arith, pow-zero base)
+    power-some (suc k) =
+        let more : base ^ k * 1 ≤ base ^ k * base = mul-le-mul_left (base ^ k) (omega arith) in
+        omega (arith, pow-suc base k, power-some k)
+
+    above_power : (k f n : ℕ) → k < f → base ^ k ≤ n → suc k ≤ length (digits_up_to f base n)
+    above_power k zero n l h = absurd (omega arith)
+    above_power zero (suc f) n l h = some-digit f n
+    above_power (suc k) (suc f) n l h =
+        let full : base ^ suc k ≡ base ^ k * base = pow-suc base k in
+        let least : 1 * base ≤ base ^ k * base = mul-le-mul_right base (power-some k) in
+        ⊎_elim
+        (λ small. absurd (omega arith))
+        (λ g.
+        ⊎_elim
+        (λ low. let below : n < base ^ k * base = (div-lt_iff_lt-mul {k = base} {x = n} {y = base ^ k} (omega arith)).0 low in absurd (omega arith))
+        (λ (q : base ^ k ≤ n / base). rw (more-digits f n g, length-append) (omega (arith, above_power k f (n / base) (omega arith) q)))
+        (lt_or_le (n / base) (base ^ k)))
+        (lt_or_le n base)
+
+    pub digits-counted : (k n : ℕ) → k < 64 → base ^ k ≤ n → n < base * base ^ k → length (digits base n) ≡ k + 1
+    unfolding digits
+    digits-counted k n l low high =
+        let full : base ^ suc k ≡ base ^ k * base = pow-suc base k in
+        let turned : base * base ^ k ≡ base ^ k * base = grind arith in
+        omega (arith, above_power k 64 n l low, below_power k 64 n (omega arith))

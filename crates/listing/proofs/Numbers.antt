@@ -3,44 +3,15 @@ use mathlib.Core.Path.{◌≡◌, sym, ap, ◌∙◌}
 use mathlib.Core.Logic.{⊎_elim}
 use mathlib.Core.List.{List, [], ◌∷◌, ◌++◌}
 use Prim.Native.Nat.{ℕ, ◌+◌, ◌-◌, ◌/◌, ◌%◌, ◌^◌, ◌≤◌, ◌<◌}
-use native.Mathlib.Nat.{div-le_self, div-lt_self}
+use native.Mathlib.Nat.{div-le_self}
 use native.Mathlib.Omega.{arith}
 use lib.ListN.{length, set, length-set, length-append}
 use lib.Seq.{sets}
 use Rattle.listing.specs.Text.{digit, digits}
 use Rattle.listing.specs.Written.{Written}
-use Rattle.listing.proofs.Digits.{lt_or_le, few-digits, has-digits, digits-one, digits_more}
+use Rattle.listing.proofs.Digits.{lt_or_le, has-digits, digits-one, digits_more}
 use Rattle.table.proofs.Buffers.{sets-append}
 use Rattle.listing.proofs.Writing.{set-sets}
-
--- so many digits are counted, and those of `rest` but one are not
-pub record Counting (base n rest count : ℕ) : Type 0 where
-  pub fits : rest < 2 ^ 64
-  pub is : count + length (digits base rest) ≡ 1 + length (digits base n)
-
-module _ {base n rest count : ℕ} (two : 2 ≤ base) (o : Counting base n rest count) where
-  pub counting_few : count ≤ 64
-  counting_few = omega (arith, o.is, few-digits base n, has-digits base rest)
-
-  module _ (h : base ≤ rest) where
-    pub quotient_less : rest / base < rest
-    quotient_less = div-lt_self (omega arith) (omega arith)
-
-    before_last : length (digits base rest) ≡ length (digits base (rest / base)) + 1
-    before_last = rw (digits_more base two rest o.fits h) (length-append (digits base (rest / base)) (digit (rest % base) ∷ []))
-
-    pub counting_room : count < 64
-    counting_room = omega (arith, o.is, before_last, few-digits base n, has-digits base (rest / base))
-
-    pub counting_next : Counting base n (rest / base) (count + 1)
-    counting_next =
-        record {
-          fits = omega (arith, o.fits, quotient_less);
-          is = omega (arith, o.is, before_last);
-        }
-
-  pub counting_end : rest < base → count ≡ length (digits base n)
-  counting_end h = omega (arith, o.is, ap length (digits-one base rest h))
 
 -- the digits of `rest` are left to be written, up to the place i
 pub record Numbering (base n : ℕ) (old : List ℕ) (at : ℕ) (now : List ℕ) (i rest : ℕ) : Type 0 where

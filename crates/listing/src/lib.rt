@@ -47,7 +47,8 @@ fn render_listing(listing: &Listing<'_>, text: &mut [u8]) -> Option<usize>
     Some(length)
 }
 
-// The listing of a table, or the line of its refusal, and the length of it. A text that is too short stays as it was: the length is known first.
+// The listing of a table, or the line of its refusal, and the length of it. A text that is too short stays as it was: the length is
+// known first.
 pub fn render(table: &[u8], text: &mut [u8]) -> Option<usize>
     ensures { Rendering (text_of (verdict table.now)) text.old text.new result }
 {

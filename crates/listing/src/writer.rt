@@ -14,18 +14,15 @@ pub struct Writer<'a> {
     at: usize,
 }
 
-// How many digits a number has. The loop follows the quotient and counts no index, and the library has no logarithm to a base.
+// How many digits a number has.
 pub(crate) fn width(n: u64, base: u64) -> usize
     requires { 2 ≤ base }
     ensures { (result ≡ length (digits base n)) × (result ≤ 64) }
 {
-    let mut rest = n;
-    let mut count: usize = 1;
-    while base <= rest {
-        rest /= base;
-        count += 1;
+    match n.checked_ilog(base) {
+        Some(power) => power as usize + 1,
+        None => 1,
     }
-    count
 }
 
 // In lower case from 10 on.

@@ -12,14 +12,8 @@ const HEAD: usize = 6;
 const SETS: usize = 2048;
 
 // What an entry of the lent sets is before the call: no two are the same.
-fn before_call(at: usize) -> u64 {
-    18446744073709551615 - at as u64
-}
-
-fn fill(sets: &mut [u64]) {
-    for (at, set) in sets.iter_mut().enumerate() {
-        *set = before_call(at);
-    }
+fn set_before(at: usize) -> u64 {
+    u64::MAX - at as u64
 }
 
 // The number of nodes, and the sets of so many.
@@ -29,16 +23,6 @@ fn write_done<W: Write>(writer: &mut W, sets: &[u64], nodes: usize) -> io::Resul
         write!(writer, " {set}")?;
     }
     Ok(())
-}
-
-// The end of a line: whether the entries from a place on are as they were.
-fn end_line<W: Write>(writer: &mut W, sets: &[u64], from: usize) -> io::Result<()> {
-    let same = sets
-        .iter()
-        .enumerate()
-        .skip(from)
-        .all(|(at, set)| *set == before_call(at));
-    writeln!(writer, " {}", if same { "=" } else { "changed" })
 }
 
 // Reads the bytes that follow the head, makes the call and writes what it came to.
@@ -51,17 +35,21 @@ fn run_case<R: Read, W: Write>(
 ) -> io::Result<()> {
     input::read_full(reader, table)?;
     input::read_full(reader, ties)?;
-    fill(sets);
-    match tied::narrow(table, ties, sets) {
+    output::fill(sets, |at| set_before(at));
+    let written = match tied::narrow(table, ties, sets) {
         Ok(nodes) => {
             write_done(writer, sets, nodes)?;
-            end_line(writer, sets, nodes)
+            nodes
         }
         Err(refusal) => {
             output::write_refusal(writer, refusal)?;
-            end_line(writer, sets, 0)
+            0
         }
-    }
+    };
+    output::end_line(
+        writer,
+        output::is_filled(sets, written, |at| set_before(at)),
+    )
 }
 
 // Runs the next case.

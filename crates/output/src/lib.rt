@@ -1,8 +1,10 @@
-// What the test programs write besides plain text; and the bytes of a lent buffer before a call, by which they tell whether it changed.
-// And what a program says that could not read or write.
+// What programs share in their output: how a test program fills a buffer before it lends it, how it writes bytes, refusals and whether
+// the buffer changed, and what a program says on standard error where it could not read or write.
 #![tactic(auto)]
 
-ghost use Rattle.std.specs.Prelude.{◌<◌};
+ghost use Rattle.std.specs.Prelude.{◌≡◌, ◌+◌, ◌%◌, ◌<◌, OnOk};
+ghost use Rattle.std.specs.Io.KnownBytes.{Appends};
+ghost use Rattle.output.specs.Lines.{line_end};
 
 use esterel::Refusal;
 use std::io;
@@ -10,23 +12,45 @@ use std::io::Write;
 use std::process::ExitCode;
 
 // What the byte at a place of a buffer is before the call: each is the successor of the one before it.
-fn before_call(at: usize, first: u8) -> u8 {
+pub fn byte_before(at: usize, first: u8) -> u8
+    ensures { result ≡ (first + at) % 256 }
+{
     first.wrapping_add((at % 256) as u8)
 }
 
-// What a buffer holds before the call.
-pub fn fill(bytes: &mut [u8], first: u8) {
-    for (at, byte) in bytes.iter_mut().enumerate() {
-        *byte = before_call(at, first);
+// Gives each entry of a buffer the value that it has before the call.
+pub fn fill<T: Copy, F: Fn(usize) -> T>(buffer: &mut [T], before: F)
+    requires { F.IsAlwaysCallable before }
+{
+    for (at, entry) in buffer.iter_mut().enumerate() {
+        *entry = before(at);
     }
 }
 
-// Whether the buffer is as `fill` left it.
-pub fn is_filled(bytes: &[u8], first: u8) -> bool {
-    bytes
+// Whether the entries from a place on are as `fill` left them.
+pub fn is_filled<T: Copy + PartialEq, F: Fn(usize) -> T>(
+    buffer: &[T],
+    from: usize,
+    before: F,
+) -> bool
+    requires { (f : _) (x : _) → F.pre f x }
+{
+    buffer
         .iter()
         .enumerate()
-        .all(|(at, byte)| *byte == before_call(at, first))
+        .skip(from)
+        .all(|(at, entry)| *entry == before(at))
+}
+
+// The end of a line that tells whether what was lent is as it was.
+pub fn end_line<W: Write>(writer: &mut W, is_same: bool) -> io::Result<()>
+    ensures { OnOk result (Appends (W.contents writer.old) (W.contents writer.new) (line_end is_same)) }
+{
+    if is_same {
+        writer.write_all(b" =\n")
+    } else {
+        writer.write_all(b" changed\n")
+    }
 }
 
 fn digit(four: u8) -> u8

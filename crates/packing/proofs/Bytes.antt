@@ -2,14 +2,16 @@
 use mathlib.Core.Path.{◌≡◌, refl, sym, ap, ap₂, ◌∙◌}
 use mathlib.Core.Bool.{Bool, not}
 use mathlib.Core.Logic.{◌⊎◌, inl, inr}
-use mathlib.Core.List.{List, ◌++◌}
+use mathlib.Core.List.{List, [], ◌∷◌, ◌++◌}
 use Prim.Native.Nat.{ℕ, suc, ◌+◌, ◌-◌, ◌*◌, ◌/◌, ◌%◌, ◌^◌, ◌≤◌, ◌<◌}
 use native.Mathlib.Omega.{arith}
 use lib.Dec.{eqb}
-use lib.ListN.{length, get_or, set, take, drop, length-replicate, get_or-replicate, get_or-eq_default}
+use lib.ListN.{length, get_or, set, take, drop, length-append, length-replicate, get_or-replicate, get_or-eq_default}
 use lib.Pow.{pow_mono}
-use lib.Seq.{get_or-take, get_or-drop, length-take-le, take_all}
+use lib.Seq.{get_or-take, get_or-drop, length-take-le, take_all, take-take}
 use borrow.Rule.Slice.PartMut.{put_mid}
+use Rattle.std.specs.List.{push}
+use Rattle.std.proofs.Math.Seq.{take-append_seam, take-length, get_or-append_seam}
 use Rattle.std.proofs.lemmas.Slice.{between_is}
 use Rattle.codes.specs.Codes.{bit}
 use Rattle.codes.proofs.WordBits.{below_lt, below-same, below_none, below-first}
@@ -63,6 +65,44 @@ module _ (bytes : List ℕ) where
         ap (bits_from bytes (i - 1)) count ∙ bits-more bytes (i - 1) (8 - i) in
         let rest : byte ≡ bits_from bytes (suc (i - 1)) (8 - i) = o.is ∙ ap (λ y. bits_from bytes y (8 - i)) (sym up) in
         record { high = omega (arith, o.high); is = omega (arith, step, e, rest) }
+
+-- `rest` is left, the front of the bytes, and the bits of those behind it are gathered
+pub record Gathering (bytes rest : List ℕ) (byte : ℕ) : Type 0 where
+  pub front : rest ≡ take (length rest) bytes
+  pub gathered : Gathered bytes (length rest) byte
+
+pub gathering_begin : (bytes : List ℕ) → Gathering bytes bytes 0
+gathering_begin bytes = record { front = sym (take-length bytes); gathered = gather_begin bytes }
+
+module _ (bytes : List ℕ) (few : length bytes ≤ 8) {rest : List ℕ} {byte : ℕ} (o : Gathering bytes rest byte) where
+  -- the last of what is left comes next
+  module _ (left : List ℕ) (x : ℕ) (e : rest ≡ push left x) where
+    longer : length rest ≡ length left + 1
+    longer = ap length e ∙ length-append left (x ∷ [])
+
+    pub gathering_lt : byte < 128
+    gathering_lt = gather_lt bytes few o.gathered (omega (arith, longer))
+
+    last : x ≡ get_or bytes (length left) 0
+    last =
+        sym (get_or-append_seam left x [] 0)
+        ∙ ap (λ l. get_or l (length left) 0) (sym e ∙ o.front)
+        ∙ get_or-take (length rest) bytes (length left) 0 (omega (arith, longer))
+
+    before : left ≡ take (length left) bytes
+    before =
+        sym (take-append_seam left (x ∷ []))
+        ∙ ap (take (length left)) (sym e ∙ o.front)
+        ∙ take-take (length left) (length rest) bytes (omega (arith, longer))
+
+    pub gathering_next : {y : ℕ} → y ≡ bit (not (eqb x 0)) → Gathering bytes left (2 * byte + y)
+    gathering_next {y} ey =
+        let here : length rest - 1 ≡ length left = omega (arith, longer) in
+        let own : y ≡ bit (not (eqb (get_or bytes (length rest - 1) 0) 0)) = ey ∙ ap (λ v. bit (not (eqb v 0))) (last ∙ ap (λ i. get_or bytes i 0) (sym here)) in
+        record { front = before; gathered = rw here at (gather_next bytes few o.gathered (omega (arith, longer)) y own) }
+
+  pub gathering_end : length rest ≡ 0 → byte ≡ bits_from bytes 0 8
+  gathering_end e = o.gathered.is ∙ ap (λ i. bits_from bytes i (8 - i)) e
 
 -- ---- all bytes
 

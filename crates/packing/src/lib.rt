@@ -18,7 +18,7 @@ fn spread(byte: u8, bytes: &mut [u8])
     let mut rest = byte;
     for bit in bytes.iter_mut() {
         *bit = rest % 2;
-        rest = rest / 2;
+        rest /= 2;
     }
 }
 
@@ -31,7 +31,7 @@ pub fn unpack(state: &[u8], bytes: &mut [u8], n: usize)
     for j in 0..whole {
         spread(state[j], &mut bytes[8 * j..8 * j + 8]);
     }
-    if n % 8 != 0 {
+    if !n.is_multiple_of(8) {
         spread(state[whole], &mut bytes[8 * whole..n]);
     }
 }
@@ -41,7 +41,7 @@ fn tail_of(state: &[u8], n: usize) -> u8
     requires { (n ≤ max_nodes) × (state_bytes ≤ length state.now) }
     ensures { result ≡ tail_of n state.now }
 {
-    if n % 8 == 0 {
+    if n.is_multiple_of(8) {
         return 0;
     }
     state[n / 8] >> (n % 8) as u32
@@ -59,7 +59,7 @@ pub fn is_clear_from(state: &[u8], n: usize) -> bool
     requires { (n ≤ max_nodes) × (state_bytes ≤ length state.now) }
     ensures { result ≡ is_clear_from n state.now }
 {
-    let used = (n + 7) / 8;
+    let used = n.div_ceil(8);
     tail_of(state, n) == 0 && join(&state[used..STATE_BYTES]) == 0
 }
 
@@ -69,8 +69,8 @@ fn byte_of(bytes: &[u8]) -> u8
     ensures { result ≡ bits_from bytes.now 0 8 }
 {
     let mut byte = 0;
-    for i in (0..bytes.len()).rev() {
-        byte = 2 * byte + u8::from(bytes[i] != 0);
+    for bit in bytes.iter().rev() {
+        byte = 2 * byte + u8::from(*bit != 0);
     }
     byte
 }
@@ -84,9 +84,9 @@ pub fn pack(bytes: &[u8], n: usize, state: &mut [u8])
     for j in 0..whole {
         state[j] = byte_of(&bytes[8 * j..8 * j + 8]);
     }
-    if n % 8 != 0 {
+    if !n.is_multiple_of(8) {
         state[whole] = byte_of(&bytes[8 * whole..n]);
     }
-    let used = (n + 7) / 8;
+    let used = n.div_ceil(8);
     state[used..STATE_BYTES].fill(0);
 }

@@ -14,12 +14,16 @@ const CALL: usize = 8;
 
 const HEAD: usize = 4;
 
-// The end of a line: whether the lent bytes from a place on are as they were.
-fn end_line<W: Write>(writer: &mut W, table: &[u8], at: usize, first: u8) -> io::Result<()>
-    requires { at ≤ length table.now }
-{
-    let same = output::is_filled(&table[at..], first.wrapping_add((at % 256) as u8));
-    writeln!(writer, " {}", if same { "=" } else { "changed" })
+// Which call is made: 0 is a fetch.
+enum Call {
+    Fetch,
+    Part,
+}
+
+impl From<u8> for Call {
+    fn from(byte: u8) -> Call {
+        if byte == 0 { Call::Fetch } else { Call::Part }
+    }
 }
 
 // The lent table holds the successors of a byte before the call.
@@ -30,8 +34,8 @@ fn run_fetch<W: Write>(
     first: u8,
     table: &mut [u8],
 ) -> io::Result<()> {
-    output::fill(table, first);
-    match blocks::fetch(file, program, table) {
+    output::fill(table, |at| output::byte_before(at, first));
+    let written = match blocks::fetch(file, program, table) {
         Ok(
             Fetched {
                 length,
@@ -41,13 +45,15 @@ fn run_fetch<W: Write>(
         ) => {
             write!(writer, "done {length} {edition} {parts}")?;
             output::write_hex(writer, &table[..length])?;
-            end_line(writer, table, length, first)
+            length
         }
         Err(refusal) => {
             output::write_refusal(writer, refusal)?;
-            end_line(writer, table, 0, first)
+            0
         }
-    }
+    };
+    let is_same = output::is_filled(table, written, |at| output::byte_before(at, first));
+    output::end_line(writer, is_same)
 }
 
 fn run_part<W: Write>(
@@ -70,12 +76,11 @@ fn run_call<W: Write>(
     call: &[u8; CALL],
     table: &mut [u8],
 ) -> io::Result<()> {
-    let program = input::length_at(call, 1) as u16;
-    if call[0] == 0 {
-        return run_fetch(writer, file, program, call[1], table);
+    let program = input::word_at(call, 1);
+    match Call::from(call[0]) {
+        Call::Fetch => run_fetch(writer, file, program, call[1], table),
+        Call::Part => run_part(writer, file, program, input::word_at(call, 3), call[5]),
     }
-    let edition = input::length_at(call, 3) as u16;
-    run_part(writer, file, program, edition, call[5])
 }
 
 // Reads the next call on a file and runs it.

@@ -9,7 +9,7 @@ ghost use Rattle.analysis.specs.Passes.{Placed};
 ghost use Rattle.starts.specs.Summary.{most_entries};
 ghost use Rattle.rows.specs.Rows.{Holds};
 ghost use Rattle.planning.specs.Planning.{Plans, Hands};
-ghost use Rattle.planning.specs.Rows.{Lies, NextRow, top_of, Tops, AnyCode};
+ghost use Rattle.planning.specs.Rows.{Lies, NextRow, top_of, Tops};
 
 use esterel::Refusal;
 use rows::Row;
@@ -77,11 +77,7 @@ pub fn most_entries(table: &[u8]) -> Result<usize, Refusal>
 }
 
 // Each code will do, and nothing is needed after it.
-fn any_code() -> Row
-    ensures { AnyCode result.of }
-{
-    Row { of: [1; 64] }
-}
+const ANY_CODE: Row = Row { of: [1; 64] };
 
 // Checks 1, 2, 3 and 4 to 11, then the greatest number and the answers that reach it, from the front on.
 pub fn find_longest(table: &[u8], answers: &mut [u8]) -> Result<Longest, Refusal>
@@ -101,6 +97,6 @@ pub fn find_longest(table: &[u8], answers: &mut [u8]) -> Result<Longest, Refusal
         tree,
         rows: &rows,
     };
-    let length = ground.walk_at(last, &any_code(), answers, 0).at;
+    let length = ground.walk_at(last, &ANY_CODE, answers, 0).at;
     Ok(Longest { entries, length })
 }

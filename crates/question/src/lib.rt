@@ -77,7 +77,8 @@ fn passed_code(kind: Kind, code: usize) -> usize
     code
 }
 
-// The start set of the statement at a node, from those of the statements beneath it: every node of the subtree is looked at, and no other.
+// The start set of the statement at a node, from those of the statements beneath it: every node of the subtree is looked at, and no
+// other.
 // The new form is no plainer: one function for this and `set_at` of the crate tied would be handed the way to a child's set, which is a read
 // of a list there and a call of the function itself here.
 fn set_at(tree: &Tree, node: usize) -> u64
@@ -136,8 +137,7 @@ fn look_at(tree: &Tree, node: usize, code: usize) -> Asked
         return own.joined(look_at(tree, last, code));
     }
     let then = look_at(tree, first, code);
-    let has = then.answer;
-    if has {
+    if then.answer {
         return then.passed_up();
     }
     then.joined(look_at(tree, last, code))

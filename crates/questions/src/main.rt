@@ -19,7 +19,7 @@ fn run_case<R: Read, W: Write>(
 ) -> io::Result<()> {
     input::read_full(reader, table)?;
     match question::ask(table, node, code) {
-        Ok(asked) => writeln!(writer, "known {} {}", asked.answer as u8, asked.count),
+        Ok(asked) => writeln!(writer, "known {} {}", u8::from(asked.answer), asked.count),
         Err(refusal) => {
             output::write_refusal(writer, refusal)?;
             writeln!(writer)

@@ -91,7 +91,8 @@ fn sign_of(byte: u8) -> Token
     }
 }
 
-// The first place from `at` on with a byte that is no blank.
+// The first place from `at` on with a byte that is no blank. No twin of `word_end`: over one function with the test as a closure
+// each promise (`Skipped`, `Worded`) would need an induction of its own over what the closure said.
 fn skip(text: &[u8], at: usize) -> usize
     requires { at ≤ length text.now }
     ensures { Skipped text.now at result }
@@ -222,7 +223,8 @@ fn bars_at(text: &[u8], start: usize) -> Scanned
     }
 }
 
-// The next token from `at` on.
+// The next token from `at` on. That `at` lies in the text is asked here and below, and is no type's invariant: readers hand places
+// on and come back to them, so a cursor would be built anew at each call and be no plainer. `Tokens` is the cursor of a search.
 pub fn next_token(text: &[u8], at: usize) -> Scanned
     requires { at ≤ length text.now }
     ensures { ScannedAs text.now at result.part.start result.part.stop result.token × BeginsAs text.now at result.part.start result.part.stop result.token }
@@ -283,7 +285,7 @@ pub fn is_finished(text: &[u8], at: usize) -> bool
     requires { at ≤ length text.now }
     ensures { result ≡ none (rest text.now at) }
 {
-    matches!(next_token(text, at).token, Token::Finished)
+    next_token(text, at).token == Token::Finished
 }
 
 // The tokens of a text from a place on, one after the other.

@@ -1,12 +1,13 @@
 -- What each store does to the sheet.
-use mathlib.Core.Path.{◌≡◌, refl, sym, ◌∙◌}
-use mathlib.Core.Bool.{Bool, true, false, cond}
+use mathlib.Core.Path.{◌≡◌, refl, sym, ap, ◌∙◌}
+use mathlib.Core.Bool.{Bool, true, false, cond, not, ◌||◌}
 use mathlib.Core.List.{List, [], ◌∷◌, ◌++◌}
 use Prim.Native.Nat.{ℕ, zero, suc, ◌+◌, ◌%◌, ◌≤◌, ◌<◌, ◌-◌}
 use native.Mathlib.Omega.{arith}
 use lib.Dec.{ltb}
-use lib.ListN.{length, get_or, set, take, drop, length-set, length-append, get_or-append}
-use Rattle.std.specs.Prelude.{Some, None}
+use lib.ListN.{length, get_or, set, take, drop, length-set, length-append, length-drop, get_or-append}
+use Rattle.std.specs.Prelude.{Option, Some, None}
+use Rattle.std.specs.Option.{is_some, unwrap_or}
 use Rattle.std.proofs.lemmas.List.{get_or-take, get_or-drop}
 use lib.Seq.{length-take-le, get_or-set_same, get_or-set_other, get_or_at}
 use borrow.Author.Tests.{ltb-true, ltb-false, lt-ltb, le-ltb}
@@ -20,7 +21,7 @@ use Rattle.grammar.proofs.Writing.{place_end}
 use Rattle.scan.specs.declared.Part as S
 use Rattle.sheet.specs.declared.Kept.{Kept}
 use Rattle.sheet.specs.declared.Sheet.{Sheet}
-use Rattle.sheet.specs.Sheet.{part, Part, name_at, InText, Entry, nowhere, Listed, FoundAs, Filled, Notes, Fresh}
+use Rattle.sheet.specs.Sheet.{part, Part, name_at, InText, Entry, nowhere, Listed, FoundAs, Filled, Notes, Fresh, level_in}
 
 pub place-most : (ns : List Name) (s : Name) → place ns s ≤ length ns
 place-most [] s = omega arith
@@ -231,6 +232,40 @@ module _ (x : List ℕ) (w : Sheet) (n : ℕ) (is : n ≡ w.trap_count - 1) (t :
     few = omega (arith, c.few);
     around = record { at = left-entry };
   }
+
+-- an exit has no level exactly if it has no trap
+pub unlevelled : (h b : Bool) (k : ℕ) {r : Option ℕ} → r ≡ cond h (Some k) None → is_some r ≡ not b → b ≡ not h
+unlevelled true true k e i = let z : ◌≡◌ {A = Bool} true false = rw e at i in grind arith
+unlevelled true false k e i = refl
+unlevelled false true k e i = refl
+unlevelled false false k e i = let z : ◌≡◌ {A = Bool} false true = rw e at i in grind arith
+
+module _ (x : List ℕ) (w : Sheet) (ts : List Name) (n : Name) (g : Progress) (c : Filled x w ts g) {r : Option ℕ} (e : r ≡ level_in ts n) where
+  pub exit-marked : (b : Bool) → is_some r ≡ not b → Filled x (record w { is_untrapped = w.is_untrapped || b }) ts (leave ts n g)
+  exit-marked b i = record {
+    rooms = record { table = c.rooms.table; signals = c.rooms.signals; traps = c.rooms.traps };
+    short = c.short;
+    long = c.long;
+    holds = c.holds;
+    counted = c.counted;
+    many = c.many;
+    names = c.names;
+    lost = rw (c.lost, unlevelled (has ts n) b (place ts n) e i);
+    traps = c.traps;
+    few = c.few;
+    around = c.around;
+  }
+
+  -- its level is the number of the traps around
+  pub exit-level : (ks : List Kept) → ks ≡ drop (max_levels - w.trap_count) w.traps → unwrap_or r (length ks) ≡ place ts n
+  exit-level ks k = go (has ts n) refl
+    where
+      all : length ks ≡ length ts
+      all = ap length k ∙ omega (arith, length-drop (max_levels - w.trap_count) w.traps, c.rooms.traps, c.traps, c.few)
+
+      go : (h : Bool) → has ts n ≡ h → unwrap_or r (length ks) ≡ place ts n
+      go true h = rw (e, h)
+      go false h = rw (e, h) (omega (arith, all, place-most ts n, ltb-false (place ts n) (length ts) h))
 
 -- a sheet of nothing
 pub fresh : (x : List ℕ) → length x ≤ max_source → (w : Sheet) → Fresh w → Filled x w [] blank

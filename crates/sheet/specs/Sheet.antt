@@ -1,10 +1,10 @@
 -- What a sheet holds: the table, the number of signals and their names in order of first appearance, whether an exit had no trap, the number of
 -- traps around and their names, which stand at the end of their array, the nearest first.
-use Rattle.std.specs.Prelude.{ℕ, suc, ◌+◌, ◌*◌, ◌<◌, ◌≤◌, ◌-◌, ◌≡◌, false, Option, Some, None, List, [], ◌∷◌, length, get_or, take, drop}
+use Rattle.std.specs.Prelude.{ℕ, suc, ◌+◌, ◌*◌, ◌<◌, ◌≤◌, ◌-◌, ◌≡◌, false, cond, Option, Some, None, List, [], ◌∷◌, length, get_or, take, drop}
 use Rattle.esterel.specs.Limits.{max_nodes, signals as max_signals}
 use Rattle.grammar.specs.Limits.{max_source, max_levels}
 use Rattle.grammar.specs.Tree.{Name}
-use Rattle.grammar.specs.Names.{place, see}
+use Rattle.grammar.specs.Names.{place, has, see}
 use Rattle.grammar.specs.Progress.{Progress, note}
 use Rattle.scan.specs.declared.Part as S
 use Rattle.sheet.specs.declared.Kept.{Kept}
@@ -71,6 +71,10 @@ nowhere = record { start = 0; stop = 0 }
 -- names are kept one after another
 pub record Listed (x : List ℕ) (ks : List Kept) (ns : List Name) : Type 0 where
   pub at : (i : ℕ) → i < length ns → Entry x (get_or ks i nowhere) (get_or ns i [])
+
+-- an exit's level, if its trap is one of those around
+abbrev pub level_in : List Name → Name → Option ℕ
+level_in ts n = cond (has ts n) (Some (place ts n)) None
 
 -- what a search finds
 abbrev pub FoundAs : List ℕ → List Kept → S.Part → Option ℕ → Type 0

@@ -6,18 +6,19 @@
 // the sheet. What it does is promised for sheets that hold what they should (`Filled`).
 #![tactic(auto)]
 
-ghost use Rattle.std.specs.Prelude.{◌≡◌, List, ◌∷◌, ℕ, ◌+◌, ◌%◌, ◌<◌, ◌≤◌, length};
+ghost use Rattle.std.specs.Prelude.{◌≡◌, List, ◌∷◌, ℕ, ◌+◌, ◌%◌, ◌<◌, ◌≤◌, ◌-◌, length, drop};
 ghost use Rattle.esterel.specs.Limits.{signals as max_signals};
 ghost use Rattle.grammar.specs.Limits.{max_levels};
 ghost use Rattle.grammar.specs.Tokens as G;
 ghost use Rattle.grammar.specs.Tree.{Name};
 ghost use Rattle.grammar.specs.Names.{place, see};
 ghost use Rattle.grammar.specs.Progress as P;
-ghost use Rattle.sheet.specs.Sheet.{max_counted, number_of, name_at, InText, Adds, Filled, FoundAs, Notes, Fresh};
+ghost use Rattle.sheet.specs.Sheet.{max_counted, number_of, name_at, InText, Adds, Filled, FoundAs, Notes, Fresh, level_in};
 
 use scan::Part;
 
-// The kinds of nodes by their numbers in document 01.
+// The kinds of nodes by their numbers in document 01. One enum with `table::Kind` would be no plainer: that one has `Unknown`, for
+// bytes that are no kind, which no reader writes and which each match here would have to answer.
 #[derive(Clone, Copy)]
 pub enum Kind {
     Nothing = 1,
@@ -47,7 +48,8 @@ pub struct Kept {
     stop: u16,
 }
 
-// No heap, and the readers that recurse lend one value to each other: so it is arrays, and how much of each is in use.
+// Fixed memory (no heap), and the readers that recurse lend one value to each other: so it is arrays, and a count beside each, that
+// of nodes and that of signals also of what the array has no room for.
 #[derive(Drop)]
 pub struct Sheet {
     // Nodes that the table has no room for are counted alone: a table that is too long is refused once all of the text is read.
@@ -143,7 +145,8 @@ impl Sheet {
         self.nodes += 1;
     }
 
-    // A signal's name is met; its number. No number matters where the signals are too many.
+    // A signal's name is met; its number. Where the signals are too many the text is refused for that, so the number 0 is written
+    // and nobody asks for it. What may not change keeps it a number and no option: `Adds` speaks of the node that has it in each case.
     pub fn note(&mut self, text: &[u8], name: Part) -> u16
         ensures nodes { self.new.nodes ≡ self.old.nodes }
         ensures notes { Notes text.now name self.old self.new result }
@@ -173,6 +176,9 @@ impl Sheet {
         find(text, &self.signals[..count], name).unwrap_or(count) as u16
     }
 
+    // That there is room to count a node is no invariant, here and below, since each of these functions adds to the count: the form
+    // is no plainer with a type for it.
+
     // The node of a statement whose signal was met before.
     pub fn put_named(&mut self, text: &[u8], kind: Kind, name: Part)
         requires { self.old.nodes ≤ max_counted }
@@ -193,29 +199,32 @@ impl Sheet {
         self.put(kind, number);
     }
 
-    // The level of an exit. One without a trap is marked.
-    pub fn level_of(&mut self, text: &[u8], name: Part) -> u16
-        ensures nodes { self.new.nodes ≡ self.old.nodes }
-        ensures level { (ts : List Name) (g : P.Progress) → InText text.now name → Filled text.now self.old ts g → (result ≡ place ts (name_at text.now name)) × Filled text.now self.new ts (P.leave ts (name_at text.now name) g) }
+    // The traps around, the nearest first. No contract but `Filled` bounds how many there are, hence the saturation: a ghost field for
+    // the bound would be carried through each step of a sheet and spare two words of code, so it is no plainer.
+    fn around(&self) -> &[Kept]
+        ensures { result.now ≡ drop (max_levels - self.now.trap_count) self.now.traps }
     {
-        let first = grammar::MAX_LEVELS.saturating_sub(self.trap_count);
-        let around = &self.traps[first..];
-        let levels = around.len();
-        if let Some(level) = find(text, around, name) {
-            return level as u16;
-        }
-        self.is_untrapped = true;
-        levels as u16
+        &self.traps[grammar::MAX_LEVELS.saturating_sub(self.trap_count)..]
     }
 
-    // The node of an exit.
+    // The level of an exit, if its trap is around.
+    pub fn level_of(&self, text: &[u8], name: Part) -> Option<u16>
+        ensures { (ts : List Name) (g : P.Progress) → InText text.now name → Filled text.now self.now ts g → result ≡ level_in ts (name_at text.now name) }
+    {
+        let level = find(text, self.around(), name)?;
+        Some(level as u16)
+    }
+
+    // The node of an exit. One without a trap is marked, and its level is the number of the traps around.
     pub fn put_exit(&mut self, text: &[u8], name: Part)
         requires { self.old.nodes ≤ max_counted }
         ensures nodes { self.new.nodes ≡ self.old.nodes + 1 }
         ensures adds { InText text.now name → Adds text.now self.old self.new (λ ts g. P.node 4 (place ts (name_at text.now name)) (P.leave ts (name_at text.now name) g)) }
     {
         let level = self.level_of(text, name);
-        self.put(Kind::Exit, level);
+        let field = level.unwrap_or(self.around().len() as u16);
+        self.is_untrapped |= level.is_none();
+        self.put(Kind::Exit, field);
     }
 
     // A trap's name comes around what is read next.
@@ -229,7 +238,7 @@ impl Sheet {
         }
     }
 
-    // The nearest trap around ends.
+    // The nearest trap around ends. Saturating, as in `around`.
     pub fn leave_trap(&mut self)
         ensures nodes { self.new.nodes ≡ self.old.nodes }
         ensures around { (x : List ℕ) (t : Name) (ts : List Name) (g : P.Progress) → Filled x self.old (t ∷ ts) g → Filled x self.new ts g }

@@ -47,6 +47,15 @@ impl From<Refusal> for Fault {
     }
 }
 
+// A fault in the grammar names no node.
+impl From<fault::Fault> for Fault {
+    ghost from_gives = { λ found fault. fault ≡ fault_of found.check found.place };
+
+    fn from(found: fault::Fault) -> Fault {
+        fault_at(found.check, found.place)
+    }
+}
+
 // A refusal that names no node.
 fn fault_at(check: Check, place: usize) -> Fault
     ensures { result ≡ fault_of check place }
@@ -126,8 +135,7 @@ pub fn read(text: &[u8], table: &mut [u8]) -> Result<Reading, Fault>
     }
     let mut sheet = Sheet::new();
     if !parse(text, &mut sheet) {
-        let fault = fault::find_fault(text);
-        return Err(fault_at(fault.check, fault.place));
+        return Err(fault::find_fault(text).into());
     }
     settle(text, &sheet, table)
 }

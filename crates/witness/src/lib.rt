@@ -22,7 +22,8 @@ pub enum Tick {
     Accepted { nodes: usize, loops: usize },
 }
 
-// Only code 0 will do, and nothing is needed after it.
+// Only code 0 will do, and nothing is needed after it. The new form is no plainer: a constant's value is one expression, which would be
+// 64 numbers here.
 fn goal() -> Row
     ensures { Goal result.of }
 {
@@ -58,6 +59,7 @@ pub fn find_tick(table: &[u8], answers: &mut [u8]) -> Result<Tick, Refusal>
             nodes: table.len() / 2,
             loops,
         }),
+        // The check as a pattern was tried: no goal is told which check an arm took, so the proof doesn't close.
         Err(Refusal { check, node }) if check == Check::EndsAtOnce => {
             let length = show(table, node, answers);
             Ok(Tick::Ends { node, length })

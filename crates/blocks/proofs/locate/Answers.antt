@@ -14,11 +14,11 @@ loop-last-init c = search_start _ _ _ _
 pub returns-then-is_good_for : goal.returns-then-is_good_for
 unfolding blocks_in
 returns-then-is_good_for c =
-    counted-located c.args.file.now c.args.program c.args.edition c.args.number c.fits.ensures c.if-not-fits.false (search_hit c.loop-last.invariant _ (omega arith) (sym (c.is_good_for.ensures ∙ ap (is_good_for c.args.program c.args.edition c.args.number) c.block_at.ensures.0) ∙ c.if-is_good_for.true)) c.place_at-place.ensures.from c.place_at-place.ensures.used
+    counted-located c.args.file.now c.args.program c.args.edition c.args.number c.fits.ensures c.if-not-fits.false (search_hit c.loop-last.invariant _ (omega arith) (sym (c.is_good_for.ensures ∙ ap (is_good_for c.args.program c.args.edition c.args.number) c.block_at.ensures) ∙ c.if-is_good_for.true)) c.place_at.ensures.from c.place_at.ensures.used
 
 pub loop-last-preserved : goal.loop-last-preserved
 unfolding blocks_in
-loop-last-preserved c = search_next c.loop-last.invariant _ (omega arith) (sym (c.is_good_for.ensures ∙ ap (is_good_for c.args.program c.args.edition c.args.number) c.block_at.ensures.0) ∙ c.if-is_good_for.false)
+loop-last-preserved c = search_next c.loop-last.invariant _ (omega arith) (sym (c.is_good_for.ensures ∙ ap (is_good_for c.args.program c.args.edition c.args.number) c.block_at.ensures) ∙ c.if-is_good_for.false)
 
 pub returns : goal.returns
 unfolding blocks_in

@@ -1,6 +1,6 @@
--- The mark of an exit that had no trap.
-use Rattle.fault.proofs.Names.{lost-told}
+-- No level has the name exactly where none was found.
+use Rattle.sheet.proofs.Sheets.{unlevelled}
 use Rattle.fault.proofs.is_lost.Goals as goal
 
 pub returns : goal.returns
-returns c = λ ls v l. lost-told ls _ (c.level_of.ensures.level ls _ v l).1
+returns c = λ ls v l. unlevelled _ _ _ (c.level_of.ensures ls _ v l) c.is_none.ensures

@@ -6,10 +6,10 @@ use Rattle.packing.proofs.unpack.Goals as goal
 pub loop-j-preserved : goal.loop-j-preserved
 loop-j-preserved c = unpacked-next c.args.state.now c.args.bytes.now c.requires.1 c.loop-j.invariant _ (omega arith) c.loop-j-test.true _ c.spread.ensures
 
-pub returns-then-n-ne0 : goal.returns-then-n-ne0
-returns-then-n-ne0 c =
-    unpacked-last c.args.state.now c.args.bytes.now c.requires.1 c.loop-j.invariant _ _ (omega arith) refl (omega arith) _ c.spread-then-n-ne0.ensures
+pub returns-then-not-is_multiple_of : goal.returns-then-not-is_multiple_of
+returns-then-not-is_multiple_of c =
+    unpacked-last c.args.state.now c.args.bytes.now c.requires.1 c.loop-j.invariant _ _ (omega arith) refl (omega arith) _ c.spread-then-not-is_multiple_of.ensures
 
-pub returns-else-n-ne0 : goal.returns-else-n-ne0
-returns-else-n-ne0 c =
-    unpacked-end c.args.state.now c.args.bytes.now c.requires.1 c.loop-j.invariant c.loop-j-test.false c.if-n-ne0.false
+pub returns-else-not-is_multiple_of : goal.returns-else-not-is_multiple_of
+returns-else-not-is_multiple_of c =
+    unpacked-end c.args.state.now c.args.bytes.now c.requires.1 c.loop-j.invariant c.loop-j-test.false (c.if-not-is_multiple_of.ensures.0 refl)

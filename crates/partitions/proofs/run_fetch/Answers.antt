@@ -16,6 +16,3 @@ slice_bounds-write_hex-end g c = let w = within c.in-Ok.ensures in omega (arith,
 
 pub slice_bounds-write_hex-end-in-Ok : goal.slice_bounds-write_hex-end-in-Ok
 slice_bounds-write_hex-end-in-Ok g c = let w = within c.in-Ok.ensures in sym (length-take-le _ _ (omega (arith, w.0, w.1, c.fetch.auto.table)))
-
-pub end_line-requires : goal.end_line-requires
-end_line-requires g c = let w = within c.in-Ok.ensures in omega (arith, w.0, w.1, c.fetch.auto.table)

@@ -2,7 +2,7 @@
 use Rattle.std.proofs.Common.{refl, sym, subst}
 use Rattle.esterel.proofs.Replies.{handed as handed_on}
 use Rattle.planning.specs.Planning.{Hands}
-use Rattle.planning.proofs.Plans.{refused-hands, own, as_lent, some-node, last_tops, walking, handed}
+use Rattle.planning.proofs.Plans.{refused-hands, own, as_lent, some-node, last_tops, any-is, walking, handed}
 use Rattle.planning.proofs.find_longest.Goals as goal
 
 pub returns-in_err-tree : goal.returns-in_err-tree
@@ -17,9 +17,9 @@ pub top-entries-requires : goal.top-entries-requires
 top-entries-requires c = last_tops c.args.answers.now (own c.in_ok-tree.ensures) c.nodes-n.ensures c.fill_rows.ensures
 
 pub walk_at-length-requires : goal.walk_at-length-requires
-walk_at-length-requires c = walking refl (own c.in_ok-tree.ensures) c.nodes-n.ensures c.fill_rows.ensures c.any_code.ensures
+walk_at-length-requires c = walking refl (own c.in_ok-tree.ensures) c.nodes-n.ensures c.fill_rows.ensures any-is
 
 pub returns : goal.returns
 returns c =
     as_lent (c.in_ok-tree.ensures.same _ refl)
-    (handed c.args.answers.now (own c.in_ok-tree.ensures) c.nodes-n.ensures c.fill_rows.ensures c.any_code.ensures c.top-entries.ensures c.walk_at-length.ensures)
+    (handed c.args.answers.now (own c.in_ok-tree.ensures) c.nodes-n.ensures c.fill_rows.ensures any-is c.top-entries.ensures c.walk_at-length.ensures)

@@ -74,16 +74,16 @@ look_at-then-requires t c =
     let (ok, h, low) = c.requires in
     (omega (arith, c.decreases, after-child ok.readable h c.kind-kind.ensures low c.looks_at_all.ensures c.if-looks_at_all.false), (ok, omega (arith, h), low))
 
-pub passed_up-requires-then-has : goal.passed_up-requires-then-has
-passed_up-requires-then-has t c =
+pub passed_up-requires-then-then : goal.passed_up-requires-then-then
+passed_up-requires-then-then t c =
     let (ok, h, low) = c.requires in
     looked-few ok.readable (omega (arith, h)) _ c.look_at-then.ensures
 
-pub returns-then-has : goal.returns-then-has
-returns-then-has t c =
+pub returns-then-then : goal.returns-then-then
+returns-then-then t c =
     let (ok, h, low) = c.requires in
     then-has ok.readable h c.kind-kind.ensures low c.looks_at_all.ensures c.if-looks_at_all.false c.arity.ensures c.if-arity-eq1.false c.size-2.ensures
-    (c.eq.ensures ∙ same-is c.kind-kind.result Sequence) c.if-eq.false c.look_at-then.ensures c.if-has.true c.passed_up-then-has.ensures
+    (c.eq.ensures ∙ same-is c.kind-kind.result Sequence) c.if-eq.false c.look_at-then.ensures c.if-then.true c.passed_up-then-then.ensures
 
 pub look_at-requires-2 : goal.look_at-requires-2
 look_at-requires-2 t c =
@@ -99,4 +99,4 @@ pub returns : goal.returns
 returns t c =
     let (ok, h, low) = c.requires in
     else_asked ok.readable h c.kind-kind.ensures low c.looks_at_all.ensures c.if-looks_at_all.false c.arity.ensures c.if-arity-eq1.false c.size-2.ensures
-    (c.eq.ensures ∙ same-is c.kind-kind.result Sequence) c.if-eq.false c.look_at-then.ensures c.if-has.false c.look_at-2.ensures c.joined-2.ensures
+    (c.eq.ensures ∙ same-is c.kind-kind.result Sequence) c.if-eq.false c.look_at-then.ensures c.if-then.false c.look_at-2.ensures c.joined-2.ensures

@@ -10,7 +10,7 @@ pub returns-then-text-gt-MAX_SOURCE : goal.returns-then-text-gt-MAX_SOURCE
 returns-then-text-gt-MAX_SOURCE c = rw c.fault_at-then-text-gt-MAX_SOURCE.ensures (judged _ _ _ c.if-table-lt-TABLE.false (overlong c.if-text-gt-MAX_SOURCE.true) (refl, refl))
 
 pub returns-then-not-parse : goal.returns-then-not-parse
-returns-then-not-parse c = rw c.fault_at-then-not-parse.ensures (unread c.args.text.now c.args.table.now _ _ c.if-table-lt-TABLE.false c.if-text-gt-MAX_SOURCE.false c.if-not-parse.ensures c.find_fault-fault.ensures)
+returns-then-not-parse c = rw c.into.ensures (unread c.args.text.now c.args.table.now _ _ c.if-table-lt-TABLE.false c.if-text-gt-MAX_SOURCE.false c.if-not-parse.ensures c.find_fault.ensures)
 
 pub returns : goal.returns
 returns c =

@@ -15,17 +15,17 @@ pub block_at-requires : goal.block_at-requires
 block_at-requires c = block_within c.args.self.now.file.now c.args.i c.requires.0
 
 pub returns-then-not-is_higher : goal.returns-then-not-is_higher
-returns-then-not-is_higher c = unbeaten c.requires.1 (c.word-edition.ensures ∙ ap edition_in c.block_at.ensures.0) (sym c.is_higher.ensures ∙ c.if-not-is_higher.true)
+returns-then-not-is_higher c = unbeaten c.requires.1 (c.word-edition.ensures ∙ ap edition_in c.block_at.ensures) (sym c.is_higher.ensures ∙ c.if-not-is_higher.true)
 
 pub returns-in_default : goal.returns-in_default
-returns-in_default c = unheld c.requires.1 (c.word-edition.ensures ∙ ap edition_in c.block_at.ensures.0) (rw c.in_default.is at c.find.ensures)
+returns-in_default c = unheld c.requires.1 (c.word-edition.ensures ∙ ap edition_in c.block_at.ensures) (rw c.in_default.is at c.find.ensures)
 
 pub returns-then-first-i : goal.returns-then-first-i
-returns-then-first-i c = elsewhere c.requires.1 (c.word-edition.ensures ∙ ap edition_in c.block_at.ensures.0) c.in-Some.ensures c.if-first-i.true
+returns-then-first-i c = elsewhere c.requires.1 (c.word-edition.ensures ∙ ap edition_in c.block_at.ensures) c.in-Some.ensures c.if-first-i.true
 
 pub check_edition-requires : goal.check_edition-requires
 unfolding parts_of
 check_edition-requires c = c.in-Some.ensures.place.parts
 
 pub returns : goal.returns
-returns c = rw c.or.ensures (considered c.requires.1 (c.word-edition.ensures ∙ ap edition_in c.block_at.ensures.0) c.check_edition.ensures (sym c.is_higher.ensures ∙ c.if-not-is_higher.false))
+returns c = rw c.or.ensures (considered c.requires.1 (c.word-edition.ensures ∙ ap edition_in c.block_at.ensures) c.check_edition.ensures (sym c.is_higher.ensures ∙ c.if-not-is_higher.false))

@@ -10,7 +10,7 @@ bounds-good-i c = omega (arith, few_blocks c.args.file.now c.requires)
 
 pub loop-i-preserved : goal.loop-i-preserved
 unfolding blocks_in
-loop-i-preserved c = checking_next c.requires c.loop-i.invariant (omega arith) (c.is_usable.ensures ∙ ap (usable c.args.program) c.block_at.ensures.0)
+loop-i-preserved c = checking_next c.requires c.loop-i.invariant (omega arith) (c.is_usable.ensures ∙ ap (usable c.args.program) c.block_at.ensures)
 
 pub invariant_of-result : goal.invariant_of-result
 unfolding blocks_in

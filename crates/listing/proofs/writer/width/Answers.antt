@@ -1,13 +1,18 @@
--- `listing::writer::width` meets its contract: what is counted and the digits of what is left are the digits.
-use native.Mathlib.Omega.{arith}
-use Rattle.listing.proofs.Numbers.{counting_few, counting_room, counting_next, counting_end}
+-- A logarithm to the base says how many digits there are: proofs/Digits.antt.
+use Rattle.std.proofs.Common.{length, refl, sym, ap, lit≤, arith}
+use Rattle.std.proofs.Math.Logic.{⊎_elim}
+use Rattle.codes.proofs.Bools.{false-not-true}
+use Rattle.listing.proofs.Digits.{lt_or_le, digits-one, digits-counted}
 use Rattle.listing.proofs.writer.width.Goals as goal
 
-pub overflow_add-count : goal.overflow_add-count
-overflow_add-count c = omega (arith, counting_room c.requires c.loop-rest.invariant c.loop-rest-test.true)
+pub returns-in-Some : goal.returns-in-Some
+returns-in-Some c =
+    let o = c.in-Some.ensures in
+    (sym (digits-counted c.args.base c.requires c.in-Some.power c.args.n o.bound o.power_le o.next_power_gt), omega (arith, o.bound))
 
-pub loop-rest-preserved : goal.loop-rest-preserved
-loop-rest-preserved c = counting_next c.requires c.loop-rest.invariant c.loop-rest-test.true
-
-pub returns : goal.returns
-returns c = (counting_end c.requires c.loop-rest.invariant c.loop-rest-test.false, counting_few c.requires c.loop-rest.invariant)
+pub returns-in-None : goal.returns-in-None
+returns-in-None c =
+    ⊎_elim
+    (λ l. (sym (ap length (digits-one c.args.base c.args.n (omega (arith, c.requires)))), lit≤ tt))
+    (λ g. absurd (false-not-true refl (c.in-None.ensures.variant.1 (omega arith, c.requires))))
+    (lt_or_le c.args.n 1)
