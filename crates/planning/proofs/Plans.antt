@@ -22,9 +22,9 @@ use Rattle.esterel.proofs.Sizes.{size_pos}
 use Rattle.esterel.proofs.Theorems.{exactness, demand3}
 use Rattle.table.specs.Program.{program_of}
 use Rattle.table.specs.Columns.{stmt_at}
+use Rattle.table.specs.declared.Tree.{Tree}
 use Rattle.table.proofs.Buffers.{sets-front}
 use Rattle.analysis.specs.Passes.{Placed}
-use Rattle.table.specs.declared.Tree.{Tree}
 use Rattle.analysis.specs.Analysis.{TableChecked, Sized, TreeChecked}
 use Rattle.analysis.proofs.Analyses.{table-refused, ready, table-passed, verdict-refused}
 use Rattle.analysis.proofs.Nodes.{well_formed_lem}
@@ -142,7 +142,7 @@ module _ (old : List ℕ) {t sizes : List ℕ} (o : Sized (leb tick_answers (len
   accepts : Accepted (program_of t)
   accepts = (acceptance t (program_of t) (checked-passed _ t (program_of t) o.verdict)).1
 
-  pub well_formed : WellFormed t (program_of t)
+  well_formed : WellFormed t (program_of t)
   well_formed = well_formed_lem o.ready.placed
 
   few-presents : presents (program_of t) ≤ 511

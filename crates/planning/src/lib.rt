@@ -40,7 +40,7 @@ fn next_row(kind: Kind, field: usize, stack: &[Row; PENDING], base: usize) -> Ro
 }
 
 // The row of the whole program, in one pass from the first node to the last: a node's row takes the place of its children's. No more
-// statements are unused at a time than the depth limit.
+// statements are unused at a time than the depth limit. No plainer over a `Tree`: it needs no sizes, and these are a pass of their own.
 fn program_row(table: &[u8]) -> Row
     requires { Placed table.now }
     ensures { Holds (most_entries (program_of table.now)) result.of }

@@ -1,17 +1,14 @@
 -- A lemma for each return.
-use Rattle.std.proofs.Common.{refl, sym, subst, arith}
+use Rattle.std.proofs.Common.{refl, sym, subst}
 use Rattle.esterel.proofs.Replies.{handed as handed_on}
 use Rattle.planning.specs.Planning.{Hands}
-use Rattle.planning.proofs.Plans.{refused-hands, own, as_lent, well_formed, some-node, last_tops, any-is, walking, handed}
+use Rattle.planning.proofs.Plans.{refused-hands, own, as_lent, some-node, last_tops, any-is, walking, handed}
 use Rattle.planning.proofs.find_longest.Goals as goal
 
 pub returns-in_err-tree : goal.returns-in_err-tree
 returns-in_err-tree c =
     subst (Hands c.args.table.now c.args.answers.now c.args.answers.now) (sym (handed_on c.from_residual.result _ c.from_residual.ensures.1))
     (refused-hands c.args.answers.now c.in_err-tree.ensures)
-
-pub fill_rows-requires : goal.fill_rows-requires
-fill_rows-requires c = (well_formed c.args.answers.now (own c.in_ok-tree.ensures), omega (arith, c.nodes-n.ensures), omega arith)
 
 pub overflow_sub-last : goal.overflow_sub-last
 overflow_sub-last c = some-node c.args.answers.now (own c.in_ok-tree.ensures) c.nodes-n.ensures
