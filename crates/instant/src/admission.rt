@@ -12,7 +12,7 @@ use table::{Kind, Tree};
 fn is_exclusive(kind: Kind) -> bool
     ensures { result ≡ is_exclusive kind }
 {
-    (kind == Kind::Sequence) | (kind == Kind::Present)
+    kind == Kind::Sequence || kind == Kind::Present
 }
 
 // Whether a kind may have this byte: 0, or 1 at a pause.
