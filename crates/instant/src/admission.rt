@@ -26,7 +26,8 @@ fn byte_fits(kind: Kind, byte: u8) -> bool
     }
 }
 
-// The number of held pauses before each node, and before the end.
+// The number of held pauses before each node, and before the end. Zipped slices are no plainer: entry i + 1 of one is made at byte i of the
+// other, so both would be cut first.
 fn count_held(held: &[u8], counts: &mut [u16], n: usize)
     requires { (n ≤ length held.now) × (n < length counts.old) × (n ≤ max_nodes) }
     ensures { Counted held.now counts.new n }

@@ -23,8 +23,8 @@ fn spread(byte: u8, bytes: &mut [u8])
 }
 
 // The bytes of the first n nodes: those of whole bytes of the state, then what is left. How many nodes there are stays in clauses, here and
-// below: what may not change, `unpack` and `pack` take slices of any length. Over `chunks_mut` the proof didn't close: nothing is known of
-// what was written through its parts.
+// below: what may not change, `unpack` and `pack` take slices of any length. Over `chunks_mut` the proof can't
+// close: once its parts are given back, a proof knows the slice's length alone.
 pub fn unpack(state: &[u8], bytes: &mut [u8], n: usize)
     requires { (n ≤ 8 * length state.now) × (n ≤ length bytes.old) × (n ≤ max_nodes) }
     ensures { bytes.new ≡ unpack n state.now ++ drop n bytes.old }

@@ -20,7 +20,7 @@ pub struct Walked {
     pub at: usize,
 }
 
-// Whether x is no worse than y; a number that says nothing is worse than any other.
+// Whether x is no worse than y; a number that says nothing is worse than any other. The weight is a value as in `rows::pick`.
 fn no_worse(weight: Weight, x: u16, y: u16) -> bool
     ensures { result ≡ no_worse weight (value_of x) (value_of y) }
 {
