@@ -3,6 +3,7 @@
 ghost use Rattle.std.specs.Prelude.{◌≡◌, ℕ, List};
 ghost use Rattle.abi.specs.Figures.{number_figures, analysed_figures, reaction_figures, reading_figures, fault_figures, tick_figures, fetched_figures, span_figures, longest_figures, asked_figures, tried_figures};
 
+use crate::FIGURES;
 use analysis::Analysed;
 use blocks::{Fetched, Span};
 use instant::Reaction;
@@ -15,7 +16,7 @@ use witness::Tick;
 pub(crate) trait Figures {
     ghost tells: { Self → List ℕ };
 
-    fn figures(self) -> [u64; 3]
+    fn figures(self) -> [u64; FIGURES]
         ensures { result ≡ tells self };
 }
 
@@ -23,7 +24,7 @@ pub(crate) trait Figures {
 impl Figures for usize {
     ghost tells = { number_figures };
 
-    fn figures(self) -> [u64; 3] {
+    fn figures(self) -> [u64; FIGURES] {
         [self as u64, 0, 0]
     }
 }
@@ -31,7 +32,7 @@ impl Figures for usize {
 impl Figures for Analysed {
     ghost tells = { analysed_figures };
 
-    fn figures(self) -> [u64; 3] {
+    fn figures(self) -> [u64; FIGURES] {
         [self.nodes as u64, self.loops as u64, 0]
     }
 }
@@ -39,7 +40,7 @@ impl Figures for Analysed {
 impl Figures for Reaction {
     ghost tells = { reaction_figures };
 
-    fn figures(self) -> [u64; 3] {
+    fn figures(self) -> [u64; FIGURES] {
         [self.code as u64, self.taken as u64, self.entries as u64]
     }
 }
@@ -47,7 +48,7 @@ impl Figures for Reaction {
 impl Figures for Reading {
     ghost tells = { reading_figures };
 
-    fn figures(self) -> [u64; 3] {
+    fn figures(self) -> [u64; FIGURES] {
         [self.nodes as u64, self.signals as u64, 0]
     }
 }
@@ -56,14 +57,14 @@ impl Figures for Reading {
 impl Figures for Option<Fault> {
     ghost tells = { fault_figures };
 
-    fn figures(self) -> [u64; 3] {
+    fn figures(self) -> [u64; FIGURES] {
         match self {
             Some(fault) => [
                 fault.refusal.check as u64,
                 fault.refusal.node as u64,
                 fault.place as u64,
             ],
-            None => [0; 3],
+            None => [0; FIGURES],
         }
     }
 }
@@ -71,7 +72,7 @@ impl Figures for Option<Fault> {
 impl Figures for Tick {
     ghost tells = { tick_figures };
 
-    fn figures(self) -> [u64; 3] {
+    fn figures(self) -> [u64; FIGURES] {
         match self {
             Tick::Ends { node, length } => [1, node as u64, length as u64],
             Tick::Accepted { nodes, loops } => [0, nodes as u64, loops as u64],
@@ -82,7 +83,7 @@ impl Figures for Tick {
 impl Figures for Fetched {
     ghost tells = { fetched_figures };
 
-    fn figures(self) -> [u64; 3] {
+    fn figures(self) -> [u64; FIGURES] {
         [
             self.length as u64,
             u64::from(self.edition),
@@ -94,7 +95,7 @@ impl Figures for Fetched {
 impl Figures for Span {
     ghost tells = { span_figures };
 
-    fn figures(self) -> [u64; 3] {
+    fn figures(self) -> [u64; FIGURES] {
         [self.from as u64, self.length as u64, 0]
     }
 }
@@ -102,7 +103,7 @@ impl Figures for Span {
 impl Figures for Longest {
     ghost tells = { longest_figures };
 
-    fn figures(self) -> [u64; 3] {
+    fn figures(self) -> [u64; FIGURES] {
         [self.entries as u64, self.length as u64, 0]
     }
 }
@@ -110,7 +111,7 @@ impl Figures for Longest {
 impl Figures for Asked {
     ghost tells = { asked_figures };
 
-    fn figures(self) -> [u64; 3] {
+    fn figures(self) -> [u64; FIGURES] {
         [u64::from(self.answer), self.count as u64, 0]
     }
 }
@@ -118,7 +119,7 @@ impl Figures for Asked {
 impl Figures for Tried {
     ghost tells = { tried_figures };
 
-    fn figures(self) -> [u64; 3] {
+    fn figures(self) -> [u64; FIGURES] {
         [self.set, self.presents as u64, 0]
     }
 }

@@ -38,7 +38,7 @@ fn tell<T: Figures>(told: Result<T, Refusal>, answer: &mut [u64]) -> u32
     }
 }
 
-// Why a lent buffer that is too short is refused, the answer among them.
+// The refusal of a lent buffer that is too short; the answer is one of them.
 const NO_ROOM: Refusal = Refusal {
     check: Check::NoRoom,
     node: 0,
@@ -54,6 +54,8 @@ fn short_answer(table: &[u8]) -> u32
     returned(refusal)
 }
 
+// The C interface: all exports have one shape, the answer's room, the call and `tell`. Each lends buffers of its own, and a closure around
+// the call would have to say of them in its clauses what the export says.
 #[unsafe(no_mangle)]
 pub extern "C" fn bavzhrono_analyse(
     table: &[u8],

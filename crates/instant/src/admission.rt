@@ -12,7 +12,7 @@ use table::{Kind, Tree};
 fn is_exclusive(kind: Kind) -> bool
     ensures { result ≡ is_exclusive kind }
 {
-    (kind == Kind::Sequence) | (kind == Kind::Present)
+    kind == Kind::Sequence || kind == Kind::Present
 }
 
 // Whether a kind may have this byte: 0, or 1 at a pause.
@@ -26,7 +26,8 @@ fn byte_fits(kind: Kind, byte: u8) -> bool
     }
 }
 
-// The number of held pauses before each node, and before the end.
+// The number of held pauses before each node, and before the end. Zipped slices are no plainer: entry i + 1 of one is made at byte i of the
+// other, so both would be cut first.
 fn count_held(held: &[u8], counts: &mut [u16], n: usize)
     requires { (n ≤ length held.now) × (n < length counts.old) × (n ≤ max_nodes) }
     ensures { Counted held.now counts.new n }

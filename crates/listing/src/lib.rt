@@ -52,6 +52,7 @@ fn render_listing(listing: &Listing<'_>, text: &mut [u8]) -> Option<usize>
 pub fn render(table: &[u8], text: &mut [u8]) -> Option<usize>
     ensures { Rendering (text_of (verdict table.now)) text.old text.new result }
 {
+    // The C interface: `analysis::analyse` fills four buffers, which are C's where C calls it.
     let mut starts = [0u64; esterel::MAX_NODES];
     let mut anys = [0u64; esterel::MAX_NODES];
     let mut contexts = [0u64; esterel::MAX_NODES];

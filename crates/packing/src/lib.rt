@@ -22,7 +22,9 @@ fn spread(byte: u8, bytes: &mut [u8])
     }
 }
 
-// The bytes of the first n nodes: those of whole bytes of the state, then what is left.
+// The bytes of the first n nodes: those of whole bytes of the state, then what is left. How many nodes there are stays in clauses, here and
+// below: what may not change, `unpack` and `pack` take slices of any length. Over `chunks_mut` the proof can't
+// close: once its parts are given back, a proof knows the slice's length alone.
 pub fn unpack(state: &[u8], bytes: &mut [u8], n: usize)
     requires { (n ≤ 8 * length state.now) × (n ≤ length bytes.old) × (n ≤ max_nodes) }
     ensures { bytes.new ≡ unpack n state.now ++ drop n bytes.old }
@@ -75,7 +77,8 @@ fn byte_of(bytes: &[u8]) -> u8
     byte
 }
 
-// The packed state of n nodes, all 128 bytes of it: the whole bytes, then what is left of the nodes, then zeros.
+// The packed state of n nodes, all 128 bytes of it: the whole bytes, then what is left of the nodes, then zeros. No iterator over the whole
+// bytes for the reason given at `unpack`.
 pub fn pack(bytes: &[u8], n: usize, state: &mut [u8])
     requires { (n ≤ length bytes.now) × (n ≤ max_nodes) × (state_bytes ≤ length state.old) }
     ensures { state.new ≡ pack (take n bytes.now) ++ drop state_bytes state.old }

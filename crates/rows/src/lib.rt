@@ -47,7 +47,9 @@ fn lesser(a: u16, b: u16) -> u16
     }
 }
 
-// The preferred of two numbers. The larger is the one that says something, if any does.
+// The preferred of two numbers. The larger is the one that says something, if any does. A `match` on a value here, in `entry` and in
+// `answer` is no plainer as a trait with two types: the definitions take a weight as a value (see `starts::Weight`), and where `row_of` is
+// inlined it is known.
 pub fn pick(weight: Weight, a: u16, b: u16) -> u16
     ensures { Picks weight a b result }
 {

@@ -21,13 +21,14 @@ use table::{Kind, Tree};
 // The answers of a list, which suffice for as many presents, and how many such lists there are.
 const ANSWERS: usize = 12;
 
-const LISTS: usize = 4096;
+const LISTS: usize = 1 << ANSWERS;
 
 // The number of presents in the statement at a node, its own included: its nodes are those from its first to this one.
 fn count_presents(tree: &Tree, first: usize, node: usize) -> usize
     requires { Countable tree.now.table.now first node }
     ensures { result ≡ presents (stmt_at tree.now.table.now node) }
 {
+    // `first..=node` was tried, and its proof didn't close: the library's laws of a chain over numbers are those of `a..b` alone.
     (first..node + 1)
         .filter(|i| tree.kind(*i) == Kind::Present)
         .count()

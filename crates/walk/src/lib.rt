@@ -20,7 +20,7 @@ pub struct Walked {
     pub at: usize,
 }
 
-// Whether x is no worse than y; a number that says nothing is worse than any other.
+// Whether x is no worse than y; a number that says nothing is worse than any other. The weight is a value as in `rows::pick`.
 fn no_worse(weight: Weight, x: u16, y: u16) -> bool
     ensures { result ≡ no_worse weight (value_of x) (value_of y) }
 {
@@ -95,18 +95,6 @@ fn need_parallel(weight: Weight, row: &Row, need: &Row) -> Row
     Row { of }
 }
 
-// What is needed after the first of two.
-fn need_first(weight: Weight, ordered: bool, row: &Row, need: &Row) -> Row
-    requires { LowRow max_number row.now.of × LowRow max_number need.now.of }
-    ensures { First weight ordered row.now.of need.now.of result.of }
-{
-    if ordered {
-        need_sequence(weight, row, need)
-    } else {
-        need_parallel(weight, row, need)
-    }
-}
-
 // Whether the else branch of a test is no worse than the then branch, with what is needed after it.
 fn goes_absent(weight: Weight, first: &Row, last: &Row, need: &Row) -> bool
     requires { LowRow max_number first.now.of × LowRow max_number last.now.of × LowRow max_number need.now.of }
@@ -165,7 +153,11 @@ impl Ground<'_> {
             return self.walk_at(child, need, answers, at + 1);
         }
         let ordered = kind == Kind::Sequence;
-        let before = need_first(self.weight, ordered, &self.rows[last], need);
+        let before = if ordered {
+            need_sequence(self.weight, &self.rows[last], need)
+        } else {
+            need_parallel(self.weight, &self.rows[last], need)
+        };
         let left = self.walk_at(first, &before, answers, at);
         if ordered && left.code != 0 {
             return left;

@@ -1,16 +1,18 @@
 -- One law for each call and each return.
-use Rattle.std.proofs.Common.{◌≡◌, ℕ, ◌≤◌, true, false, refl, sym, ◌∙◌, inl, inr, arith}
+use Rattle.std.proofs.Common.{◌≡◌, ℕ, ◌-◌, ◌≤◌, true, false, refl, sym, ◌∙◌, inl, inr, arith}
 use Rattle.table.specs.declared.Kind.TheVariants.{Present, Sequence}
 use Rattle.table.specs.Kinds.{is_present}
 use Rattle.table.proofs.Comparing.{same-is}
+use Rattle.rows.specs.Filled.{numbers_at}
 use Rattle.rows.proofs.Said.{readable}
 use Rattle.table.proofs.TreeViews.{has_last, first_le}
 use Rattle.table.proofs.Trees.{few}
+use Rattle.walk.specs.Needs.{First}
 use Rattle.walk.proofs.Walks.{inside, Here, Two, need_low, leaf-returns, one_call, one-returns}
 use Rattle.walk.proofs.Walks.{last-room, first-room, last-low, first-low, answer-room, last_call, first_call, test-returns}
 use Rattle.walk.proofs.Walks.{left_call, left-low, left-returns, right_call, both-returns}
 use Rattle.walk.proofs.Ground.+walk_at.Goals as goal
-use Rattle.walk.proofs.Ground.+walk_at.Goals.{After-arity-children, After-size, Else-children-eq0, Then-eq, Else-eq, then-absent, else-absent}
+use Rattle.walk.proofs.Ground.+walk_at.Goals.{After-arity-children, After-size, Else-children-eq0, Then-eq, Else-eq, then-absent, else-absent, Joined-ordered, then-ordered, else-ordered}
 
 -- what the code knows: of the node, of two children, and of a test
 here : (t : ℕ) (c : After-arity-children t) → Here c.args.self.now c.args.need.now.of c.args.answers.now c.args.node c.args.at c.kind-kind.result c.arity-children.result
@@ -84,35 +86,53 @@ returns-then-eq t c =
       | else-absent w ↦ law false w.if-absent.false w.child-is (rw w.if-absent.false at c.from.ensures) c.walk_at.ensures
     ]
 
-pub offset_bounds-self-last-2 : goal.offset_bounds-self-last-2
-offset_bounds-self-last-2 t c = omega (arith, inside c.requires, few c.args.self.now.tree.tree)
+pub offset_bounds-self-last-then-ordered : goal.offset_bounds-self-last-then-ordered
+offset_bounds-self-last-then-ordered t c = omega (arith, inside c.requires, few c.args.self.now.tree.tree)
 
-pub bounds-self-last-2 : goal.bounds-self-last-2
-bounds-self-last-2 t c = last-room (both t (goal.at.bounds-self-last-2 t c).After-size)
+pub bounds-self-last-then-ordered : goal.bounds-self-last-then-ordered
+bounds-self-last-then-ordered t c = last-room (both t (goal.at.bounds-self-last-then-ordered t c).After-size)
 
-pub need_first-before-requires : goal.need_first-before-requires
-need_first-before-requires t c =
-    (last-low (both t (goal.at.need_first-before-requires t c).After-size), need_low (here t (goal.at.need_first-before-requires t c).After-arity-children))
+pub need_sequence-before-requires : goal.need_sequence-before-requires
+need_sequence-before-requires t c =
+    (last-low (both t (goal.at.need_sequence-before-requires t c).After-size), need_low (here t (goal.at.need_sequence-before-requires t c).After-arity-children))
+
+pub offset_bounds-self-last-else-ordered : goal.offset_bounds-self-last-else-ordered
+offset_bounds-self-last-else-ordered t c = omega (arith, inside c.requires, few c.args.self.now.tree.tree)
+
+pub bounds-self-last-else-ordered : goal.bounds-self-last-else-ordered
+bounds-self-last-else-ordered t c = last-room (both t (goal.at.bounds-self-last-else-ordered t c).After-size)
+
+pub need_parallel-before-requires : goal.need_parallel-before-requires
+need_parallel-before-requires t c =
+    (last-low (both t (goal.at.need_parallel-before-requires t c).After-size), need_low (here t (goal.at.need_parallel-before-requires t c).After-arity-children))
+
+-- what is needed after the first, whichever of the two it is
+first_need : (t : ℕ) (c : Joined-ordered t) → First c.args.self.now.weight c.eq-ordered.result (numbers_at c.args.self.now.rows.now (c.args.node - 1)) c.args.need.now.of c.if-ordered.before.of
+first_need t c =
+    elim c.if-ordered.branch [
+      | then-ordered w ↦ rw (w.if-ordered.true, w.before-is) w.need_sequence-before.ensures
+      | else-ordered w ↦ rw (w.if-ordered.false, w.before-is) w.need_parallel-before.ensures
+    ]
 
 pub walk_at-left-requires : goal.walk_at-left-requires
 walk_at-left-requires t c =
     let some = last-lower t (goal.at.walk_at-left-requires t c).Else-children-eq0 in
-    (omega (arith, c.decreases), left_call (both t (goal.at.walk_at-left-requires t c).After-size) (no_test t (goal.at.walk_at-left-requires t c).Else-eq) (c.eq-ordered.ensures ∙ same-is c.kind-kind.result Sequence) c.need_first-before.ensures)
+    (omega (arith, c.decreases), left_call (both t (goal.at.walk_at-left-requires t c).After-size) (no_test t (goal.at.walk_at-left-requires t c).Else-eq) (c.eq-ordered.ensures ∙ same-is c.kind-kind.result Sequence) (first_need t (goal.at.walk_at-left-requires t c).Joined-ordered))
 
 pub returns-then-left-ne0 : goal.returns-then-left-ne0
 returns-then-left-ne0 t c =
-    left-returns (both t (goal.at.returns-then-left-ne0 t c).After-size) (no_test t (goal.at.returns-then-left-ne0 t c).Else-eq) (c.eq-ordered.ensures ∙ same-is c.kind-kind.result Sequence) c.need_first-before.ensures c.walk_at-left.ensures c.if-ordered.true c.if-left-ne0.true
+    left-returns (both t (goal.at.returns-then-left-ne0 t c).After-size) (no_test t (goal.at.returns-then-left-ne0 t c).Else-eq) (c.eq-ordered.ensures ∙ same-is c.kind-kind.result Sequence) (first_need t (goal.at.returns-then-left-ne0 t c).Joined-ordered) c.walk_at-left.ensures c.if-ordered-2.true c.if-left-ne0.true
 
 pub need_under-under-requires-2 : goal.need_under-under-requires-2
 need_under-under-requires-2 t c =
-    left-low (both t (goal.at.need_under-under-requires-2 t c).After-size) (no_test t (goal.at.need_under-under-requires-2 t c).Else-eq) (c.eq-ordered.ensures ∙ same-is c.kind-kind.result Sequence) c.need_first-before.ensures c.walk_at-left.ensures
+    left-low (both t (goal.at.need_under-under-requires-2 t c).After-size) (no_test t (goal.at.need_under-under-requires-2 t c).Else-eq) (c.eq-ordered.ensures ∙ same-is c.kind-kind.result Sequence) (first_need t (goal.at.need_under-under-requires-2 t c).Joined-ordered) c.walk_at-left.ensures
 
 pub walk_at-right-requires : goal.walk_at-right-requires
 walk_at-right-requires t c =
     let some = last-lower t (goal.at.walk_at-right-requires t c).Else-children-eq0 in
-    (omega (arith, c.decreases), right_call (both t (goal.at.walk_at-right-requires t c).After-size) (no_test t (goal.at.walk_at-right-requires t c).Else-eq) (c.eq-ordered.ensures ∙ same-is c.kind-kind.result Sequence) c.need_first-before.ensures c.walk_at-left.ensures c.need_under-under-2.ensures)
+    (omega (arith, c.decreases), right_call (both t (goal.at.walk_at-right-requires t c).After-size) (no_test t (goal.at.walk_at-right-requires t c).Else-eq) (c.eq-ordered.ensures ∙ same-is c.kind-kind.result Sequence) (first_need t (goal.at.walk_at-right-requires t c).Joined-ordered) c.walk_at-left.ensures c.need_under-under-2.ensures)
 
 pub returns : goal.returns
 returns t c =
-    both-returns (both t (goal.at.returns t c).After-size) (no_test t (goal.at.returns t c).Else-eq) (c.eq-ordered.ensures ∙ same-is c.kind-kind.result Sequence) c.need_first-before.ensures c.walk_at-left.ensures c.need_under-under-2.ensures c.walk_at-right.ensures c.max.ensures refl refl
-    (λ z. elim c.else-ordered.either [ inl h ↦ h.1 | inr h ↦ cc ])
+    both-returns (both t (goal.at.returns t c).After-size) (no_test t (goal.at.returns t c).Else-eq) (c.eq-ordered.ensures ∙ same-is c.kind-kind.result Sequence) (first_need t (goal.at.returns t c).Joined-ordered) c.walk_at-left.ensures c.need_under-under-2.ensures c.walk_at-right.ensures c.max.ensures refl refl
+    (λ z. elim c.else-ordered-2.either [ inl h ↦ h.1 | inr h ↦ cc ])
