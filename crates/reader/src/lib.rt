@@ -157,7 +157,8 @@ fn open(text: &[u8], at: usize) -> Option<Opened>
 }
 
 // The forms of the dialect as nodes, of which the longest, an abort, adds 11. Each of these functions asks that 16 more can be
-// counted, and the one that they share, for the await loop, 12: more than they need, and one number for all.
+// counted, and the one that they share, for the await loop, 12: more than they need, and one number for all. A type for it would be
+// no plainer, since it is no invariant: each function adds to the count.
 
 // `halt`: a loop of pause.
 fn put_halt(sheet: &mut Sheet)

@@ -91,8 +91,9 @@ fn sign_of(byte: u8) -> Token
     }
 }
 
-// The first place from `at` on with a byte that is no blank. No twin of `word_end`: over one function with the test as a closure
-// each promise (`Skipped`, `Worded`) would need an induction of its own over what the closure said.
+// The first place from `at` on with a byte that is no blank. One function for this and `word_end`, with the test as a closure, would
+// be no plainer: each promise (`Skipped`, `Worded`) would need an induction of its own over what the closure said. The proof of
+// `position` was tried and didn't close here: its goal `returns` (`Skipped`) stayed open.
 fn skip(text: &[u8], at: usize) -> usize
     requires { at ≤ length text.now }
     ensures { Skipped text.now at result }
@@ -139,8 +140,9 @@ fn name_or_count(word: &[u8]) -> Token
     Token::Stray
 }
 
-// The token of the word that `$word` is. A `match` on byte strings proves nothing of their bytes, and a loop over a table of words
-// makes reading 1.4 times as long.
+// The token of the word that `$word` is. Tried: a `match` on byte strings, whose proof didn't close (an arm tells the length alone);
+// and a loop over a table of words, which misses a bar of speed that this meets: `read` takes less time than compare's reader of the
+// text `brackets-case` (compare/bench).
 macro_rules! match_word {
     ($word:ident; $($letters:literal => $token:expr,)* _ => $other:expr) => {{
         $(if $word == $letters.as_slice() {

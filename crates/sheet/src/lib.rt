@@ -102,7 +102,7 @@ fn is_same_part(text: &[u8], a: Part, b: Part) -> bool
     first == second
 }
 
-// The place of a name among others.
+// The place of a name among others. `position` was tried, and the proof didn't close: its goal `returns` (`FoundAs`) stayed open.
 fn find(text: &[u8], others: &[Kept], name: Part) -> Option<usize>
     ensures { FoundAs text.now others.now name result }
 {
