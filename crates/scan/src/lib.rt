@@ -140,9 +140,8 @@ fn name_or_count(word: &[u8]) -> Token
     Token::Stray
 }
 
-// The token of the word that `$word` is. Tried: a `match` on byte strings, whose proof didn't close (an arm tells the length alone);
-// and a loop over a table of words, which misses a bar of speed that this meets: `read` takes less time than compare's reader of the
-// text `brackets-case` (compare/bench).
+// The token of the word that `$word` is. It stands for a `match` on byte strings, which was tried, and whose proof didn't close: an arm
+// tells the length alone. A loop over a table of words proves, but makes reading longer, by about a half for texts of words.
 macro_rules! match_word {
     ($word:ident; $($letters:literal => $token:expr,)* _ => $other:expr) => {{
         $(if $word == $letters.as_slice() {
