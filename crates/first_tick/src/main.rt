@@ -21,9 +21,13 @@ impl Text<{ planline::MAX_LINE }> for PlanLine {
     ghost of_front = { line_of_front };
 }
 
+// One byte more than a table may have: no more is read.
+const BUFFER: usize = 2 * esterel::MAX_NODES + 1;
+
 fn main(rt: HostRuntime) -> ExitCode {
-    // One byte more than a table may have decides refusal 1, so no more is read.
-    let mut buffer = [0u8; 2 * esterel::MAX_NODES + 1];
-    let mut line = [0u8; planline::MAX_LINE];
-    program::run::<{ planline::MAX_LINE }, PlanLine>(&rt, "first_tick: standard input", "first_tick: standard output", &mut buffer, &mut line)
+    program::run::<BUFFER, { planline::MAX_LINE }, PlanLine>(
+        &rt,
+        "first_tick: standard input",
+        "first_tick: standard output",
+    )
 }

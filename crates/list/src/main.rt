@@ -20,15 +20,13 @@ impl Text<{ listing::MAX_TEXT }> for Listing {
     ghost of_front = { listing_of_front };
 }
 
+// One byte more than a table may have: no more is read.
+const BUFFER: usize = 2 * esterel::MAX_NODES + 1;
+
 fn main(rt: HostRuntime) -> ExitCode {
-    // One byte more than a table may have decides refusal 1, so no more is read.
-    let mut buffer = [0u8; 2 * esterel::MAX_NODES + 1];
-    let mut text = [0u8; listing::MAX_TEXT];
-    program::run::<{ listing::MAX_TEXT }, Listing>(
+    program::run::<BUFFER, { listing::MAX_TEXT }, Listing>(
         &rt,
         "list: standard input",
         "list: standard output",
-        &mut buffer,
-        &mut text,
     )
 }

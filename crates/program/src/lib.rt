@@ -36,18 +36,20 @@ pub fn show_input<const N: usize, T: Text<N>, R: Read>(
     Ok(T::render(&buffer[..read], text))
 }
 
-// A program that shows standard input on standard output. By these names it tells which of them could not be read or written.
-pub fn run<const N: usize, T: Text<N>>(
+// A program that shows standard input on standard output, and tells by these names which of them could not be read or written. It reads
+// at most B bytes: one more than a table may have decides refusal 1.
+pub fn run<const B: usize, const N: usize, T: Text<N>>(
     rt: &HostRuntime,
     source: &str,
     sink: &str,
-    buffer: &mut [u8],
-    text: &mut [u8; N],
 ) -> ExitCode
-    requires room { 2 * max_nodes < length buffer.old }
+    requires room { 2 * max_nodes < B }
+    requires buffer_size { B < 2 ^ 63 }
     requires size { N < 2 ^ 63 }
 {
-    match show_input::<N, T, _>(&mut rt.stdin(), buffer, text) {
+    let mut buffer = [0u8; B];
+    let mut text = [0u8; N];
+    match show_input::<N, T, _>(&mut rt.stdin(), &mut buffer, &mut text) {
         Ok(end) => match rt.stdout().write_all(&text[..end]) {
             Ok(()) => ExitCode::SUCCESS,
             Err(e) => output::tell_failure(rt, sink, Some(e)),

@@ -21,9 +21,13 @@ impl Text<{ tickline::MAX_LINE }> for TickLine {
     ghost of_front = { line_of_front };
 }
 
+// One byte more than a table may have: no more is read.
+const BUFFER: usize = 2 * esterel::MAX_NODES + 1;
+
 fn main(rt: HostRuntime) -> ExitCode {
-    // One byte more than a table may have decides refusal 1, so no more is read.
-    let mut buffer = [0u8; 2 * esterel::MAX_NODES + 1];
-    let mut line = [0u8; tickline::MAX_LINE];
-    program::run::<{ tickline::MAX_LINE }, TickLine>(&rt, "tick: standard input", "tick: standard output", &mut buffer, &mut line)
+    program::run::<BUFFER, { tickline::MAX_LINE }, TickLine>(
+        &rt,
+        "tick: standard input",
+        "tick: standard output",
+    )
 }
