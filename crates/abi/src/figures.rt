@@ -3,7 +3,6 @@
 ghost use Rattle.std.specs.Prelude.{◌≡◌, ℕ, List};
 ghost use Rattle.abi.specs.Figures.{number_figures, analysed_figures, reaction_figures, reading_figures, fault_figures, tick_figures, fetched_figures, span_figures, longest_figures, asked_figures, tried_figures};
 
-use crate::FIGURES;
 use analysis::Analysed;
 use blocks::{Fetched, Span};
 use instant::Reaction;
@@ -16,7 +15,7 @@ use witness::Tick;
 pub(crate) trait Figures {
     ghost tells: { Self → List ℕ };
 
-    fn figures(self) -> [u64; FIGURES]
+    fn figures(self) -> [u64; 3]
         ensures { result ≡ tells self };
 }
 
@@ -24,7 +23,7 @@ pub(crate) trait Figures {
 impl Figures for usize {
     ghost tells = { number_figures };
 
-    fn figures(self) -> [u64; FIGURES] {
+    fn figures(self) -> [u64; 3] {
         [self as u64, 0, 0]
     }
 }
@@ -32,7 +31,7 @@ impl Figures for usize {
 impl Figures for Analysed {
     ghost tells = { analysed_figures };
 
-    fn figures(self) -> [u64; FIGURES] {
+    fn figures(self) -> [u64; 3] {
         [self.nodes as u64, self.loops as u64, 0]
     }
 }
@@ -40,7 +39,7 @@ impl Figures for Analysed {
 impl Figures for Reaction {
     ghost tells = { reaction_figures };
 
-    fn figures(self) -> [u64; FIGURES] {
+    fn figures(self) -> [u64; 3] {
         [self.code as u64, self.taken as u64, self.entries as u64]
     }
 }
@@ -48,7 +47,7 @@ impl Figures for Reaction {
 impl Figures for Reading {
     ghost tells = { reading_figures };
 
-    fn figures(self) -> [u64; FIGURES] {
+    fn figures(self) -> [u64; 3] {
         [self.nodes as u64, self.signals as u64, 0]
     }
 }
@@ -57,14 +56,14 @@ impl Figures for Reading {
 impl Figures for Option<Fault> {
     ghost tells = { fault_figures };
 
-    fn figures(self) -> [u64; FIGURES] {
+    fn figures(self) -> [u64; 3] {
         match self {
             Some(fault) => [
                 fault.refusal.check as u64,
                 fault.refusal.node as u64,
                 fault.place as u64,
             ],
-            None => [0; FIGURES],
+            None => [0; 3],
         }
     }
 }
@@ -72,7 +71,7 @@ impl Figures for Option<Fault> {
 impl Figures for Tick {
     ghost tells = { tick_figures };
 
-    fn figures(self) -> [u64; FIGURES] {
+    fn figures(self) -> [u64; 3] {
         match self {
             Tick::Ends { node, length } => [1, node as u64, length as u64],
             Tick::Accepted { nodes, loops } => [0, nodes as u64, loops as u64],
@@ -83,7 +82,7 @@ impl Figures for Tick {
 impl Figures for Fetched {
     ghost tells = { fetched_figures };
 
-    fn figures(self) -> [u64; FIGURES] {
+    fn figures(self) -> [u64; 3] {
         [
             self.length as u64,
             u64::from(self.edition),
@@ -95,7 +94,7 @@ impl Figures for Fetched {
 impl Figures for Span {
     ghost tells = { span_figures };
 
-    fn figures(self) -> [u64; FIGURES] {
+    fn figures(self) -> [u64; 3] {
         [self.from as u64, self.length as u64, 0]
     }
 }
@@ -103,7 +102,7 @@ impl Figures for Span {
 impl Figures for Longest {
     ghost tells = { longest_figures };
 
-    fn figures(self) -> [u64; FIGURES] {
+    fn figures(self) -> [u64; 3] {
         [self.entries as u64, self.length as u64, 0]
     }
 }
@@ -111,7 +110,7 @@ impl Figures for Longest {
 impl Figures for Asked {
     ghost tells = { asked_figures };
 
-    fn figures(self) -> [u64; FIGURES] {
+    fn figures(self) -> [u64; 3] {
         [u64::from(self.answer), self.count as u64, 0]
     }
 }
@@ -119,7 +118,7 @@ impl Figures for Asked {
 impl Figures for Tried {
     ghost tells = { tried_figures };
 
-    fn figures(self) -> [u64; FIGURES] {
+    fn figures(self) -> [u64; 3] {
         [self.set, self.presents as u64, 0]
     }
 }
