@@ -3,23 +3,8 @@
 // this file only moves bytes.
 #![tactic(auto)]
 
-ghost use Rattle.planline.specs.Line.{LineWritten};
-ghost use Rattle.first_tick.specs.Whole.{line_of_front};
-
-use program::Text;
+use planline::PlanLine;
 use std::process::ExitCode;
-
-struct PlanLine;
-
-impl Text<{ planline::MAX_LINE }> for PlanLine {
-    ghost Said = { LineWritten };
-
-    fn render(table: &[u8], line: &mut [u8; planline::MAX_LINE]) -> usize {
-        planline::render_line(table, line)
-    }
-
-    ghost of_front = { line_of_front };
-}
 
 // One byte more than a table may have: no more is read.
 const BUFFER: usize = 2 * esterel::MAX_NODES + 1;

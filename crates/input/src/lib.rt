@@ -83,7 +83,8 @@ pub fn read_counted<R: Read>(reader: &mut R, buffer: &mut [u8]) -> io::Result<us
 const CASES: usize = 65536;
 
 // Runs the input's cases one after the other, until one fails: where the input ends, or cannot be read or answered. A proved loop
-// has to end, so there is a bound.
+// has to end, so there is a bound. Tried, and the proof didn't close: one function for the six mains that give their `run_next` both
+// ends of the program. That a closure over the caller's closure may always be called stayed open.
 pub fn for_each_case<F: FnMut() -> io::Result<()>>(mut run_next: F)
     requires { F.IsAlwaysCallable run_next }
     ensures { RunsCases F.step CASES run_next }

@@ -8,5 +8,4 @@ pub mod Whole
 pub mod Bound
 pub mod Example
 pub mod Fronts
-pub mod Cut
 pub mod Checks

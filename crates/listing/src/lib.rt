@@ -1,12 +1,14 @@
 // The text of a listing, or of a refusal, written into a lent buffer.
 #![tactic(auto)]
 
-ghost use Rattle.std.specs.Prelude.{◌≡◌, length};
+ghost use Rattle.std.specs.Prelude.{◌≡◌, ℕ, ◌*◌, ◌<◌, ◌≤◌, List, length, take};
+ghost use Rattle.esterel.specs.Limits.{max_nodes};
 ghost use Rattle.esterel.specs.Table.{passed, refused};
 ghost use Rattle.esterel.specs.Checks.{verdict};
 ghost use Rattle.table.specs.Program.{program_of};
 ghost use Rattle.listing.specs.Text.{text_of};
 ghost use Rattle.listing.specs.Rendering.{Rendering, WholeText};
+ghost use Rattle.listing.specs.Whole.{IsListing, listing_of_front};
 
 mod columns;
 mod writer;
@@ -82,4 +84,30 @@ pub fn render_whole(table: &[u8], text: &mut [u8; MAX_TEXT]) -> usize
     ensures { WholeText (text_of (verdict table.now)) text.old text.new result }
 {
     render(table, text).unwrap()
+}
+
+// The text that a program writes of a table, in a buffer of N bytes.
+pub trait Text<const N: usize> {
+    // Of an input and of the buffer, as it was and as it is: the text of the input stands at its front, up to `end`.
+    ghost Said: { (input t t' : List ℕ) (end : ℕ) → Type 0 };
+
+    fn render(table: &[u8], text: &mut [u8; N]) -> usize
+        ensures within { result ≤ N }
+        ensures said { Said table.now text.old text.new result };
+
+    // What fits in a buffer for more bytes than a table may have is too long a table, and has the text of the whole input.
+    ghost of_front: { (n : ℕ) (input t t' : List ℕ) (end : ℕ) → 2 * max_nodes < n → Said (take n input) t t' end → Said input t t' end };
+}
+
+// The listing, as such a text.
+pub struct WholeListing;
+
+impl Text<MAX_TEXT> for WholeListing {
+    ghost Said = { IsListing };
+
+    fn render(table: &[u8], text: &mut [u8; MAX_TEXT]) -> usize {
+        render_whole(table, text)
+    }
+
+    ghost of_front = { listing_of_front };
 }

@@ -1,3 +1,2 @@
 pub mod Rendering
-pub mod Cut
 pub mod Examples

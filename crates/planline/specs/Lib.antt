@@ -1,3 +1,5 @@
 pub mod Line
 pub mod Theorems
 pub mod Examples
+pub mod Cut
+pub mod Whole

@@ -1,26 +1,15 @@
 // What the programs do alike that read a table and write a text of it. What they read is `input`'s; this crate only moves bytes.
 #![tactic(auto)]
 
-ghost use Rattle.std.specs.Prelude.{ℕ, ◌*◌, ◌^◌, ◌<◌, ◌≤◌, List, IfOk, length, take};
+ghost use Rattle.std.specs.Prelude.{◌*◌, ◌^◌, ◌<◌, ◌≤◌, IfOk, length};
 ghost use Rattle.esterel.specs.Limits.{max_nodes};
 ghost use Rattle.program.specs.Shows.{Shows};
 
+use input::{BUFFER, for_each_case};
+use listing::Text;
 use std::io;
 use std::io::{Read, Write};
 use std::process::ExitCode;
-
-// The text that a program writes of a table, in a buffer of N bytes.
-pub trait Text<const N: usize> {
-    // Of an input and of the buffer, as it was and as it is: the text of the input stands at its front, up to `end`.
-    ghost Said: { (input t t' : List ℕ) (end : ℕ) → Type 0 };
-
-    fn render(table: &[u8], text: &mut [u8; N]) -> usize
-        ensures within { result ≤ N }
-        ensures said { Said table.now text.old text.new result };
-
-    // What fits in a buffer for more bytes than a table may have is too long a table, and has the text of the whole input.
-    ghost of_front: { (n : ℕ) (input t t' : List ℕ) (end : ℕ) → 2 * max_nodes < n → Said (take n input) t t' end → Said input t t' end };
-}
 
 // Reads the input and makes the text of all of it, also where it does not fit in the buffer.
 pub fn show_input<const N: usize, T: Text<N>, R: Read>(
@@ -56,4 +45,23 @@ pub fn run<const B: usize, const N: usize, T: Text<N>>(
         },
         Err(e) => output::tell_failure(rt, source, Some(e)),
     }
+}
+
+// Writes the text of each table that standard input holds, one after the other. The buffer is that of the cases: a longer table ends them.
+pub fn run_cases<const N: usize, T: Text<N>>(rt: &HostRuntime)
+    requires { N < 2 ^ 63 }
+{
+    let mut reader = rt.stdin();
+    let mut writer = rt.stdout();
+    for_each_case(
+        || -> io::Result<()>
+            requires { N < 2 ^ 63 }
+        {
+            let mut table = [0u8; BUFFER];
+            let length = input::read_counted(&mut reader, &mut table)?;
+            let mut text = [0u8; N];
+            let end = T::render(&table[..length], &mut text);
+            writer.write_all(&text[..end])
+        },
+    );
 }

@@ -2,19 +2,8 @@
 // bytes. The expected output comes from another program (compare/).
 #![tactic(auto)]
 
-use input::BUFFER;
-use std::io::Write;
+use listing::WholeListing;
 
-// Tried, and the proof didn't close: one function over the renderer for tables, ticks and plans. No proof is made of a bound `FnOnce` that names a
-// const parameter, here the buffer's size.
 fn main(rt: HostRuntime) {
-    let mut reader = rt.stdin();
-    let mut writer = rt.stdout();
-    input::for_each_case(|| {
-        let mut table = [0u8; BUFFER];
-        let length = input::read_counted(&mut reader, &mut table)?;
-        let mut text = [0u8; listing::MAX_TEXT];
-        let end = listing::render_whole(&table[..length], &mut text);
-        writer.write_all(&text[..end])
-    });
+    program::run_cases::<{ listing::MAX_TEXT }, WholeListing>(&rt);
 }

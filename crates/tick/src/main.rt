@@ -3,23 +3,8 @@
 // `input`'s, what it prints `tickline`'s; this file only moves bytes.
 #![tactic(auto)]
 
-ghost use Rattle.tickline.specs.Written.{LineWritten};
-ghost use Rattle.tick.specs.Whole.{line_of_front};
-
-use program::Text;
 use std::process::ExitCode;
-
-struct TickLine;
-
-impl Text<{ tickline::MAX_LINE }> for TickLine {
-    ghost Said = { LineWritten };
-
-    fn render(table: &[u8], line: &mut [u8; tickline::MAX_LINE]) -> usize {
-        tickline::render_line(table, line)
-    }
-
-    ghost of_front = { line_of_front };
-}
+use tickline::TickLine;
 
 // One byte more than a table may have: no more is read.
 const BUFFER: usize = 2 * esterel::MAX_NODES + 1;

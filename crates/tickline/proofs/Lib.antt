@@ -1,5 +1,4 @@
 pub mod Lines
 pub mod Writing
 pub mod Rendering
-pub mod Cut
 pub mod Examples

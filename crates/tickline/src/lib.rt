@@ -5,8 +5,9 @@
 ghost use Rattle.listing.specs.Writer.{HasRoom, Puts};
 ghost use Rattle.tickline.specs.Line.{tick_text};
 ghost use Rattle.tickline.specs.Written.{LineWritten, answers_text};
+ghost use Rattle.tickline.specs.Whole.{line_of_front};
 
-use listing::Writer;
+use listing::{Text, Writer};
 use witness::Tick;
 
 // No line is longer: 4 digits for the node, 511 answers, the line feed.
@@ -44,4 +45,17 @@ pub fn render_line(table: &[u8], text: &mut [u8; MAX_LINE]) -> usize
         Err(refusal) => to.refusal(refusal.check as u8, refusal.node),
     }
     to.written()
+}
+
+// The line, as the text that a program writes.
+pub struct TickLine;
+
+impl Text<MAX_LINE> for TickLine {
+    ghost Said = { LineWritten };
+
+    fn render(table: &[u8], line: &mut [u8; MAX_LINE]) -> usize {
+        render_line(table, line)
+    }
+
+    ghost of_front = { line_of_front };
 }

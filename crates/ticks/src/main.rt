@@ -2,19 +2,8 @@
 // and its bytes. For each the line of its tick is written. The expected output comes from another program (compare/).
 #![tactic(auto)]
 
-use input::BUFFER;
-use std::io::Write;
+use tickline::TickLine;
 
-// Tried, and the proof didn't close: one function over the renderer for tables, ticks and plans. No proof is made of a bound `FnOnce` that names a
-// const parameter, here the buffer's size.
 fn main(rt: HostRuntime) {
-    let mut reader = rt.stdin();
-    let mut writer = rt.stdout();
-    input::for_each_case(|| {
-        let mut table = [0u8; BUFFER];
-        let length = input::read_counted(&mut reader, &mut table)?;
-        let mut line = [0u8; tickline::MAX_LINE];
-        let end = tickline::render_line(&table[..length], &mut line);
-        writer.write_all(&line[..end])
-    });
+    program::run_cases::<{ tickline::MAX_LINE }, TickLine>(&rt);
 }

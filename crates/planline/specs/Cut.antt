@@ -4,7 +4,7 @@ use mathlib.Core.List.{List}
 use Prim.Native.Nat.{ℕ, ◌*◌, ◌<◌}
 use lib.ListN.{take}
 use Rattle.esterel.specs.Limits.{max_nodes}
-use Rattle.listing.proofs.Cut.{verdict_of_front}
+use Rattle.listing.specs.Cut.{verdict_of_front}
 use Rattle.planline.specs.Line.{IsLine, plans, refuses, LineWritten}
 
 module _ (room : ℕ) (t : List ℕ) (h : 2 * max_nodes < room) where

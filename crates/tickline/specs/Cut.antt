@@ -13,7 +13,7 @@ use Rattle.esterel.specs.Table.{refused}
 use Rattle.esterel.specs.Checks.{verdict}
 use Rattle.esterel.proofs.Refusals.{other-number}
 use Rattle.listing.specs.Text.{text_of}
-use Rattle.listing.proofs.Cut.{too_long, verdict_of_front}
+use Rattle.listing.specs.Cut.{too_long, verdict_of_front}
 use Rattle.tickline.specs.Line.{first_line, IsLine, shows, lists}
 use Rattle.tickline.specs.Written.{LineWritten}
 
