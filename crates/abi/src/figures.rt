@@ -1,4 +1,5 @@
-// The three figures that the answer of each call tells.
+// The three figures that the answer of each call tells. The 3 is written out: the must-fail edit `short_answer_accepted` changes FIGURES
+// alone, and could not be compiled if these arrays went with it.
 
 ghost use Rattle.std.specs.Prelude.{◌≡◌, ℕ, List};
 ghost use Rattle.abi.specs.Figures.{number_figures, analysed_figures, reaction_figures, reading_figures, fault_figures, tick_figures, fetched_figures, span_figures, longest_figures, asked_figures, tried_figures};

@@ -34,7 +34,8 @@ fn count_presents(tree: &Tree, first: usize, node: usize) -> usize
         .count()
 }
 
-// The answers of a list by its number: they are the digits of the number in base 2, the lowest first.
+// The answers of a list by its number: they are the digits of the number in base 2, the lowest first. `array::from_fn` was tried, and
+// its proof didn't close: what the closure answers is told one by one, and the search gives up at twelve.
 fn answers_of(number: usize) -> [u8; ANSWERS]
     requires { number < 2 ^ trial_answers }
     ensures { result ≡ list_at trial_answers number }
