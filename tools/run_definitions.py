@@ -46,6 +46,7 @@ use lib.ListN.{length, take, drop}
 use lib.Dec.{T, eqb, ltb, eqb→eq, eqb_refl}
 use Rattle.esterel.specs.Limits.{signals as max_signals}
 use Rattle.esterel.specs.Codes.{bit, word}
+use Rattle.esterel.specs.Refusal.{Reply, yields, rejects}
 use Rattle.esterel.specs.Statement.{Stmt, size, nodes, loop_depth}
 use Rattle.esterel.specs.Table.{Verdict, passed, refused, read, check_length, postfix}
 use Rattle.esterel.specs.Checks.{verdict, listing, Line, planned}
@@ -66,10 +67,9 @@ use Rattle.blocks.specs.Fetching as F
 use Rattle.tied.specs.Calls as N
 use Rattle.question.specs.Calls as Q
 use Rattle.question.specs.declared.Asked.{Asked}
-use Rattle.question.specs.declared.Asked.TheVariants.{Known, Refused}
 use Rattle.trial.specs.Trials.{tried}
 use Rattle.trial.specs.Calls as T
-use Rattle.trial.specs.declared.Tried as TriedBy
+use Rattle.trial.specs.declared.Tried.{Tried}
 use Rattle.instant.specs.Calls as I
 
 pub data Shown : Type 0 where
@@ -318,9 +318,9 @@ abbrev pub narrow_of : (bytes ties old : List ℕ) → Shown
 narrow_of bytes ties old = narrowed_as ties old (N.verdict_for bytes ties old)
 
 -- F-12
-abbrev pub asked_as : Asked → Shown
-asked_as (Known answer count) = known (bit answer) count
-asked_as (Refused number node) = refusal number node
+abbrev pub asked_as : Reply Asked → Shown
+asked_as (yields found) = known (bit found.answer) found.count
+asked_as (rejects number node) = refusal number node
 
 abbrev pub ask_of : (bytes : List ℕ) (node code : ℕ) → Shown
 ask_of bytes node code = asked_as (Q.asked_of (verdict bytes) node code)
@@ -329,10 +329,10 @@ ask_of bytes node code = asked_as (Q.asked_of (verdict bytes) node code)
 abbrev pub gathered_at : (first : ℕ) → Stmt → Shown
 gathered_at first q = gathered (word (tried (presents q) first q)) (presents q)
 
-abbrev pub tried_as : Verdict → ℕ → TriedBy.Tried → Shown
-tried_as v node (TriedBy.TheVariants.Refused number at) = refusal number at
-tried_as (passed p) node (TriedBy.TheVariants.Gathered set presents) = gathered_at (suc node - size (statement_at (nodes p) node)) (statement_at (nodes p) node)
-tried_as (refused number at) node (TriedBy.TheVariants.Gathered set presents) = no_list
+abbrev pub tried_as : Verdict → ℕ → Reply Tried → Shown
+tried_as v node (rejects number at) = refusal number at
+tried_as (passed p) node (yields found) = gathered_at (suc node - size (statement_at (nodes p) node)) (statement_at (nodes p) node)
+tried_as (refused number at) node (yields found) = no_list
 
 abbrev pub trial_of : (bytes : List ℕ) (node : ℕ) → Shown
 trial_of bytes node = tried_as (verdict bytes) node (T.tried_of (verdict bytes) node)
@@ -803,8 +803,8 @@ def control_theorems():
 # ---- the temporary repository
 
 def types_only(source):
-    """The types of a source file, which definitions may cite, without its functions, which would want proofs."""
-    items = r"^(?:pub )?(?:(?:enum|struct) [^\n]*(?:;|\}|\{\n.*?^\})|(?:mod|const|type|use) .*?;)\n"
+    """The types of a source file, which definitions may cite, with what their ghost fields cite, and without its functions, which would want proofs."""
+    items = r"^(?:pub )?(?:(?:enum|struct) [^\n]*(?:;|\}|\{\n.*?^\})|(?:mod|const|type|(?:ghost )?use) .*?;)\n"
     return "".join(re.findall(items, source, re.M | re.S))
 
 def copy_crates(repo, whole):
