@@ -351,7 +351,7 @@ fn close_level(levels: &mut Sheet, mark: Mark)
 fn is_lost(text: &[u8], levels: &Sheet, name: Part) -> bool
     ensures { (ls : List Name) → InText text.now name → Levels text.now levels.now ls → result ≡ not (has ls (name_at text.now name)) }
 {
-    levels.level_of(text, name).is_none()
+    levels.find_level(text, name).is_none()
 }
 
 // At a name.

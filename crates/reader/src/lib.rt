@@ -344,7 +344,7 @@ fn close_then(text: &[u8], at: usize, name: Part, sheet: &mut Sheet) -> Option<u
     ensures { (depth : ℕ) → InText text.now name → RestRead (then_branch (name_at text.now name)) text.now at depth sheet.old sheet.new result }
 {
     let end = scan::past_mark(text, at, Mark::End)?;
-    sheet.put(Kind::Nothing, 0);
+    sheet.put(Kind::Nothing, 0); // the else branch that is missing
     sheet.put_named(text, Kind::Present, name);
     Some(end)
 }

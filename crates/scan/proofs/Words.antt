@@ -1,14 +1,13 @@
--- What the library's `==` says of two byte strings.
-use Rattle.std.proofs.Common.{◌≡◌, ℕ, Bool, false, ◌&&◌, nat_eq, List, [], ◌∷◌, refl, sym, ap, ◌∙◌}
-use Rattle.std.specs.Cmp.Lexicographic.{pointwise}
+-- When two byte strings are the same.
+use Rattle.std.proofs.Common.{◌≡◌, ℕ, suc, Bool, true, false, ◌&&◌, eqb, List, [], ◌∷◌, length, refl, ap}
 use Rattle.grammar.specs.Tokens.{same_bytes}
 
-pub same-pairs : (a b : List ℕ) → pointwise nat_eq a b ≡ same_bytes a b
-same-pairs [] [] = refl
-same-pairs [] (y ∷ b) = refl
-same-pairs (x ∷ a) [] = refl
-same-pairs (x ∷ a) (y ∷ b) = ap (λ t. nat_eq x y && t) (same-pairs a b)
-
--- a word is not this one
-pub unlike : (w : List ℕ) {l m : List ℕ} {t : Bool} → m ≡ l → t ≡ pointwise nat_eq w m → t ≡ false → same_bytes w l ≡ false
-unlike w {m = m} e p q = rw (← e) (sym (same-pairs w m) ∙ sym p ∙ q)
+pub same_lengths : (a b : List ℕ) → (length a ≡ length b → ⊥) → same_bytes a b ≡ false
+same_lengths [] [] h = absurd (h refl)
+same_lengths [] (b ∷ v) h = refl
+same_lengths (a ∷ w) [] h = refl
+same_lengths (a ∷ w) (b ∷ v) h = rw (same_lengths w v (λ e. h (ap suc e))) (right-false (eqb a b))
+  where
+    right-false : (t : Bool) → (t && false) ≡ false
+    right-false true = refl
+    right-false false = refl

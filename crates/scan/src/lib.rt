@@ -140,11 +140,27 @@ fn name_or_count(word: &[u8]) -> Token
     Token::Stray
 }
 
+// Whether two byte strings are the same. The library's `==` was tried: it takes a call for each word of the language that is as long, so
+// that a text of short words takes a quarter more instructions to read.
+pub fn is_same(a: &[u8], b: &[u8]) -> bool
+    ensures { result ≡ G.same_bytes a.now b.now }
+{
+    if a.len() != b.len() {
+        return false;
+    }
+    for i in 0..a.len() {
+        if a[i] != b[i] {
+            return false;
+        }
+    }
+    true
+}
+
 // The token of the word that `$word` is. It stands for a `match` on byte strings, which was tried, and whose proof didn't close: an arm
 // tells the length alone. A loop over a table of words proves, but makes reading longer, by about a half for texts of words.
 macro_rules! match_word {
     ($word:ident; $($letters:literal => $token:expr,)* _ => $other:expr) => {{
-        $(if $word == $letters.as_slice() {
+        $(if is_same($word, $letters) {
             return $token;
         })*
         $other

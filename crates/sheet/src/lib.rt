@@ -208,23 +208,32 @@ impl Sheet {
     }
 
     // The level of an exit, if its trap is around.
-    pub fn level_of(&self, text: &[u8], name: Part) -> Option<u16>
+    pub fn find_level(&self, text: &[u8], name: Part) -> Option<u16>
         ensures { (ts : List Name) (g : P.Progress) → InText text.now name → Filled text.now self.now ts g → result ≡ level_in ts (name_at text.now name) }
     {
         let level = find(text, self.around(), name)?;
         Some(level as u16)
     }
 
-    // The node of an exit. One without a trap is marked, and its level is the number of the traps around.
+    // The level of an exit. One without a trap is marked, and its level is the number of the traps around.
+    pub fn level_of(&mut self, text: &[u8], name: Part) -> u16
+        ensures nodes { self.new.nodes ≡ self.old.nodes }
+        ensures level { (ts : List Name) (g : P.Progress) → InText text.now name → Filled text.now self.old ts g → (result ≡ place ts (name_at text.now name)) × Filled text.now self.new ts (P.leave ts (name_at text.now name) g) }
+    {
+        let level = self.find_level(text, name);
+        let field = level.unwrap_or(self.around().len() as u16);
+        self.is_untrapped |= level.is_none();
+        field
+    }
+
+    // The node of an exit.
     pub fn put_exit(&mut self, text: &[u8], name: Part)
         requires { self.old.nodes ≤ max_counted }
         ensures nodes { self.new.nodes ≡ self.old.nodes + 1 }
         ensures adds { InText text.now name → Adds text.now self.old self.new (λ ts g. P.node 4 (place ts (name_at text.now name)) (P.leave ts (name_at text.now name) g)) }
     {
         let level = self.level_of(text, name);
-        let field = level.unwrap_or(self.around().len() as u16);
-        self.is_untrapped |= level.is_none();
-        self.put(Kind::Exit, field);
+        self.put(Kind::Exit, level);
     }
 
     // A trap's name comes around what is read next.
