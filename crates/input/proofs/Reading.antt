@@ -8,15 +8,17 @@ use lib.Seq.{take-take, length-take-le, take_all}
 use borrow.Rule.Slice.PartMut.{put_mid, take_put}
 use Rattle.std.specs.Prelude.{Result, Ok, Err}
 use Rattle.std.specs.declared.io.Error.{Error}
-use Rattle.input.specs.Reads.{Within, step_of, On, Over, ReadBehind, Reads, full, over, on, OfInput}
+use Rattle.std.specs.Io.{ReadsAtMost}
+use Rattle.input.specs.Reads.{Within, step_of, ReadBehind, Reads, full, over, on, OfInput}
+use Rattle.input.specs.declared.Progress.TheVariants.{On, Over}
 
 module _ {E : Type 0} where
   -- ---- one read
 
-  -- some bytes came
-  pub step-on : (done n : ℕ) → (n ≡ 0 → ⊥) → On (done + n) ≡ step_of {E = E} done (Ok n)
-  step-on done zero h = absurd (h refl)
-  step-on done (suc n) h = refl
+  -- a read answers no more bytes than its buffer has
+  pub read-within : (r : Result ℕ E) (buf : List ℕ) → ReadsAtMost r buf → Within r (length buf)
+  read-within (Ok n) buf h = h.0
+  read-within (Err e) buf h = tt
 
   -- the place behind them is in the room
   pub on-within : (done room : ℕ) (piece : Result ℕ E) {next : ℕ} → step_of done piece ≡ On next → Within piece room → (done < next) × (next ≤ done + room)

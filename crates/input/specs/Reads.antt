@@ -1,16 +1,13 @@
 -- What reading standard input answers, and what it does to the lent buffer.
 use Rattle.std.specs.Prelude.{ℕ, zero, suc, ◌+◌, ◌-◌, ◌≤◌, ◌<◌, ◌≡◌, Bool, false, List, Result, Ok, Err, is_ok, eqb, length, take}
 use Rattle.std.specs.declared.io.Error.{Error}
+use Rattle.input.specs.declared.Progress.{Progress}
+use Rattle.input.specs.declared.Progress.TheVariants.{On, Over}
 
 -- no more bytes came than there was room for
 abbrev pub Within : {E : Type 0} → Result ℕ E → ℕ → Type 0
 Within (Ok n) room = n ≤ room
 Within (Err e) room = Unit {0}
-
--- where reading stands after a read: behind so many bytes, or it is over and answers this
-pub data Progress (E : Type 0) : Type 0 where
-  On : (done : ℕ) → Progress E
-  Over : (answer : Result ℕ E) → Progress E
 
 -- what a read makes of the bytes done: behind those that came it goes on; where none came, the input has ended; a failed read fails, with its
 -- error

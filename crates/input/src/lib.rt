@@ -3,8 +3,8 @@
 // `read` does not. So the gate runs the programs on inputs of many lengths, whole and in pieces (tools/test_input.sh).
 #![tactic(auto)]
 
-ghost use Rattle.std.specs.Prelude.{◌≡◌, ◌+◌, ◌*◌, ◌<◌, ◌≤◌, length, slice_index};
-ghost use Rattle.input.specs.Reads.{Within, Reads, Fills};
+ghost use Rattle.std.specs.Prelude.{◌≡◌, ◌+◌, ◌*◌, ◌^◌, ◌<◌, ◌≤◌, IfOk, length, slice_index};
+ghost use Rattle.input.specs.Reads.{Within, step_of, Reads, Fills};
 ghost use Rattle.input.specs.Cases.{RunsCases};
 
 use std::io;
@@ -15,17 +15,36 @@ pub const BUFFER: usize = 4096;
 
 pub const LARGE_BUFFER: usize = 65536;
 
+// Where reading stands after a read: behind so many bytes, or it is over and answers this.
+#[derive(Drop)]
+enum Progress<E> {
+    On { done: usize },
+    Over { answer: Result<usize, E> },
+}
+
+// What a read makes of the bytes done: where none came, the input has ended. It stands by itself for its clause: that of `read` asks only
+// that some read's answer has led to its own.
+fn step(done: usize, piece: io::Result<usize>) -> Progress<io::Error>
+    requires { IfOk piece (λ came. done + came < 2 ^ 64) }
+    ensures { result ≡ step_of done piece }
+{
+    match piece {
+        Ok(0) => Progress::Over { answer: Ok(done) },
+        Ok(came) => Progress::On { done: done + came },
+        Err(e) => Progress::Over { answer: Err(e) },
+    }
+}
+
 // Reads until the buffer is full or the input ends, in as many pieces as it comes.
 pub fn read<R: Read>(reader: &mut R, buffer: &mut [u8]) -> io::Result<usize>
     ensures { Reads 0 buffer.old buffer.new result }
 {
     let mut done = 0;
     while done < buffer.len() {
-        let came = reader.read(&mut buffer[done..])?;
-        if came == 0 {
-            return Ok(done);
+        match step(done, reader.read(&mut buffer[done..])) {
+            Progress::On { done: behind } => done = behind,
+            Progress::Over { answer } => return answer,
         }
-        done += came;
     }
     Ok(done)
 }

@@ -38,7 +38,7 @@ fn react(
 
 // Writes the emission buffer: that it is as it was, or each byte that is not 0, behind its place.
 fn write_emissions<W: Write>(writer: &mut W, bytes: &[u8], first: u8) -> io::Result<()> {
-    if output::is_filled(bytes, 0, |at| output::byte_before(at, first)) {
+    if output::is_filled(bytes, first) {
         return write!(writer, " =");
     }
     for (at, byte) in bytes.iter().enumerate() {
@@ -57,7 +57,10 @@ fn write_answer<W: Write>(writer: &mut W, answer: Result<Reaction, Refusal>) -> 
                 taken,
                 entries,
             },
-        ) => write!(writer, "closed {code} {taken} {entries}"),
+        ) => {
+            writer.write_all(b"closed")?;
+            write!(writer, " {code} {taken} {entries}")
+        }
         Err(refusal) => output::write_refusal(writer, refusal.check as u8, refusal.node),
     }
 }
@@ -75,7 +78,7 @@ fn run_call<R: Read, W: Write>(
     input::read_full(reader, table)?;
     input::read_full(reader, answers)?;
     input::read_full(reader, state)?;
-    output::fill(emissions, |at| output::byte_before(at, head[9]));
+    output::fill(emissions, head[9]);
     let answer = react(head[0].into(), table, answers, state, emissions);
     write_answer(writer, answer)?;
     output::write_hex(writer, state)?;

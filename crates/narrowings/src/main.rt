@@ -18,7 +18,8 @@ fn set_before(at: usize) -> u64 {
 
 // The number of nodes, and the sets of so many.
 fn write_done<W: Write>(writer: &mut W, sets: &[u64], nodes: usize) -> io::Result<()> {
-    write!(writer, "done {nodes}")?;
+    writer.write_all(b"done")?;
+    write!(writer, " {nodes}")?;
     for set in sets.iter().take(nodes) {
         write!(writer, " {set}")?;
     }
@@ -35,7 +36,7 @@ fn run_case<R: Read, W: Write>(
 ) -> io::Result<()> {
     input::read_full(reader, table)?;
     input::read_full(reader, ties)?;
-    output::fill(sets, |at| set_before(at));
+    output::fill_with(sets, |at| set_before(at));
     let written = match tied::narrow(table, ties, sets) {
         Ok(nodes) => {
             write_done(writer, sets, nodes)?;
@@ -48,7 +49,7 @@ fn run_case<R: Read, W: Write>(
     };
     output::end_line(
         writer,
-        output::is_filled(sets, written, |at| set_before(at)),
+        output::is_filled_with(sets, written, |at| set_before(at)),
     )
 }
 

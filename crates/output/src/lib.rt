@@ -18,7 +18,7 @@ pub fn byte_before(at: usize, first: u8) -> u8
 }
 
 // Gives each entry of a buffer the value that it has before the call.
-pub fn fill<T: Copy, F: Fn(usize) -> T>(buffer: &mut [T], before: F)
+pub fn fill_with<T: Copy, F: Fn(usize) -> T>(buffer: &mut [T], before: F)
     requires { F.IsAlwaysCallable before }
 {
     for (at, entry) in buffer.iter_mut().enumerate() {
@@ -26,8 +26,8 @@ pub fn fill<T: Copy, F: Fn(usize) -> T>(buffer: &mut [T], before: F)
     }
 }
 
-// Whether the entries from a place on are as `fill` left them.
-pub fn is_filled<T: Copy + PartialEq, F: Fn(usize) -> T>(
+// Whether the entries from a place on are as `fill_with` left them.
+pub fn is_filled_with<T: Copy + PartialEq, F: Fn(usize) -> T>(
     buffer: &[T],
     from: usize,
     before: F,
@@ -39,6 +39,24 @@ pub fn is_filled<T: Copy + PartialEq, F: Fn(usize) -> T>(
         .enumerate()
         .skip(from)
         .all(|(at, entry)| *entry == before(at))
+}
+
+// Fills a buffer of bytes, from this one on.
+pub fn fill(bytes: &mut [u8], first: u8) {
+    fill_with(bytes, |at| byte_before(at, first));
+}
+
+// Whether the buffer is as `fill` left it. `is_filled_with` was tried: it looks at one byte at a time, which takes longer the longer the
+// buffer, up to five times at 65,535 bytes.
+pub fn is_filled(bytes: &[u8], first: u8) -> bool {
+    let mut byte = first;
+    for found in bytes {
+        if *found != byte {
+            return false;
+        }
+        byte = byte.wrapping_add(1);
+    }
+    true
 }
 
 // The end of a line that tells whether what was lent is as it was.
@@ -84,7 +102,8 @@ pub fn write_hex<W: Write>(writer: &mut W, bytes: &[u8]) -> io::Result<()> {
 
 // The word and the two figures of a refusal, of any number.
 pub fn write_refusal<W: Write>(writer: &mut W, number: u8, node: usize) -> io::Result<()> {
-    write!(writer, "refused {number} {node}")
+    writer.write_all(b"refused")?;
+    write!(writer, " {number} {node}")
 }
 
 // Says on standard error what could not be done, and the system's reason, and answers the status that the program ends with.

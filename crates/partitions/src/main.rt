@@ -34,8 +34,8 @@ fn run_fetch<W: Write>(
     first: u8,
     table: &mut [u8],
 ) -> io::Result<()> {
-    output::fill(table, |at| output::byte_before(at, first));
-    let written = match blocks::fetch(file, program, table) {
+    output::fill(table, first);
+    match blocks::fetch(file, program, table) {
         Ok(
             Fetched {
                 length,
@@ -43,17 +43,18 @@ fn run_fetch<W: Write>(
                 parts,
             },
         ) => {
-            write!(writer, "done {length} {edition} {parts}")?;
+            writer.write_all(b"done")?;
+            write!(writer, " {length} {edition} {parts}")?;
             output::write_hex(writer, &table[..length])?;
-            length
+            let past = &table[length..];
+            let is_same = output::is_filled(past, output::byte_before(length, first));
+            output::end_line(writer, is_same)
         }
         Err(refusal) => {
             output::write_refusal(writer, refusal.check as u8, refusal.node)?;
-            0
+            output::end_line(writer, output::is_filled(table, first))
         }
-    };
-    let is_same = output::is_filled(table, written, |at| output::byte_before(at, first));
-    output::end_line(writer, is_same)
+    }
 }
 
 fn run_part<W: Write>(
@@ -64,7 +65,8 @@ fn run_part<W: Write>(
     number: u8,
 ) -> io::Result<()> {
     let span = blocks::locate(file, program, edition, number);
-    write!(writer, "part {} {}", span.from, span.length)?;
+    writer.write_all(b"part")?;
+    write!(writer, " {} {}", span.from, span.length)?;
     output::write_hex(writer, blocks::part(file, program, edition, number))?;
     writeln!(writer)
 }

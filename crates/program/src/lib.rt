@@ -25,20 +25,25 @@ pub fn show_input<const N: usize, T: Text<N>, R: Read>(
     Ok(T::render(&buffer[..read], text))
 }
 
-// A program that shows standard input on standard output, and tells by these names which of them could not be read or written. It reads
-// at most B bytes: one more than a table may have decides refusal 1.
-pub fn run<const B: usize, const N: usize, T: Text<N>>(
+// A program that shows standard input, of which it reads at most B bytes, in at most N. What it shows its own crate says, in the clauses of
+// its method: here no clause could, for `run` runs them all.
+pub trait Program<const B: usize, const N: usize> {
+    fn show<R: Read>(reader: &mut R, buffer: &mut [u8; B], text: &mut [u8; N]) -> io::Result<usize>
+        ensures within { IfOk result (λ end. end ≤ N) };
+}
+
+// Runs a program, which shows standard input on standard output, and tells by these names which of them could not be read or written.
+pub fn run<const B: usize, const N: usize, P: Program<B, N>>(
     rt: &HostRuntime,
     source: &str,
     sink: &str,
 ) -> ExitCode
-    requires room { 2 * max_nodes < B }
     requires buffer_size { B < 2 ^ 63 }
     requires size { N < 2 ^ 63 }
 {
     let mut buffer = [0u8; B];
     let mut text = [0u8; N];
-    match show_input::<N, T, _>(&mut rt.stdin(), &mut buffer, &mut text) {
+    match P::show(&mut rt.stdin(), &mut buffer, &mut text) {
         Ok(end) => match rt.stdout().write_all(&text[..end]) {
             Ok(()) => ExitCode::SUCCESS,
             Err(e) => output::tell_failure(rt, sink, Some(e)),
@@ -47,21 +52,28 @@ pub fn run<const B: usize, const N: usize, T: Text<N>>(
     }
 }
 
-// Writes the text of each table that standard input holds, one after the other. The buffer is that of the cases: a longer table ends them.
+// Writes the text of the next table.
+fn run_case<const N: usize, T: Text<N>, R: Read, W: Write>(
+    reader: &mut R,
+    writer: &mut W,
+    table: &mut [u8; BUFFER],
+    text: &mut [u8; N],
+) -> io::Result<()> {
+    let length = input::read_counted(reader, table)?;
+    let end = T::render(&table[..length], text);
+    writer.write_all(&text[..end])
+}
+
+// Writes the text of each table that standard input holds, one after the other. The buffers are lent to each case as the case before left
+// them, for no byte of them is read that the case has not written. A table that is longer than its buffer ends the cases.
 pub fn run_cases<const N: usize, T: Text<N>>(rt: &HostRuntime)
     requires { N < 2 ^ 63 }
 {
     let mut reader = rt.stdin();
     let mut writer = rt.stdout();
-    for_each_case(
-        || -> io::Result<()>
-            requires { N < 2 ^ 63 }
-        {
-            let mut table = [0u8; BUFFER];
-            let length = input::read_counted(&mut reader, &mut table)?;
-            let mut text = [0u8; N];
-            let end = T::render(&table[..length], &mut text);
-            writer.write_all(&text[..end])
-        },
-    );
+    let mut table = [0u8; BUFFER];
+    let mut text = [0u8; N];
+    for_each_case(|| -> io::Result<()> {
+        run_case::<N, T, _, _>(&mut reader, &mut writer, &mut table, &mut text)
+    });
 }

@@ -19,7 +19,10 @@ fn run_case<R: Read, W: Write>(
 ) -> io::Result<()> {
     input::read_full(reader, table)?;
     match question::ask(table, node, code) {
-        Ok(asked) => writeln!(writer, "known {} {}", u8::from(asked.answer), asked.count),
+        Ok(asked) => {
+            writer.write_all(b"known")?;
+            writeln!(writer, " {} {}", u8::from(asked.answer), asked.count)
+        }
         Err(refusal) => {
             output::write_refusal(writer, refusal.check as u8, refusal.node)?;
             writeln!(writer)

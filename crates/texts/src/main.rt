@@ -13,7 +13,8 @@ fn read_one<W: Write>(writer: &mut W, text: &[u8]) -> io::Result<()> {
     let mut table = [0u8; 2 * esterel::MAX_NODES];
     match text::read(text, &mut table) {
         Ok(Reading { nodes, signals }) => {
-            write!(writer, "ok {nodes} {signals}")?;
+            writer.write_all(b"ok")?;
+            write!(writer, " {nodes} {signals}")?;
             for byte in &table[..2 * nodes] {
                 write!(writer, " {byte}")?;
             }

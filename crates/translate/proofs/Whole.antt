@@ -2,6 +2,8 @@
 use Prim.Native.Nat.{ℕ, ◌*◌, ◌≤◌, ◌<◌}
 use mathlib.Core.List.{List}
 use lib.ListN.{length, take}
+use mathlib.Core.Path.{◌≡◌}
+use native.Mathlib.Omega.{arith}
 use Rattle.grammar.specs.Limits.{max_source}
 use Rattle.input.specs.Reads.{Reads}
 use Rattle.std.specs.Prelude.{Ok}
@@ -18,10 +20,10 @@ module _ {b b' t t' : List ℕ} where
   whole r room came = of-front max_source room came (λ n input h. read_of_front n input h t t' r)
 
   -- the table lies within its buffer
-  pub table-within : (nodes signals : ℕ) → ReadsInput b b' t t' (reads nodes signals) → (nodes ≤ 1024) × (2 * nodes ≤ length t')
-  table-within nodes signals x =
+  pub table-within : (end nodes signals : ℕ) → end ≡ 2 * nodes → ReadsInput b b' t t' (reads nodes signals) → end ≤ length t'
+  table-within end nodes signals e x =
       let w = of_read.done (take x.read b') t t' nodes signals (I.of_read x) in
-      (w.fits, written-long (take x.read b') t t' nodes signals w)
+      omega (arith, written-long (take x.read b') t t' nodes signals w)
 
   -- the place lies within the length of a text, and so in the buffer
   pub place-within : (number node place : ℕ) → ReadsInput b b' t t' (refuses number node place) → place ≤ max_source

@@ -12,19 +12,23 @@ use esterel::Check;
 use std::io;
 use std::io::{Read, Write};
 use std::process::ExitCode;
-use text::{Fault, Reading};
+use text::Fault;
 
-// Reads the input and translates all of it, also where it does not fit in the buffer: what fits is too long a text then, too.
+// Reads the input and translates all of it, also where it does not fit in the buffer: what fits is too long a text then, too. It
+// answers how many bytes the table has.
 fn translate_input<R: Read>(
     reader: &mut R,
     buffer: &mut [u8],
     table: &mut [u8; 2 * esterel::MAX_NODES],
-) -> io::Result<Result<Reading, Fault>>
+) -> io::Result<Result<usize, Fault>>
     requires { max_source < length buffer.old }
     ensures { Translates buffer.old buffer.new table.old table.new result }
 {
     let length = input::read(reader, buffer)?;
-    Ok(text::read(&buffer[..length], table))
+    match text::read(&buffer[..length], table) {
+        Ok(reading) => Ok(Ok(2 * reading.nodes)),
+        Err(fault) => Ok(Err(fault)),
+    }
 }
 
 // More bytes than the line of any refusal has.
@@ -63,12 +67,12 @@ fn main(rt: HostRuntime) -> ExitCode {
     // One byte more than a text may have decides refusal 14, so no more is read.
     let mut buffer = [0u8; grammar::MAX_SOURCE + 1];
     let mut table = [0u8; 2 * esterel::MAX_NODES];
-    let read = match translate_input(&mut rt.stdin(), &mut buffer, &mut table) {
-        Ok(read) => read,
+    let translated = match translate_input(&mut rt.stdin(), &mut buffer, &mut table) {
+        Ok(translated) => translated,
         Err(e) => return output::tell_failure(&rt, "translate: standard input", Some(e)),
     };
-    match read {
-        Ok(reading) => match rt.stdout().write_all(&table[..2 * reading.nodes]) {
+    match translated {
+        Ok(end) => match rt.stdout().write_all(&table[..end]) {
             Ok(()) => ExitCode::SUCCESS,
             Err(e) => output::tell_failure(&rt, "translate: standard output", Some(e)),
         },

@@ -18,7 +18,10 @@ fn run_case<R: Read, W: Write>(
 ) -> io::Result<()> {
     input::read_full(reader, table)?;
     match trial::trial(table, node) {
-        Ok(tried) => writeln!(writer, "tried {} {}", tried.set, tried.presents),
+        Ok(tried) => {
+            writer.write_all(b"tried")?;
+            writeln!(writer, " {} {}", tried.set, tried.presents)
+        }
         Err(refusal) => {
             output::write_refusal(writer, refusal.check as u8, refusal.node)?;
             writeln!(writer)

@@ -16,3 +16,9 @@ slice_bounds-write_hex-end g c = let w = within c.in-Ok.ensures in omega (arith,
 
 pub slice_bounds-write_hex-end-in-Ok : goal.slice_bounds-write_hex-end-in-Ok
 slice_bounds-write_hex-end-in-Ok g c = let w = within c.in-Ok.ensures in sym (length-take-le _ _ (omega (arith, w.0, w.1, c.fetch.auto.table)))
+
+pub slice_bounds-past-count : goal.slice_bounds-past-count
+slice_bounds-past-count g c = let w = within c.in-Ok.ensures in omega (arith, w.0, w.1, c.fetch.auto.table)
+
+pub slice_bounds-past-start : goal.slice_bounds-past-start
+slice_bounds-past-start g c = let w = within c.in-Ok.ensures in omega (arith, w.0, w.1, c.fetch.auto.table)
