@@ -52,7 +52,7 @@ module _ (ties sets : List ℕ) {t : List ℕ} {room : Bool} (er : room ≡ room
     pub ties-refused : are_ties (take signals ties) ≡ false → Narrowing t ties sets sets (rejects 19 0)
     ties-refused e = refusing (then-ties false e)
 
-    pub narrowed : (read : List Tie) {known : List Tie} {sets' : List ℕ} {n : ℕ} → TiesRead ties (Ok read) → n ≡ length t / 2 → Known (tied_by read) x.table.now known → SetsFilled x.table.now known sets sets' → Narrowing t ties sets sets' (yields n)
+    pub narrowed : (read : List Tie) {known : List Tie} {sets' : List ℕ} {n : ℕ} → TiesRead ties read (Ok tt) → n ≡ length t / 2 → Known (tied_by read) x.table.now known → SetsFilled x.table.now known sets sets' → Narrowing t ties sets sets' (yields n)
     unfolding answer_of sets_after
     narrowed read {known} {sets'} e en k f =
         let v = then-ties true e.0 in

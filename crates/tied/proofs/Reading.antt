@@ -42,10 +42,10 @@ module _ {bytes : List ℕ} {ties : List Tie} {i : ℕ} (room : signals ≤ leng
         is s l (yes b) = get_or-set_other ties i s tie Unknown (λ z. omega arith) ∙ o.is s b
         is s l (no b) = let z : s ≡ i = omega arith in rw z (get_or-set_same ties i tie Unknown (omega (arith, o.long)) ∙ e.1)
 
-    pub reading_fails : (r : Refusal) → TieRead (get_or bytes i 0) (Err r) → TiesRead bytes (Err r)
+    pub reading_fails : (r : Refusal) → TieRead (get_or bytes i 0) (Err r) → TiesRead bytes ties (Err r)
     reading_fails r e = (scanned_found are-ties o.scanned inside (own ∙ e.0), e.1)
 
-  pub reading_ends : signals ≤ i → TiesRead bytes (Ok ties)
+  pub reading_ends : signals ≤ i → TiesRead bytes ties (Ok tt)
   reading_ends h = (scanned_end are-ties o.scanned (omega (arith, length-take-le signals bytes room)), fun_ext (λ s. known s (dec_lt s signals)))
     where
       known : (s : ℕ) → Dec (s < signals) → tied_by ties s ≡ ties_of (take signals bytes) s

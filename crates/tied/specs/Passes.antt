@@ -29,9 +29,9 @@ TieRead byte (Err r) = (leb byte 2 ≡ false) × (r ≡ bad_tie)
 abbrev pub tied_by : List Tie → Ties
 tied_by ties s = get_or ties s Unknown
 
-abbrev pub TiesRead : List ℕ → Result (List Tie) Refusal → Type 0
-TiesRead bytes (Ok ties) = (are_ties (take signals bytes) ≡ true) × (tied_by ties ≡ ties_of (take signals bytes))
-TiesRead bytes (Err r) = (are_ties (take signals bytes) ≡ false) × (r ≡ bad_tie)
+abbrev pub TiesRead : List ℕ → List Tie → Result Unit Refusal → Type 0
+TiesRead bytes ties (Ok u) = (are_ties (take signals bytes) ≡ true) × (tied_by ties ≡ ties_of (take signals bytes))
+TiesRead bytes ties (Err r) = (are_ties (take signals bytes) ≡ false) × (r ≡ bad_tie)
 
 -- a test, by what is known of its signal
 abbrev pub tested_of : Tie → (first second : ℕ) → ℕ

@@ -50,16 +50,16 @@ impl TryFrom<u8> for Tie {
     }
 }
 
-// Check 19: what is known of each signal, by its byte. Further bytes are not looked at.
-fn read_ties(bytes: &[u8]) -> Result<[Tie; esterel::SIGNALS], Refusal>
+// Check 19: what is known of each signal, by its byte. Further bytes are not looked at. The ties are written where they are lent: a result
+// that holds them would be copied, for which the archive for C would need `memcpy`.
+fn read_ties(bytes: &[u8], ties: &mut [Tie; esterel::SIGNALS]) -> Result<(), Refusal>
     requires { signals ≤ length bytes.now }
-    ensures { TiesRead bytes.now result }
+    ensures { TiesRead bytes.now ties.new result }
 {
-    let mut ties = [Tie::Unknown; esterel::SIGNALS];
     for (signal, tie) in ties.iter_mut().enumerate() {
         *tie = Tie::try_from(bytes[signal])?;
     }
-    Ok(ties)
+    Ok(())
 }
 
 // What is known of a signal at a node: nothing, if the node is in a signal statement of its number, that is, not below the lowest node of
@@ -164,7 +164,8 @@ pub fn narrow(table: &[u8], ties: &[u8], sets: &mut [u64]) -> Result<usize, Refu
     let mut sizes = [0u16; esterel::MAX_NODES];
     let room = has_room(nodes, sets.len(), ties.len());
     let tree = analysis::check_tree(table, room, &mut sizes)?;
-    let tied = read_ties(ties)?;
+    let mut tied = [Tie::Unknown; esterel::SIGNALS];
+    read_ties(ties, &mut tied)?;
     let mut known = [Tie::Unknown; esterel::MAX_NODES];
     find_known(&tree, &tied, &mut known);
     fill_narrowed(&tree, &known, sets);

@@ -3,4 +3,4 @@ use Rattle.tied.proofs.Reading.{Reading}
 use Rattle.tied.proofs.read_ties.Given as goal
 
 abbrev pub invariant-loop-signal : goal.invariant-loop-signal
-invariant-loop-signal l = Reading l.bytes l.tie-items l.signal
+invariant-loop-signal l = Reading l.bytes l.ties l.signal
