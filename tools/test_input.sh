@@ -127,6 +127,8 @@ count "a read gets a piece" is_in_pieces
 count "the longest table is accepted" is_accepted
 run crates/list/out/list "$others/list" examples/*.table "$out"/*.table
 run_failing crates/list/out/list examples/w1.table
+run crates/plain_list/out/plain_list "$others/list" examples/*.table "$out"/*.table
+run_failing crates/plain_list/out/plain_list examples/w1.table
 run crates/tick/out/tick "$others/tick" examples/*.table "$out"/*.table
 run_failing crates/tick/out/tick examples/w1.table
 run crates/first_tick/out/first_tick "$others/first_tick" examples/*.table "$out"/*.table

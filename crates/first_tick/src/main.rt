@@ -32,7 +32,7 @@ impl Program<BUFFER, { planline::MAX_LINE }> for PlanProgram {
 }
 
 fn main(rt: HostRuntime) -> ExitCode {
-    program::run::<BUFFER, { planline::MAX_LINE }, PlanProgram>(
+    program::run_program::<BUFFER, { planline::MAX_LINE }, PlanProgram>(
         &rt,
         "first_tick: standard input",
         "first_tick: standard output",

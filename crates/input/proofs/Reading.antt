@@ -15,6 +15,11 @@ use Rattle.input.specs.declared.Progress.TheVariants.{On, Over}
 module _ {E : Type 0} where
   -- ---- one read
 
+  -- some bytes came: reading goes on behind them
+  pub step-on : (done n : ℕ) → (n ≡ 0 → ⊥) → On (done + n) ≡ step_of {E = E} done (Ok n)
+  step-on done zero h = absurd (h refl)
+  step-on done (suc n) h = refl
+
   -- a read answers no more bytes than its buffer has
   pub read-within : (r : Result ℕ E) (buf : List ℕ) → ReadsAtMost r buf → Within r (length buf)
   read-within (Ok n) buf h = h.0

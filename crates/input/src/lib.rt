@@ -15,9 +15,10 @@ pub const BUFFER: usize = 4096;
 
 pub const LARGE_BUFFER: usize = 65536;
 
-// Where reading stands after a read: behind so many bytes, or it is over and answers this.
+// Where reading stands after a read: behind so many bytes, or it is over and answers this. It is public for `step_of` and `Reads`, which
+// other crates can cite.
 #[derive(Drop)]
-enum Progress<E> {
+pub enum Progress<E> {
     On { done: usize },
     Over { answer: Result<usize, E> },
 }

@@ -31,7 +31,7 @@ impl Program<BUFFER, { listing::MAX_TEXT }> for ListProgram {
 }
 
 fn main(rt: HostRuntime) -> ExitCode {
-    program::run::<BUFFER, { listing::MAX_TEXT }, ListProgram>(
+    program::run_program::<BUFFER, { listing::MAX_TEXT }, ListProgram>(
         &rt,
         "list: standard input",
         "list: standard output",

@@ -32,7 +32,7 @@ impl Program<BUFFER, { tickline::MAX_LINE }> for TickProgram {
 }
 
 fn main(rt: HostRuntime) -> ExitCode {
-    program::run::<BUFFER, { tickline::MAX_LINE }, TickProgram>(
+    program::run_program::<BUFFER, { tickline::MAX_LINE }, TickProgram>(
         &rt,
         "tick: standard input",
         "tick: standard output",

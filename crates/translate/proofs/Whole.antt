@@ -20,10 +20,10 @@ module _ {b b' t t' : List ℕ} where
   whole r room came = of-front max_source room came (λ n input h. read_of_front n input h t t' r)
 
   -- the table lies within its buffer
-  pub table-within : (end nodes signals : ℕ) → end ≡ 2 * nodes → ReadsInput b b' t t' (reads nodes signals) → end ≤ length t'
+  pub table-within : (end nodes signals : ℕ) → end ≡ 2 * nodes → ReadsInput b b' t t' (reads nodes signals) → (nodes ≤ 1024) × (end ≤ length t')
   table-within end nodes signals e x =
       let w = of_read.done (take x.read b') t t' nodes signals (I.of_read x) in
-      omega (arith, written-long (take x.read b') t t' nodes signals w)
+      (w.fits, omega (arith, written-long (take x.read b') t t' nodes signals w))
 
   -- the place lies within the length of a text, and so in the buffer
   pub place-within : (number node place : ℕ) → ReadsInput b b' t t' (refuses number node place) → place ≤ max_source
