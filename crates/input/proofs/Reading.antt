@@ -15,7 +15,7 @@ use Rattle.input.specs.declared.Progress.TheVariants.{On, Over}
 module _ {E : Type 0} where
   -- ---- one read
 
-  -- some bytes came: reading goes on behind them
+  -- some bytes came: reading goes on behind them. It stands for crates above: here the clause of `step` is enough
   pub step-on : (done n : ℕ) → (n ≡ 0 → ⊥) → On (done + n) ≡ step_of {E = E} done (Ok n)
   step-on done zero h = absurd (h refl)
   step-on done (suc n) h = refl

@@ -53,8 +53,8 @@ pub fn run_program<const B: usize, const N: usize, P: Program<B, N>>(
     }
 }
 
-// A text as a program, for `run`. `Program` asks for no room in the buffer, as `show_input` does: without it nothing is shown. `run` asks
-// for it, so that this never happens there.
+// A text as a program, for `run`. `show_input` asks that the buffer have room, and no clause of `Program` does: without room nothing is
+// shown. `run` asks for it, so that this never happens there.
 struct Shown<T> {
     of: PhantomData<T>,
 }

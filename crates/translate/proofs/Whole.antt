@@ -19,7 +19,7 @@ module _ {b b' t t' : List ℕ} where
   pub whole : {read : ℕ} (r : Answer) → max_source < length b → Reads {E = Error} 0 b b' (Ok read) → ReadAs (take read b') t t' r → ReadsInput b b' t t' r
   whole r room came = of-front max_source room came (λ n input h. read_of_front n input h t t' r)
 
-  -- the table lies within its buffer
+  -- the table has no more nodes than a table may have, and lies within its buffer
   pub table-within : (end nodes signals : ℕ) → end ≡ 2 * nodes → ReadsInput b b' t t' (reads nodes signals) → (nodes ≤ 1024) × (end ≤ length t')
   table-within end nodes signals e x =
       let w = of_read.done (take x.read b') t t' nodes signals (I.of_read x) in
